@@ -1,10 +1,12 @@
 #!/usr/bin/env python3
-"""Writes the encodings, their labels and the characters of the single-byte encodings out of encodings.txt.
+"""Writes the encodings, their labels and the characters of the single-byte encodings out of encodings.txt, and the indexes of the
+encodings of several bytes out of indexes.txt.
 
     write_tables.py           writes the files that differ
     write_tables.py --check   writes nothing; the status is 1 where a file differs
 
-All of src/encoding.rt, src/labels.rt, src/upper_halves.rt, specs/Names.antt and specs/UpperHalf.antt is written here.
+All of src/encoding.rt, src/labels.rt, src/upper_halves.rt, specs/Names.antt and specs/UpperHalf.antt is written here, and for each
+index a file of src/ and one of specs/.
 """
 import os
 import re
@@ -52,6 +54,63 @@ pub fn upper_half(encoding: SingleByte) -> &'static [char; 128]
 {
     match encoding {
 """
+
+
+INDEX = """//! The index {name}: the code point of each pointer, and U+0000 where there is none. `write_tables.py` writes this file.
+ghost use Rattle.std.specs.Prelude.{{◌≡◌}};
+ghost use Rattle.h5_encodings.specs.{module}.{{{function}}};
+
+#[rattlefmt::skip]
+pub static {constant}: [char; {count}] = [
+{rows}];
+
+/// The index {name} (Encoding Standard, section 5, "Indexes").
+#[tactic(auto, unfolding(crate::specs::{module}::{function}))]
+pub fn {function}() -> &'static [char]
+    ensures {{ result.now ≡ {function} }}
+{{
+    &{constant}
+}}
+"""
+
+CLOSED_INDEX = """-- The index {name}: the table that the code reads. It stays closed, so that no proof computes with it. `write_tables.py` writes this
+-- file.
+use Rattle.std.specs.Prelude.{{ℕ, List}}
+use Rattle.h5_encodings.specs.declared.{file}.TheConstants.{{{constant}}}
+
+unfoldable pub {function} : List ℕ
+{function} = {constant}
+"""
+
+
+def read_indexes():
+    """The name and the code points of each index."""
+    indexes = []
+    for line in open(os.path.join(CRATE, "indexes.txt"), encoding="utf-8"):
+        words = line.split()
+        if not words or words[0] == "#":
+            continue
+        if words[0] == "index":
+            indexes.append((words[1], []))
+        elif words[0] == "codes":
+            indexes[-1][1].extend(int(word, 16) for word in words[1:])
+        else:
+            sys.exit(f"indexes.txt: a line begins with {words[0]}")
+    return indexes
+
+
+def index_files(name, codes):
+    file = name.lower().replace("-", "_") + "_index"
+    names = {
+        "name": name,
+        "file": file,
+        "function": file,
+        "module": "".join(word.capitalize() for word in file.split("_")),
+        "constant": constant(name),
+        "count": len(codes),
+        "rows": filled(f"'\\u{{{code:04X}}}'," if code else "'\\0'," for code in codes),
+    }
+    return {f"src/{file}.rt": INDEX.format(**names), f"specs/{names['module']}.antt": CLOSED_INDEX.format(**names)}
 
 
 def read():
@@ -180,6 +239,8 @@ def main():
         "specs/Names.antt": names_file(encodings),
         "specs/UpperHalf.antt": half_file(encodings),
     }
+    for name, codes in read_indexes():
+        files.update(index_files(name, codes))
     differ = []
     for path, text in files.items():
         whole = os.path.join(CRATE, path)

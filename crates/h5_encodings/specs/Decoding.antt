@@ -9,6 +9,8 @@ use Rattle.h5_encodings.specs.declared.steps.Shown.TheVariants.{Nothing}
 use Rattle.h5_encodings.specs.declared.steps.Step.{Step}
 use Rattle.h5_encodings.specs.Steps.{Reading, text_of}
 use Rattle.h5_encodings.specs.SingleByte.{single_byte_step}
+use Rattle.h5_encodings.specs.MultiByte.{lead_breaks_off, lead_of}
+use Rattle.h5_encodings.specs.EucKr.{euc_kr_step}
 use Rattle.h5_encodings.specs.Utf16.{utf_16_step, utf_16_breaks_off}
 use Rattle.h5_encodings.specs.UserDefined.{user_defined_step}
 use Rattle.h5_encodings.specs.Replacement.{replacement_step}
@@ -16,6 +18,7 @@ use Rattle.h5_encodings.specs.Replacement.{replacement_step}
 -- UTF-8 has a definition of its own, and isn't read in steps
 abbrev pub is_utf8 : Encoding → Bool
 is_utf8 e.Utf8 = true
+is_utf8 e.EucKr = false
 is_utf8 e.Replacement = false
 is_utf8 e.Utf16be = false
 is_utf8 e.Utf16le = false
@@ -24,6 +27,7 @@ is_utf8 (e.SingleByte encoding) = false
 
 abbrev pub step_in : Encoding → Kept → ℕ → Step
 step_in e.Utf8 kept b = record { shown = Nothing; kept = kept }
+step_in e.EucKr kept b = euc_kr_step kept b
 step_in e.Replacement kept b = replacement_step kept
 step_in e.Utf16be kept b = utf_16_step true kept b
 step_in e.Utf16le kept b = utf_16_step false kept b
@@ -32,6 +36,7 @@ step_in (e.SingleByte encoding) kept b = single_byte_step encoding b
 
 abbrev pub breaks_off_in : Encoding → Kept → Bool
 breaks_off_in e.Utf8 kept = false
+breaks_off_in e.EucKr kept = lead_breaks_off (lead_of kept)
 breaks_off_in e.Replacement kept = false
 breaks_off_in e.Utf16be kept = utf_16_breaks_off kept
 breaks_off_in e.Utf16le kept = utf_16_breaks_off kept

@@ -3,6 +3,9 @@ pub mod UpperHalf
 pub mod Labels
 pub mod Steps
 pub mod SingleByte
+pub mod EucKrIndex
+pub mod MultiByte
+pub mod EucKr
 pub mod Utf16
 pub mod UserDefined
 pub mod Replacement

@@ -15,7 +15,8 @@ fn is_utf8(encoding: Encoding) -> bool
 {
     match encoding {
         Encoding::Utf8 => true,
-        Encoding::Replacement
+        Encoding::EucKr
+        | Encoding::Replacement
         | Encoding::Utf16be
         | Encoding::Utf16le
         | Encoding::XUserDefined

@@ -39,6 +39,7 @@ pub enum SingleByte {
 #[derive(Clone, Copy, Debug, PartialEq, Eq)]
 pub enum Encoding {
     Utf8,
+    EucKr,
     Replacement,
     Utf16be,
     Utf16le,
@@ -91,6 +92,7 @@ impl Encoding {
     {
         match self {
             Encoding::Utf8 => "UTF-8",
+            Encoding::EucKr => "EUC-KR",
             Encoding::Replacement => "replacement",
             Encoding::Utf16be => "UTF-16BE",
             Encoding::Utf16le => "UTF-16LE",

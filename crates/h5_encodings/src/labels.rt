@@ -3,7 +3,7 @@ use super::encoding::{Encoding, SingleByte};
 
 /// The labels, in lower case (Encoding Standard, section 4.2, "Names and labels").
 #[rattlefmt::skip]
-pub static LABELS: [(&str, Encoding); 190] = [
+pub static LABELS: [(&str, Encoding); 200] = [
     ("unicode-1-1-utf-8", Encoding::Utf8),
     ("unicode11utf8", Encoding::Utf8),
     ("unicode20utf8", Encoding::Utf8),
@@ -178,6 +178,16 @@ pub static LABELS: [(&str, Encoding); 190] = [
     ("x-cp1258", Encoding::SingleByte(SingleByte::Windows1258)),
     ("x-mac-cyrillic", Encoding::SingleByte(SingleByte::XMacCyrillic)),
     ("x-mac-ukrainian", Encoding::SingleByte(SingleByte::XMacCyrillic)),
+    ("cseuckr", Encoding::EucKr),
+    ("csksc56011987", Encoding::EucKr),
+    ("euc-kr", Encoding::EucKr),
+    ("iso-ir-149", Encoding::EucKr),
+    ("korean", Encoding::EucKr),
+    ("ks_c_5601-1987", Encoding::EucKr),
+    ("ks_c_5601-1989", Encoding::EucKr),
+    ("ksc5601", Encoding::EucKr),
+    ("ksc_5601", Encoding::EucKr),
+    ("windows-949", Encoding::EucKr),
     ("csiso2022kr", Encoding::Replacement),
     ("hz-gb-2312", Encoding::Replacement),
     ("iso-2022-cn", Encoding::Replacement),

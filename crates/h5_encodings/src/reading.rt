@@ -4,6 +4,8 @@ ghost use Rattle.h5_encodings.specs.Decoding.{reading_of};
 ghost use Rattle.h5_encodings.specs.Steps.{has_errors, is_error, kept_after, text_shown, text_so_far};
 
 use super::encoding::Encoding;
+use super::euc_kr::euc_kr_step;
+use super::multi_byte::{lead_breaks_off, lead_of};
 use super::replacement::replacement_step;
 use super::single_byte::single_byte_step;
 use super::steps::{Kept, Shown, Step};
@@ -21,6 +23,7 @@ fn step(encoding: Encoding, kept: Kept, byte: u8) -> Step
             shown: Shown::Nothing,
             kept,
         },
+        Encoding::EucKr => euc_kr_step(kept, byte),
         Encoding::Replacement => replacement_step(kept),
         Encoding::Utf16be => utf_16_step(true, kept, byte),
         Encoding::Utf16le => utf_16_step(false, kept, byte),
@@ -35,6 +38,7 @@ pub fn breaks_off(encoding: Encoding, kept: Kept) -> bool
     ensures { result ≡ (reading_of encoding).breaks_off kept }
 {
     match encoding {
+        Encoding::EucKr => lead_breaks_off(lead_of(kept)),
         Encoding::Utf16be | Encoding::Utf16le => utf_16_breaks_off(kept),
         Encoding::Utf8 | Encoding::Replacement | Encoding::XUserDefined | Encoding::SingleByte(_) =>
             false,

@@ -90,8 +90,11 @@ pub fn instead_of_utf16(encoding: Encoding) -> Encoding
 {
     match encoding {
         Encoding::Utf16be | Encoding::Utf16le => Encoding::Utf8,
-        Encoding::Utf8 | Encoding::Replacement | Encoding::XUserDefined | Encoding::SingleByte(_) =>
-            encoding,
+        Encoding::Utf8
+        | Encoding::EucKr
+        | Encoding::Replacement
+        | Encoding::XUserDefined
+        | Encoding::SingleByte(_) => encoding,
     }
 }
 
@@ -102,7 +105,8 @@ fn instead_of(encoding: Encoding) -> Encoding
     match encoding {
         Encoding::XUserDefined => Encoding::SingleByte(SingleByte::Windows1252),
         Encoding::Utf16be | Encoding::Utf16le => Encoding::Utf8,
-        Encoding::Utf8 | Encoding::Replacement | Encoding::SingleByte(_) => encoding,
+        Encoding::Utf8 | Encoding::EucKr | Encoding::Replacement | Encoding::SingleByte(_) =>
+            encoding,
     }
 }
 

@@ -10,6 +10,8 @@ pub enum Kept {
     Leading(u16),
     /// A leading surrogate, and the first byte of the code unit behind it.
     LeadingHalf(u16, u8),
+    /// The first byte of a character of several bytes.
+    Lead(u8),
     /// That the one error of "replacement" has been told.
     Told,
 }

@@ -51,6 +51,16 @@ fn utf16_is_read_across_chunks(rt: HostRuntime) -> Result<(), Fail> {
 }
 
 #[test]
+fn euc_kr_is_read_across_chunks(rt: HostRuntime) -> Result<(), Fail> {
+    let alloc = rt.alloc();
+    let korean = text_of(alloc, "euc-kr", b"a\xC7", b"\xD1\xB1\xDB")?;
+    assert_eq!(rt; korean.as_str(), "a\u{D55C}\u{AE00}");
+    let broken = text_of(alloc, "ks_c_5601-1987", b"\xC7", b"<\xC9\xFF\x80\xC7")?;
+    assert_eq!(rt; broken.as_str(), "\u{FFFD}<\u{FFFD}\u{FFFD}\u{FFFD}");
+    Ok(())
+}
+
+#[test]
 fn the_other_encodings_are_read(rt: HostRuntime) -> Result<(), Fail> {
     let alloc = rt.alloc();
     let utf8 = text_of(alloc, "utf8", b"\xC3", b"\xA9\xC3")?;

@@ -1,0 +1,51 @@
+-- What the decoders of the encodings with several bytes for a character share (Encoding Standard, sections 10 to 13).
+use Rattle.std.specs.Prelude.{ℕ, ◌==◌, ◌&&◌, Bool, true, false, nat_lt, nat_le, List, slice_index, if◌then◌else◌, Option, Some, None}
+use Rattle.h5_encodings.specs.declared.steps.Kept.{Kept}
+use Rattle.h5_encodings.specs.declared.steps.Kept.TheVariants as k
+use Rattle.h5_encodings.specs.declared.steps.Shown.{Shown}
+use Rattle.h5_encodings.specs.declared.steps.Shown.TheVariants.{Nothing, Character, Error, ErrorAnd}
+use Rattle.h5_encodings.specs.declared.steps.Step.{Step}
+
+abbrev pub is_between : (low high b : ℕ) → Bool
+is_between low high b = nat_le low b && nat_le b high
+
+abbrev pub is_ascii : ℕ → Bool
+is_ascii b = nat_lt b 128
+
+-- the lead that is kept, if one is
+abbrev pub lead_of : Kept → Option ℕ
+lead_of k.Nothing = None
+lead_of k.Told = None
+lead_of (k.Half a) = None
+lead_of (k.Leading u) = None
+lead_of (k.LeadingHalf u a) = None
+lead_of (k.Lead lead) = Some lead
+
+-- 0 in an index says that there is no code point
+abbrev pub not_null : ℕ → Option ℕ
+not_null c = if c == 0 then None else Some c
+
+-- the index code point of a pointer, if there is one
+abbrev pub code_point : (index : List ℕ) → (pointer : Option ℕ) → Option ℕ
+code_point index None = None
+code_point index (Some pointer) = not_null (slice_index index pointer)
+
+-- a byte that begins a character
+abbrev pub first_byte : (is_lead : Bool) → ℕ → Step
+first_byte is_lead b =
+    if is_ascii b then record { shown = Character b; kept = k.Nothing }
+    else if is_lead then record { shown = Nothing; kept = k.Lead b }
+    else record { shown = Error; kept = k.Nothing }
+
+-- the last byte of a code point; where there is none, that is an error, and an ASCII byte is read again, and stands for itself
+abbrev pub shown_at : Option ℕ → ℕ → Shown
+shown_at (Some c) b = Character c
+shown_at None b = if is_ascii b then ErrorAnd b else Error
+
+abbrev pub last_byte : Option ℕ → ℕ → Step
+last_byte c b = record { shown = shown_at c b; kept = k.Nothing }
+
+-- a lead at the end is an error
+abbrev pub lead_breaks_off : Option ℕ → Bool
+lead_breaks_off None = false
+lead_breaks_off (Some lead) = true

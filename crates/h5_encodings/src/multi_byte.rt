@@ -1,0 +1,103 @@
+//! What the decoders of the encodings with several bytes for a character share.
+ghost use Rattle.std.specs.Prelude.{◌≡◌, slice_index};
+ghost use Rattle.h5_encodings.specs.MultiByte.{code_point, first_byte, is_between, last_byte, lead_breaks_off, lead_of, not_null};
+
+use super::steps::{Kept, Shown, Step};
+
+pub fn is_between(low: u8, high: u8, byte: u8) -> bool
+    ensures { result ≡ is_between low high byte }
+{
+    low <= byte && byte <= high
+}
+
+/// The lead that is kept, if one is.
+pub fn lead_of(kept: Kept) -> Option<u8>
+    ensures { result ≡ lead_of kept }
+{
+    match kept {
+        Kept::Lead(lead) => Some(lead),
+        _ => None,
+    }
+}
+
+// What an index has at a pointer: U+0000 behind its end.
+fn entry(index: &[char], pointer: usize) -> char
+    ensures { result ≡ slice_index index.now pointer }
+{
+    if pointer < index.len() {
+        index[pointer]
+    } else {
+        '\0'
+    }
+}
+
+// U+0000 in an index says that there is no code point.
+fn not_null(character: char) -> Option<char>
+    ensures { result ≡ not_null character }
+{
+    if character == '\0' {
+        None
+    } else {
+        Some(character)
+    }
+}
+
+/// The index code point of a pointer, if there is one (Encoding Standard, section 5, "index code point").
+pub fn code_point(index: &[char], pointer: Option<usize>) -> Option<char>
+    ensures { result ≡ code_point index.now pointer }
+{
+    match pointer {
+        Some(pointer) => not_null(entry(index, pointer)),
+        None => None,
+    }
+}
+
+/// The step of a byte that begins a character.
+pub fn first_byte(is_lead: bool, byte: u8) -> Step
+    ensures { result ≡ first_byte is_lead byte }
+{
+    if byte < 128 {
+        return Step {
+            shown: Shown::Character(byte as char),
+            kept: Kept::Nothing,
+        };
+    }
+    if is_lead {
+        Step {
+            shown: Shown::Nothing,
+            kept: Kept::Lead(byte),
+        }
+    } else {
+        Step {
+            shown: Shown::Error,
+            kept: Kept::Nothing,
+        }
+    }
+}
+
+/// The step of the last byte of a code point. Where there is none, it shows an error, and an ASCII byte stands for itself.
+pub fn last_byte(code_point: Option<char>, byte: u8) -> Step
+    ensures { result ≡ last_byte code_point byte }
+{
+    let shown = match code_point {
+        Some(character) => Shown::Character(character),
+        None => {
+            if byte < 128 {
+                Shown::ErrorAnd(byte as char)
+            } else {
+                Shown::Error
+            }
+        }
+    };
+    Step {
+        shown,
+        kept: Kept::Nothing,
+    }
+}
+
+/// Whether the end comes behind a lead.
+pub fn lead_breaks_off(lead: Option<u8>) -> bool
+    ensures { result ≡ lead_breaks_off lead }
+{
+    lead.is_some()
+}
