@@ -10,6 +10,9 @@ use Rattle.h5_encodings.specs.declared.steps.Step.{Step}
 use Rattle.h5_encodings.specs.Steps.{Reading, text_of}
 use Rattle.h5_encodings.specs.SingleByte.{single_byte_step}
 use Rattle.h5_encodings.specs.MultiByte.{lead_breaks_off, lead_of}
+use Rattle.h5_encodings.specs.Big5.{big5_step}
+use Rattle.h5_encodings.specs.EucJp.{euc_jp_breaks_off, euc_jp_step}
+use Rattle.h5_encodings.specs.ShiftJis.{shift_jis_step}
 use Rattle.h5_encodings.specs.EucKr.{euc_kr_step}
 use Rattle.h5_encodings.specs.Utf16.{utf_16_step, utf_16_breaks_off}
 use Rattle.h5_encodings.specs.UserDefined.{user_defined_step}
@@ -18,6 +21,9 @@ use Rattle.h5_encodings.specs.Replacement.{replacement_step}
 -- UTF-8 has a definition of its own, and isn't read in steps
 abbrev pub is_utf8 : Encoding → Bool
 is_utf8 e.Utf8 = true
+is_utf8 e.Big5 = false
+is_utf8 e.EucJp = false
+is_utf8 e.ShiftJis = false
 is_utf8 e.EucKr = false
 is_utf8 e.Replacement = false
 is_utf8 e.Utf16be = false
@@ -27,6 +33,9 @@ is_utf8 (e.SingleByte encoding) = false
 
 abbrev pub step_in : Encoding → Kept → ℕ → Step
 step_in e.Utf8 kept b = record { shown = Nothing; kept = kept }
+step_in e.Big5 kept b = big5_step kept b
+step_in e.EucJp kept b = euc_jp_step kept b
+step_in e.ShiftJis kept b = shift_jis_step kept b
 step_in e.EucKr kept b = euc_kr_step kept b
 step_in e.Replacement kept b = replacement_step kept
 step_in e.Utf16be kept b = utf_16_step true kept b
@@ -36,6 +45,9 @@ step_in (e.SingleByte encoding) kept b = single_byte_step encoding b
 
 abbrev pub breaks_off_in : Encoding → Kept → Bool
 breaks_off_in e.Utf8 kept = false
+breaks_off_in e.Big5 kept = lead_breaks_off (lead_of kept)
+breaks_off_in e.EucJp kept = euc_jp_breaks_off kept
+breaks_off_in e.ShiftJis kept = lead_breaks_off (lead_of kept)
 breaks_off_in e.EucKr kept = lead_breaks_off (lead_of kept)
 breaks_off_in e.Replacement kept = false
 breaks_off_in e.Utf16be kept = utf_16_breaks_off kept

@@ -3,9 +3,15 @@ pub mod UpperHalf
 pub mod Labels
 pub mod Steps
 pub mod SingleByte
+pub mod Big5Index
 pub mod EucKrIndex
+pub mod Jis0208Index
+pub mod Jis0212Index
 pub mod MultiByte
 pub mod EucKr
+pub mod ShiftJis
+pub mod EucJp
+pub mod Big5
 pub mod Utf16
 pub mod UserDefined
 pub mod Replacement

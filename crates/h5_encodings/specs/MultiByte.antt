@@ -1,5 +1,5 @@
 -- What the decoders of the encodings with several bytes for a character share (Encoding Standard, sections 10 to 13).
-use Rattle.std.specs.Prelude.{ℕ, ◌==◌, ◌&&◌, Bool, true, false, nat_lt, nat_le, List, slice_index, if◌then◌else◌, Option, Some, None}
+use Rattle.std.specs.Prelude.{ℕ, ◌+◌, ◌-◌, ◌==◌, ◌&&◌, Bool, true, false, nat_lt, nat_le, List, slice_index, if◌then◌else◌, Option, Some, None}
 use Rattle.h5_encodings.specs.declared.steps.Kept.{Kept}
 use Rattle.h5_encodings.specs.declared.steps.Kept.TheVariants as k
 use Rattle.h5_encodings.specs.declared.steps.Shown.{Shown}
@@ -20,6 +20,11 @@ lead_of (k.Half a) = None
 lead_of (k.Leading u) = None
 lead_of (k.LeadingHalf u a) = None
 lead_of (k.Lead lead) = Some lead
+lead_of (k.Jis0212 lead) = None
+
+-- the half-width katakana of a byte from A1 to DF
+abbrev pub katakana : ℕ → ℕ
+katakana b = 0xFF61 + (b - 0xA1)
 
 -- 0 in an index says that there is no code point
 abbrev pub not_null : ℕ → Option ℕ

@@ -37,6 +37,9 @@ single_byte_name XMacCyrillic = codes "x-mac-cyrillic"
 
 abbrev pub name_of : Encoding → List ℕ
 name_of e.Utf8 = codes "UTF-8"
+name_of e.Big5 = codes "Big5"
+name_of e.EucJp = codes "EUC-JP"
+name_of e.ShiftJis = codes "Shift_JIS"
 name_of e.EucKr = codes "EUC-KR"
 name_of e.Replacement = codes "replacement"
 name_of e.Utf16be = codes "UTF-16BE"

@@ -9,6 +9,7 @@ abbrev pub replacement_step : Kept → Step
 replacement_step k.Told = record { shown = Nothing; kept = k.Told }
 replacement_step k.Nothing = record { shown = Error; kept = k.Told }
 replacement_step (k.Lead lead) = record { shown = Error; kept = k.Told }
+replacement_step (k.Jis0212 lead) = record { shown = Error; kept = k.Told }
 replacement_step (k.Half a) = record { shown = Error; kept = k.Told }
 replacement_step (k.Leading u) = record { shown = Error; kept = k.Told }
 replacement_step (k.LeadingHalf u a) = record { shown = Error; kept = k.Told }

@@ -58,6 +58,9 @@ declared_by has_pragma (ByCharset named) = named
 -- what is read in place of an encoding that a page can't name
 abbrev pub instead_of_utf16 : Encoding → Encoding
 instead_of_utf16 e.Utf8 = e.Utf8
+instead_of_utf16 e.Big5 = e.Big5
+instead_of_utf16 e.EucJp = e.EucJp
+instead_of_utf16 e.ShiftJis = e.ShiftJis
 instead_of_utf16 e.EucKr = e.EucKr
 instead_of_utf16 e.Replacement = e.Replacement
 instead_of_utf16 e.Utf16be = e.Utf8
@@ -67,6 +70,9 @@ instead_of_utf16 (e.SingleByte encoding) = e.SingleByte encoding
 
 abbrev pub instead_of : Encoding → Encoding
 instead_of e.Utf8 = e.Utf8
+instead_of e.Big5 = e.Big5
+instead_of e.EucJp = e.EucJp
+instead_of e.ShiftJis = e.ShiftJis
 instead_of e.EucKr = e.EucKr
 instead_of e.Replacement = e.Replacement
 instead_of e.Utf16be = e.Utf8

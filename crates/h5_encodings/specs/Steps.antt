@@ -2,7 +2,7 @@
 use Rattle.std.specs.Prelude.{◌≡◌, ℕ, Bool, true, false, ◌||◌, List, [], ◌∷◌, ◌++◌, encode_utf8, if◌then◌else◌}
 use Rattle.h5_encodings.specs.declared.steps.Kept.{Kept}
 use Rattle.h5_encodings.specs.declared.steps.Shown.{Shown}
-use Rattle.h5_encodings.specs.declared.steps.Shown.TheVariants.{Nothing, Character, Error, ErrorAnd}
+use Rattle.h5_encodings.specs.declared.steps.Shown.TheVariants.{Nothing, Character, Two, Error, ErrorAnd}
 use Rattle.h5_encodings.specs.declared.steps.Step.{Step}
 
 -- how an encoding reads: what a byte shows behind what is kept, and whether the end comes inside a character
@@ -17,6 +17,7 @@ replacement_character = 0xFFFD
 abbrev pub text_shown : Shown → List ℕ
 text_shown Nothing = []
 text_shown (Character c) = encode_utf8 c
+text_shown (Two c d) = encode_utf8 c ++ encode_utf8 d
 text_shown Error = encode_utf8 replacement_character
 text_shown (ErrorAnd c) = encode_utf8 replacement_character ++ encode_utf8 c
 
@@ -24,6 +25,7 @@ text_shown (ErrorAnd c) = encode_utf8 replacement_character ++ encode_utf8 c
 abbrev pub is_error : Shown → Bool
 is_error Nothing = false
 is_error (Character c) = false
+is_error (Two c d) = false
 is_error Error = true
 is_error (ErrorAnd c) = true
 

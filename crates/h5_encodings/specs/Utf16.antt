@@ -36,6 +36,7 @@ abbrev pub utf_16_step : (big_endian : Bool) → Kept → ℕ → Step
 utf_16_step big_endian k.Nothing b = record { shown = Nothing; kept = k.Half b }
 utf_16_step big_endian k.Told b = record { shown = Nothing; kept = k.Half b }
 utf_16_step big_endian (k.Lead lead) b = record { shown = Nothing; kept = k.Half b }
+utf_16_step big_endian (k.Jis0212 lead) b = record { shown = Nothing; kept = k.Half b }
 utf_16_step big_endian (k.Half a) b = of_unit (unit_of big_endian a b)
 utf_16_step big_endian (k.Leading u) b = record { shown = Nothing; kept = k.LeadingHalf u b }
 utf_16_step big_endian (k.LeadingHalf u a) b = behind_leading u (unit_of big_endian a b)
@@ -45,6 +46,7 @@ abbrev pub utf_16_breaks_off : Kept → Bool
 utf_16_breaks_off k.Nothing = false
 utf_16_breaks_off k.Told = false
 utf_16_breaks_off (k.Lead lead) = false
+utf_16_breaks_off (k.Jis0212 lead) = false
 utf_16_breaks_off (k.Half a) = true
 utf_16_breaks_off (k.Leading u) = true
 utf_16_breaks_off (k.LeadingHalf u a) = true

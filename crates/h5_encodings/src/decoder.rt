@@ -15,7 +15,10 @@ fn is_utf8(encoding: Encoding) -> bool
 {
     match encoding {
         Encoding::Utf8 => true,
-        Encoding::EucKr
+        Encoding::Big5
+        | Encoding::EucJp
+        | Encoding::ShiftJis
+        | Encoding::EucKr
         | Encoding::Replacement
         | Encoding::Utf16be
         | Encoding::Utf16le

@@ -39,6 +39,9 @@ pub enum SingleByte {
 #[derive(Clone, Copy, Debug, PartialEq, Eq)]
 pub enum Encoding {
     Utf8,
+    Big5,
+    EucJp,
+    ShiftJis,
     EucKr,
     Replacement,
     Utf16be,
@@ -92,6 +95,9 @@ impl Encoding {
     {
         match self {
             Encoding::Utf8 => "UTF-8",
+            Encoding::Big5 => "Big5",
+            Encoding::EucJp => "EUC-JP",
+            Encoding::ShiftJis => "Shift_JIS",
             Encoding::EucKr => "EUC-KR",
             Encoding::Replacement => "replacement",
             Encoding::Utf16be => "UTF-16BE",

@@ -3,7 +3,7 @@ use super::encoding::{Encoding, SingleByte};
 
 /// The labels, in lower case (Encoding Standard, section 4.2, "Names and labels").
 #[rattlefmt::skip]
-pub static LABELS: [(&str, Encoding); 200] = [
+pub static LABELS: [(&str, Encoding); 216] = [
     ("unicode-1-1-utf-8", Encoding::Utf8),
     ("unicode11utf8", Encoding::Utf8),
     ("unicode20utf8", Encoding::Utf8),
@@ -178,6 +178,22 @@ pub static LABELS: [(&str, Encoding); 200] = [
     ("x-cp1258", Encoding::SingleByte(SingleByte::Windows1258)),
     ("x-mac-cyrillic", Encoding::SingleByte(SingleByte::XMacCyrillic)),
     ("x-mac-ukrainian", Encoding::SingleByte(SingleByte::XMacCyrillic)),
+    ("big5", Encoding::Big5),
+    ("big5-hkscs", Encoding::Big5),
+    ("cn-big5", Encoding::Big5),
+    ("csbig5", Encoding::Big5),
+    ("x-x-big5", Encoding::Big5),
+    ("cseucpkdfmtjapanese", Encoding::EucJp),
+    ("euc-jp", Encoding::EucJp),
+    ("x-euc-jp", Encoding::EucJp),
+    ("csshiftjis", Encoding::ShiftJis),
+    ("ms932", Encoding::ShiftJis),
+    ("ms_kanji", Encoding::ShiftJis),
+    ("shift-jis", Encoding::ShiftJis),
+    ("shift_jis", Encoding::ShiftJis),
+    ("sjis", Encoding::ShiftJis),
+    ("windows-31j", Encoding::ShiftJis),
+    ("x-sjis", Encoding::ShiftJis),
     ("cseuckr", Encoding::EucKr),
     ("csksc56011987", Encoding::EucKr),
     ("euc-kr", Encoding::EucKr),

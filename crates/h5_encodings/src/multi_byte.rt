@@ -1,6 +1,6 @@
 //! What the decoders of the encodings with several bytes for a character share.
 ghost use Rattle.std.specs.Prelude.{◌≡◌, slice_index};
-ghost use Rattle.h5_encodings.specs.MultiByte.{code_point, first_byte, is_between, last_byte, lead_breaks_off, lead_of, not_null};
+ghost use Rattle.h5_encodings.specs.MultiByte.{code_point, first_byte, is_between, katakana, last_byte, lead_breaks_off, lead_of, not_null};
 
 use super::steps::{Kept, Shown, Step};
 
@@ -18,6 +18,13 @@ pub fn lead_of(kept: Kept) -> Option<u8>
         Kept::Lead(lead) => Some(lead),
         _ => None,
     }
+}
+
+/// The half-width katakana of a byte from A1 to DF.
+pub fn katakana(byte: u8) -> char
+    ensures { result ≡ katakana byte }
+{
+    char::from_u32(0xFF61 + (byte as u32).saturating_sub(0xA1)).unwrap()
 }
 
 // What an index has at a pointer: U+0000 behind its end.

@@ -3,10 +3,13 @@ ghost use Rattle.std.specs.Prelude.{◌≡◌, ◌++◌, string_bytes, IfOk};
 ghost use Rattle.h5_encodings.specs.Decoding.{reading_of};
 ghost use Rattle.h5_encodings.specs.Steps.{has_errors, is_error, kept_after, text_shown, text_so_far};
 
+use super::big5::big5_step;
 use super::encoding::Encoding;
+use super::euc_jp::{euc_jp_breaks_off, euc_jp_step};
 use super::euc_kr::euc_kr_step;
 use super::multi_byte::{lead_breaks_off, lead_of};
 use super::replacement::replacement_step;
+use super::shift_jis::shift_jis_step;
 use super::single_byte::single_byte_step;
 use super::steps::{Kept, Shown, Step};
 use super::user_defined::user_defined_step;
@@ -23,6 +26,9 @@ fn step(encoding: Encoding, kept: Kept, byte: u8) -> Step
             shown: Shown::Nothing,
             kept,
         },
+        Encoding::Big5 => big5_step(kept, byte),
+        Encoding::EucJp => euc_jp_step(kept, byte),
+        Encoding::ShiftJis => shift_jis_step(kept, byte),
         Encoding::EucKr => euc_kr_step(kept, byte),
         Encoding::Replacement => replacement_step(kept),
         Encoding::Utf16be => utf_16_step(true, kept, byte),
@@ -38,7 +44,8 @@ pub fn breaks_off(encoding: Encoding, kept: Kept) -> bool
     ensures { result ≡ (reading_of encoding).breaks_off kept }
 {
     match encoding {
-        Encoding::EucKr => lead_breaks_off(lead_of(kept)),
+        Encoding::EucJp => euc_jp_breaks_off(kept),
+        Encoding::Big5 | Encoding::ShiftJis | Encoding::EucKr => lead_breaks_off(lead_of(kept)),
         Encoding::Utf16be | Encoding::Utf16le => utf_16_breaks_off(kept),
         Encoding::Utf8 | Encoding::Replacement | Encoding::XUserDefined | Encoding::SingleByte(_) =>
             false,
@@ -50,7 +57,7 @@ fn is_error(shown: Shown) -> bool
     ensures { result ≡ is_error shown }
 {
     match shown {
-        Shown::Nothing | Shown::Character(_) => false,
+        Shown::Nothing | Shown::Character(_) | Shown::Two(_, _) => false,
         Shown::Error | Shown::ErrorAnd(_) => true,
     }
 }
@@ -62,6 +69,10 @@ fn push_shown(text: &mut String, shown: Shown) -> Result<(), AllocError>
     match shown {
         Shown::Nothing => Ok(()),
         Shown::Character(character) => text.push(character),
+        Shown::Two(first, second) => {
+            text.push(first)?;
+            text.push(second)
+        }
         Shown::Error => text.push('\u{FFFD}'),
         Shown::ErrorAnd(character) => {
             text.push('\u{FFFD}')?;

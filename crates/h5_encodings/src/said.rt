@@ -91,6 +91,9 @@ pub fn instead_of_utf16(encoding: Encoding) -> Encoding
     match encoding {
         Encoding::Utf16be | Encoding::Utf16le => Encoding::Utf8,
         Encoding::Utf8
+        | Encoding::Big5
+        | Encoding::EucJp
+        | Encoding::ShiftJis
         | Encoding::EucKr
         | Encoding::Replacement
         | Encoding::XUserDefined
@@ -105,8 +108,13 @@ fn instead_of(encoding: Encoding) -> Encoding
     match encoding {
         Encoding::XUserDefined => Encoding::SingleByte(SingleByte::Windows1252),
         Encoding::Utf16be | Encoding::Utf16le => Encoding::Utf8,
-        Encoding::Utf8 | Encoding::EucKr | Encoding::Replacement | Encoding::SingleByte(_) =>
-            encoding,
+        Encoding::Utf8
+        | Encoding::Big5
+        | Encoding::EucJp
+        | Encoding::ShiftJis
+        | Encoding::EucKr
+        | Encoding::Replacement
+        | Encoding::SingleByte(_) => encoding,
     }
 }
 

@@ -12,6 +12,8 @@ pub enum Kept {
     LeadingHalf(u16, u8),
     /// The first byte of a character of several bytes.
     Lead(u8),
+    /// The byte behind 8F, in EUC-JP.
+    Jis0212(u8),
     /// That the one error of "replacement" has been told.
     Told,
 }
@@ -21,6 +23,7 @@ pub enum Kept {
 pub enum Shown {
     Nothing,
     Character(char),
+    Two(char, char),
     /// U+FFFD, which stands for bytes that are no character.
     Error,
     /// That, and a character behind it.

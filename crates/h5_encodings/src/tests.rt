@@ -24,7 +24,7 @@ fn labels_name_encodings(rt: HostRuntime) -> Result<(), Fail> {
     let replacement = Encoding::for_label(b"hz-gb-2312").ok_or("no encoding")?;
     assert_eq!(rt; replacement.name(), "replacement");
     assert!(rt; Encoding::for_label(b"utf 8").is_none());
-    assert!(rt; Encoding::for_label(b"big5").is_none());
+    assert!(rt; Encoding::for_label(b"gbk").is_none());
     Ok(())
 }
 
@@ -57,6 +57,54 @@ fn euc_kr_is_read_across_chunks(rt: HostRuntime) -> Result<(), Fail> {
     assert_eq!(rt; korean.as_str(), "a\u{D55C}\u{AE00}");
     let broken = text_of(alloc, "ks_c_5601-1987", b"\xC7", b"<\xC9\xFF\x80\xC7")?;
     assert_eq!(rt; broken.as_str(), "\u{FFFD}<\u{FFFD}\u{FFFD}\u{FFFD}");
+    Ok(())
+}
+
+#[test]
+fn shift_jis_is_read_across_chunks(rt: HostRuntime) -> Result<(), Fail> {
+    let alloc = rt.alloc();
+    let japanese = text_of(alloc, "shift_jis", b"\x93", b"\xFA\x96{\xB1\x80\\")?;
+    assert_eq!(rt; japanese.as_str(), "\u{65E5}\u{672C}\u{FF71}\u{80}\\");
+    let private = text_of(alloc, "sjis", b"\xF0\x40", b"\xF9\xFC")?;
+    assert_eq!(rt; private.as_str(), "\u{E000}\u{E757}");
+    let broken = text_of(alloc, "windows-31j", b"\x82", b"<\x81\xFD\xA0\x93")?;
+    assert_eq!(rt; broken.as_str(), "\u{FFFD}<\u{FFFD}\u{FFFD}\u{FFFD}");
+    Ok(())
+}
+
+#[test]
+fn euc_jp_is_read_across_chunks(rt: HostRuntime) -> Result<(), Fail> {
+    let alloc = rt.alloc();
+    let japanese = text_of(alloc, "euc-jp", b"\xC6", b"\xFC\x8E\xB1\x8F\xB0\xA1")?;
+    assert_eq!(rt; japanese.as_str(), "\u{65E5}\u{FF71}\u{4E02}");
+    let broken = text_of(
+        alloc,
+        "x-euc-jp",
+        b"\x8F\xA1",
+        b"<\x8E\xE0\xC6a\x80\x8F\xB0",
+    )?;
+    assert_eq!(rt;
+        broken.as_str(),
+        "\u{FFFD}<\u{FFFD}\u{FFFD}a\u{FFFD}\u{FFFD}"
+    );
+    Ok(())
+}
+
+#[test]
+fn big5_is_read_across_chunks(rt: HostRuntime) -> Result<(), Fail> {
+    let alloc = rt.alloc();
+    let chinese = text_of(alloc, "big5", b"\xA4", b"\xA4\xA4\xE5\x87\x40")?;
+    assert_eq!(rt; chinese.as_str(), "\u{4E2D}\u{6587}\u{43F0}");
+    let two = text_of(alloc, "big5-hkscs", b"\x88b\x88d", b"\x88\xA3\x88\xA5")?;
+    assert_eq!(rt;
+        two.as_str(),
+        "\u{CA}\u{304}\u{CA}\u{30C}\u{EA}\u{304}\u{EA}\u{30C}"
+    );
+    let broken = text_of(alloc, "cn-big5", b"\xA4", b"<\xA4\x80\x80\xFF\xA4")?;
+    assert_eq!(rt;
+        broken.as_str(),
+        "\u{FFFD}<\u{FFFD}\u{FFFD}\u{FFFD}\u{FFFD}"
+    );
     Ok(())
 }
 

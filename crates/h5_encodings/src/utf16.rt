@@ -76,7 +76,7 @@ pub fn utf_16_step(is_big_endian: bool, kept: Kept, byte: u8) -> Step
     ensures { result ≡ utf_16_step is_big_endian kept byte }
 {
     match kept {
-        Kept::Nothing | Kept::Told | Kept::Lead(_) => Step {
+        Kept::Nothing | Kept::Told | Kept::Lead(_) | Kept::Jis0212(_) => Step {
             shown: Shown::Nothing,
             kept: Kept::Half(byte),
         },
@@ -96,7 +96,7 @@ pub fn utf_16_breaks_off(kept: Kept) -> bool
     ensures { result ≡ utf_16_breaks_off kept }
 {
     match kept {
-        Kept::Nothing | Kept::Told | Kept::Lead(_) => false,
+        Kept::Nothing | Kept::Told | Kept::Lead(_) | Kept::Jis0212(_) => false,
         Kept::Half(_) | Kept::Leading(_) | Kept::LeadingHalf(_, _) => true,
     }
 }
