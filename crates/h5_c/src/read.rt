@@ -1,6 +1,8 @@
 //! Reads of a block. Where it is none, or has no such node, each answers a status, 0 or `NOTHING`.
-ghost use Rattle.std.specs.Prelude.{◌≡◌, ◌<◌, ◌⊎◌, ◌&&◌, MatchOption, false, if◌then◌else◌, true};
+ghost use Rattle.std.specs.Prelude.{◌≡◌, ◌<◌, ◌≤◌, ◌==◌, ◌⊎◌, ◌&&◌, MatchOption, false, if◌then◌else◌, not, true};
+ghost use Rattle.h5_c.specs.Status.{HandsOut};
 ghost use Rattle.h5_flat.specs.Block as b;
+ghost use Rattle.h5_flat.specs.Html as h;
 ghost use Rattle.h5_flat.specs.Sound.{is_sound};
 
 use super::status::{NO_NODE, NO_TREE, OK, give};
@@ -16,7 +18,12 @@ pub extern "C" fn hengaruto_html(
     outer: u32,
     html: &mut *mut u8,
     length: &mut usize,
-) -> u32 {
+) -> u32
+    ensures no_tree { b.is_block block.now ≡ false → result ≡ 3 }
+    ensures no_node { b.is_block block.now ≡ true → b.nodes_in block.now ≤ node → result ≡ 2 }
+    ensures written { b.is_block block.now ≡ true → node < b.nodes_in block.now
+        → HandsOut (h.html_of block.now node (not (outer == 0))) result length.new }
+{
     let Some(view) = View::of(block) else {
         return NO_TREE;
     };

@@ -1,4 +1,7 @@
 //! What a call answers, and how bytes are given to the caller.
+ghost use Rattle.std.specs.Prelude.{◌≡◌, MatchResult};
+ghost use Rattle.h5_c.specs.Status.{HandsOut};
+
 use std::alloc::{AllocError, Global};
 use std::mem::forget;
 
@@ -27,11 +30,9 @@ fn with_nul(bytes: Vec<u8>) -> Result<Vec<u8>, AllocError> {
 }
 
 /// Gives bytes to the caller, which frees them with `free`. Where there are none, for want of memory, nothing is given.
-pub(crate) fn give(
-    made: Result<Vec<u8>, AllocError>,
-    out: &mut *mut u8,
-    length: &mut usize,
-) -> u32 {
+pub(crate) fn give(made: Result<Vec<u8>, AllocError>, out: &mut *mut u8, length: &mut usize) -> u32
+    ensures { MatchResult made (λ bytes. HandsOut bytes.items result length.new) (λ _. result ≡ 1) }
+{
     let Ok(bytes) = made else {
         return MEMORY;
     };
