@@ -1,5 +1,7 @@
 -- Where a fault is, and what it tells.
-use Rattle.std.specs.Prelude.{ℕ, ◌≡◌, ◌≤◌, ◌⊎◌, Option, None}
+use Rattle.std.specs.Prelude.{ℕ, ◌≡◌, ◌≤◌, Bool, true, false, if◌then◌else◌}
+use Rattle.h5_selector_text.specs.Counting.{Absent, Outcome, TooMany}
+use Rattle.h5_selector_text.specs.declared.fault.Problem.{Problem}
 use Rattle.h5_selector_text.specs.declared.fault.Problem.TheVariants as problem
 use Rattle.h5_selector_text.specs.declared.fault.SelectorFault.{SelectorFault}
 use Rattle.h5_selector_text.specs.declared.fault.SelectorFault.TheVariants.{Invalid, Memory}
@@ -9,7 +11,12 @@ abbrev pub IsWithin : ℕ → SelectorFault → Type 0
 IsWithin length (Invalid at why) = at ≤ length
 IsWithin length Memory = Unit {0}
 
--- there are too many parts, or nothing is read
-abbrev pub Tells : {Y : Type 0} → SelectorFault → Option Y → Type 0
-Tells (Invalid at why) read = (why ≡ problem.TooLong) ⊎ (read ≡ None)
+-- whether it is that there are too many parts
+abbrev pub is_of_parts : Problem → Bool
+is_of_parts problem.TooLong = true
+is_of_parts _ = false
+
+-- there are too many parts, or what should stand there doesn't
+abbrev pub Tells : {Y : Type 0} → SelectorFault → Outcome Y → Type 0
+Tells (Invalid at why) read = read ≡ (if is_of_parts why then TooMany else Absent)
 Tells Memory read = Unit {0}

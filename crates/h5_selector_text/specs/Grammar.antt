@@ -1,25 +1,26 @@
--- The text of selectors (Selectors Level 4, section 17, "Grammar"). What is read stands at the front of a text; where it doesn't, nothing is read.
-use Rattle.std.specs.Prelude.{ℕ, ◌==◌, Bool, true, false, bytes_eq, codes, drop, if◌then◌else◌, List, [], ◌∷◌, ◌++◌, length, Option, None, Some, option_map}
+-- The text of selectors (Selectors Level 4, section 17, "Grammar"). What is read stands at the front of a text, and has no more parts than there may be;
+-- where it doesn't, nothing is read.
+use Rattle.std.specs.Prelude.{ℕ, ◌==◌, ◌||◌, Bool, true, false, bytes_eq, codes, drop, if◌then◌else◌, List, [], ◌∷◌, ◌++◌, length, Option, None, Some}
 use Prim.Native.Nat.{zero, suc}
 use Rattle.std.specs.Str.{str_to_ascii_lowercase}
 use Rattle.h5_selector_text.specs.Asking.{Asked, AskAny, AskAttr, AskClass, AskId, AskLeads, AskNot, AskNth, AskNthOfType, AskOr, asked, back, both, combinator_at, forth, function_of, leading_at, plain_of, type_at}
 use Rattle.h5_selector_text.specs.Attributes.{attribute_at}
+use Rattle.h5_selector_text.specs.Counting.{◌>>=◌, Absent, Found, Outcome, Taken, TooMany, part, partless, present, seen_as, taken}
 use Rattle.h5_selector_text.specs.Indices.{indices_at, lower_name_at}
-use Rattle.h5_selector_text.specs.Reads.{◌>>=◌}
-use Rattle.h5_selector_text.specs.Tokens.{Reading, begins, begins_with, behind_blanks, behind_comments, closed_at, is_at_name, named_at, reading}
+use Rattle.h5_selector_text.specs.Tokens.{Reading, begins, begins_with, behind_blanks, behind_comments, closed_at, is_at_name, named_at}
 use Rattle.h5_selector_text.specs.declared.formula.Side.{Side}
 use Rattle.h5_selector_text.specs.declared.parser.Combinator.{Combinator}
 use Rattle.h5_selector_text.specs.declared.parser.Function.{Function}
 use Rattle.h5_selector_text.specs.declared.parser.Link.{Link}
 use Rattle.h5_selector_text.specs.declared.parser.Function.TheVariants as function
 
--- what is read there, seen otherwise
-abbrev pub seen_as : {A B : Type 0} → (A → B) → Option (Reading A) → Option (Reading B)
-seen_as view = option_map (λ read. reading (view read.value) read.rest)
+-- a reader of something that has parts: behind it there may be fewer
+abbrev pub Reader : Type 0 → Type 0
+Reader A = (parts : ℕ) → List ℕ → Outcome (Taken A)
 
 -- what stands between the brackets of a pseudo-class
 abbrev pub ArgumentsReader : Type 0
-ArgumentsReader = Function → List ℕ → Option (Reading Asked)
+ArgumentsReader = Function → Reader Asked
 
 -- a combinator, and what is asked behind it
 pub record Linked : Type 0 where
@@ -54,157 +55,170 @@ forwards (link ∷ links) further = Some (AskLeads (forth link.combinator) (both
 
 -- what is read next: nothing, or one more, with what was there before
 pub data Next (A : Type 0) : Type 0 where
-  Ends : (rest : List ℕ) → Next A
-  Goes : (all : A) → (rest : List ℕ) → Next A
+  Ends : (parts : ℕ) → (rest : List ℕ) → Next A
+  Goes : (all : A) → (parts : ℕ) → (rest : List ℕ) → Next A
 
-abbrev pub going_on : {A : Type 0} → (A → List ℕ → Option (Reading A)) → A → Next A → Option (Reading A)
-going_on behind all (Ends rest) = Some (reading all rest)
-going_on behind all (Goes next rest) = behind next rest
+abbrev pub going_on : {A : Type 0} → (A → Reader A) → A → Next A → Outcome (Taken A)
+going_on behind all (Ends parts rest) = Found (taken all parts rest)
+going_on behind all (Goes next parts rest) = behind next parts rest
+
+-- what is read next behind what was there before
+abbrev pub NextReader : Type 0 → Type 0
+NextReader A = A → (parts : ℕ) → List ℕ → Outcome (Next A)
 
 -- as many as stand there; there are no more than characters
-unfoldable pub repeated : {A : Type 0} → (A → List ℕ → Option (Next A)) → ℕ → A → List ℕ → Option (Reading A)
-repeated next zero all text = Some (reading all text)
-repeated next (suc n) all text = next all text >>= going_on (repeated next n) all
+unfoldable pub repeated : {A : Type 0} → NextReader A → ℕ → A → Reader A
+repeated next zero all parts text = Found (taken all parts text)
+repeated next (suc n) all parts text = next all parts text >>= going_on (repeated next n) all
 
 -- one more behind a comma, joined to those before
-abbrev pub comma_next : {A : Type 0} → (join : A → Asked → A) → (item : List ℕ → Option (Reading Asked)) → A → List ℕ → Option (Next A)
-comma_next join item all text =
-    if begins_with 44 text then item (drop 1 text) >>= (λ one. Some (Goes (join all one.value) one.rest)) else Some (Ends text)
+abbrev pub comma_next : {A : Type 0} → (join : A → Asked → A) → (item : Reader Asked) → NextReader A
+comma_next join item all parts text =
+    if begins_with 44 text then item parts (drop 1 text) >>= (λ one. Found (Goes (join all one.value) one.parts one.rest)) else Found (Ends parts text)
 
-abbrev pub commas_at : {A : Type 0} → (join : A → Asked → A) → (item : List ℕ → Option (Reading Asked)) → A → List ℕ → Option (Reading A)
-commas_at join item all text = repeated (comma_next join item) (length text) all text
+abbrev pub commas_at : {A : Type 0} → (join : A → Asked → A) → (item : Reader Asked) → A → Reader A
+commas_at join item all parts text = repeated (comma_next join item) (length text) all parts text
 
 module _ (arguments : ArgumentsReader) where
   -- a pseudo-class, from behind its `:`
-  unfoldable pub function_at : (name : List ℕ) → List ℕ → Option (Reading Asked)
-  function_at name text = do
-    which ← function_of name
-    inner ← arguments which text
-    end ← closed_at 41 inner.rest
-    Some (reading inner.value end.rest)
+  unfoldable pub function_at : (name : List ℕ) → Reader Asked
+  function_at name parts text = do
+    which ← present (function_of name)
+    inner ← arguments which parts text
+    end ← present (closed_at 41 inner.rest)
+    Found (taken inner.value inner.parts end.rest)
 
-  abbrev pub pseudo_class_by : Reading (List ℕ) → Option (Reading Asked)
-  pseudo_class_by name =
-      if begins_with 40 name.rest then function_at (str_to_ascii_lowercase name.value) (drop 1 name.rest)
-      else option_map (λ found. reading found name.rest) (plain_of (str_to_ascii_lowercase name.value))
+  abbrev pub pseudo_class_by : (parts : ℕ) → Reading (List ℕ) → Outcome (Taken Asked)
+  pseudo_class_by parts name =
+      if begins_with 40 name.rest then function_at (str_to_ascii_lowercase name.value) parts (drop 1 name.rest)
+      else present (plain_of (str_to_ascii_lowercase name.value)) >>= (λ found. Found (taken found parts name.rest))
 
-  unfoldable pub pseudo_class_at : List ℕ → Option (Reading Asked)
-  pseudo_class_at text = named_at text >>= pseudo_class_by
+  unfoldable pub pseudo_class_at : Reader Asked
+  pseudo_class_at parts text = present (named_at text) >>= pseudo_class_by parts
 
-  -- an id, a class, an attribute or a pseudo-class, if one stands here
-  unfoldable pub simple_at : List ℕ → Option (Reading (Option Asked))
-  simple_at [] = Some (reading None [])
-  simple_at (c ∷ text) =
-      if c == 35 then seen_as (λ name. Some (AskId name)) (named_at text)
-      else (if c == 46 then seen_as (λ name. Some (AskClass name)) (named_at text)
-      else (if c == 91 then seen_as (λ test. Some (AskAttr test)) (attribute_at text)
-      else (if c == 58 then seen_as Some (pseudo_class_at text)
-      else Some (reading None (c ∷ text)))))
+  -- an id, a class, an attribute or a pseudo-class, by the character in front of it, if one stands here; it is a part
+  abbrev pub begins_simple : ℕ → Bool
+  begins_simple c = c == 35 || (c == 46 || (c == 91 || c == 58))
+
+  abbrev pub simple_of : (c : ℕ) → List ℕ → (parts : ℕ) → Outcome (Taken (Option Asked))
+  simple_of c text parts =
+      if c == 35 then partless (λ name. Some (AskId name)) parts (named_at text)
+      else (if c == 46 then partless (λ name. Some (AskClass name)) parts (named_at text)
+      else (if c == 91 then partless (λ test. Some (AskAttr test)) parts (attribute_at text)
+      else seen_as Some (pseudo_class_at parts text)))
+
+  unfoldable pub simple_at : Reader (Option Asked)
+  simple_at parts [] = Found (taken None parts [])
+  simple_at parts (c ∷ text) = if begins_simple c then part (simple_of c text) parts else Found (taken None parts (c ∷ text))
 
   -- one more, maybe behind comments
-  abbrev pub simple_joined : Option Asked → Reading (Option Asked) → Option (Next (Option Asked))
+  abbrev pub simple_joined : Option Asked → Taken (Option Asked) → Outcome (Next (Option Asked))
   simple_joined all one =
       elim one.value [
-        | None ↦ Some (Ends one.rest)
-        | Some found ↦ Some (Goes (Some (asked_too all found)) one.rest)
+        | None ↦ Found (Ends one.parts one.rest)
+        | Some found ↦ Found (Goes (Some (asked_too all found)) one.parts one.rest)
       ]
 
-  abbrev pub simple_next : Option Asked → List ℕ → Option (Next (Option Asked))
-  simple_next all text = simple_at (behind_comments text) >>= simple_joined all
+  abbrev pub simple_next : NextReader (Option Asked)
+  simple_next all parts text = simple_at parts (behind_comments text) >>= simple_joined all
 
-  abbrev pub simples_at : Option Asked → List ℕ → Option (Reading (Option Asked))
-  simples_at all text = repeated simple_next (length text) all text
+  abbrev pub simples_at : Option Asked → Reader (Option Asked)
+  simples_at all parts text = repeated simple_next (length text) all parts text
 
-  -- all that is asked of one element: its type, or something else, or both
-  abbrev pub found_of : Reading (Option Asked) → Option (Reading Asked)
-  found_of read = option_map (λ found. reading found read.rest) read.value
+  -- all that is asked of one element: its type, or something else, or both; that is a part, too
+  abbrev pub found_of : Taken (Option Asked) → Outcome (Taken Asked)
+  found_of read = present read.value >>= (λ found. Found (taken found read.parts read.rest))
 
-  unfoldable pub compound_at : List ℕ → Option (Reading Asked)
-  compound_at text = do
-    type ← type_at text
-    all ← simples_at type.value type.rest
+  abbrev pub compound_of : List ℕ → (parts : ℕ) → Outcome (Taken Asked)
+  compound_of text parts = do
+    type ← present (type_at text)
+    all ← simples_at type.value parts type.rest
     found_of all
 
+  unfoldable pub compound_at : Reader Asked
+  compound_at parts text = part (compound_of text) parts
+
   -- one more combinator, and a compound selector behind it
-  abbrev pub link_joined : List Linked → List ℕ → Option (Reading Combinator) → Option (Next (List Linked))
-  link_joined links rest None = Some (Ends rest)
-  link_joined links rest (Some sign) = compound_at sign.rest >>= (λ one. Some (Goes (links ++ linked sign.value one.value ∷ []) one.rest))
+  abbrev pub link_joined : List Linked → (parts : ℕ) → List ℕ → Option (Reading Combinator) → Outcome (Next (List Linked))
+  link_joined links parts rest None = Found (Ends parts rest)
+  link_joined links parts rest (Some sign) = compound_at parts sign.rest >>= (λ one. Found (Goes (links ++ linked sign.value one.value ∷ []) one.parts one.rest))
 
-  abbrev pub link_next : List Linked → List ℕ → Option (Next (List Linked))
-  link_next links text = link_joined links (behind_blanks text) (combinator_at text)
+  abbrev pub link_next : NextReader (List Linked)
+  link_next links parts text = link_joined links parts (behind_blanks text) (combinator_at text)
 
-  abbrev pub links_at : List ℕ → Option (Reading (List Linked))
-  links_at text = repeated link_next (length text) [] text
+  abbrev pub links_at : Reader (List Linked)
+  links_at parts text = repeated link_next (length text) [] parts text
 
   -- a selector without a comma
-  unfoldable pub complex_at : List ℕ → Option (Reading Asked)
-  complex_at text = do
-    first ← compound_at (behind_blanks text)
-    links ← links_at first.rest
-    Some (reading (backwards first.value links.value) links.rest)
+  unfoldable pub complex_at : Reader Asked
+  complex_at parts text = do
+    first ← compound_at parts (behind_blanks text)
+    links ← links_at first.parts first.rest
+    Found (taken (backwards first.value links.value) links.parts links.rest)
 
   -- a selector of what an element leads to
-  unfoldable pub relative_at : List ℕ → Option (Reading Asked)
-  relative_at text = do
-    first ← compound_at (leading_at text).rest
-    links ← links_at first.rest
-    Some (reading (AskLeads (forth (leading_at text).value) (both_if first.value (forwards links.value None))) links.rest)
+  unfoldable pub relative_at : Reader Asked
+  relative_at parts text = do
+    first ← compound_at parts (leading_at text).rest
+    links ← links_at first.parts first.rest
+    Found (taken (AskLeads (forth (leading_at text).value) (both_if first.value (forwards links.value None))) links.parts links.rest)
 
   -- one of several, with commas between them
-  abbrev pub selector_at : (is_relative : Bool) → List ℕ → Option (Reading Asked)
-  selector_at is_relative text = if is_relative then relative_at text else complex_at text
+  abbrev pub selector_at : (is_relative : Bool) → Reader Asked
+  selector_at is_relative parts text = if is_relative then relative_at parts text else complex_at parts text
 
-  unfoldable pub list_at : (is_relative : Bool) → List ℕ → Option (Reading Asked)
-  list_at is_relative text = do
-    first ← selector_at is_relative text
-    commas_at AskOr (selector_at is_relative) first.value first.rest
+  unfoldable pub list_at : (is_relative : Bool) → Reader Asked
+  list_at is_relative parts text = do
+    first ← selector_at is_relative parts text
+    commas_at AskOr (selector_at is_relative) first.value first.parts first.rest
 
   -- there may be none
-  unfoldable pub list_or_none_at : List ℕ → Option (Reading Asked)
-  list_or_none_at text =
-      if begins_with 41 (behind_blanks text) then Some (reading (AskNot AskAny) (behind_blanks text)) else list_at false (behind_blanks text)
+  unfoldable pub list_or_none_at : Reader Asked
+  list_or_none_at parts text =
+      if begins_with 41 (behind_blanks text) then Found (taken (AskNot AskAny) parts (behind_blanks text)) else list_at false parts (behind_blanks text)
 
   -- behind `an+b`: `of` and selectors, or nothing
-  abbrev pub of_by : Reading (List ℕ) → Option (Reading Asked)
-  of_by name = if bytes_eq name.value (codes "of") then list_at false name.rest else None
+  abbrev pub of_by : (parts : ℕ) → Reading (List ℕ) → Outcome (Taken Asked)
+  of_by parts name = if bytes_eq name.value (codes "of") then list_at false parts name.rest else Absent
 
-  unfoldable pub of_at : List ℕ → Option (Reading Asked)
-  of_at text = if is_at_name (behind_blanks text) then of_by (lower_name_at (behind_blanks text)) else Some (reading AskAny (behind_blanks text))
+  unfoldable pub of_at : Reader Asked
+  of_at parts text = if is_at_name (behind_blanks text) then of_by parts (lower_name_at (behind_blanks text)) else Found (taken AskAny parts (behind_blanks text))
 
-  unfoldable pub nth_child_at : Side → List ℕ → Option (Reading Asked)
-  nth_child_at side text = do
-    indices ← indices_at text
-    of ← of_at indices.rest
-    Some (reading (AskNth indices.value side of.value) of.rest)
+  unfoldable pub nth_child_at : Side → Reader Asked
+  nth_child_at side parts text = do
+    indices ← present (indices_at text)
+    of ← of_at parts indices.rest
+    Found (taken (AskNth indices.value side of.value) of.parts of.rest)
 
 -- what a function takes, by what is read in selectors that are nested, and in those of `:has()`, which isn't nested in itself
 unfoldable pub arguments_by : (nested in_has : ArgumentsReader) → (is_in_has : Bool) → ArgumentsReader
-arguments_by nested in_has is_in_has function.Not text = seen_as AskNot (list_at nested false text)
-arguments_by nested in_has is_in_has function.Is text = list_or_none_at nested text
-arguments_by nested in_has is_in_has function.Has text = if is_in_has then None else list_at in_has true text
-arguments_by nested in_has is_in_has (function.NthChild side) text = nth_child_at nested side text
-arguments_by nested in_has is_in_has (function.NthOfType side) text = seen_as (λ indices. AskNthOfType indices side) (indices_at text)
+arguments_by nested in_has is_in_has function.Not parts text = seen_as AskNot (list_at nested false parts text)
+arguments_by nested in_has is_in_has function.Is parts text = list_or_none_at nested parts text
+arguments_by nested in_has is_in_has function.Has parts text = if is_in_has then Absent else list_at in_has true parts text
+arguments_by nested in_has is_in_has (function.NthChild side) parts text = nth_child_at nested side parts text
+arguments_by nested in_has is_in_has (function.NthOfType side) parts text = partless (λ indices. AskNthOfType indices side) parts (indices_at text)
 
--- selectors are nested so deep at the most
+-- each nested selector has parts, so none is nested deeper than there may be parts
 unfoldable pub arguments_within : (depth : ℕ) → (is_in_has : Bool) → ArgumentsReader
-arguments_within zero is_in_has which text = None
-arguments_within (suc depth) is_in_has which text = arguments_by (arguments_within depth is_in_has) (arguments_within depth true) is_in_has which text
+arguments_within zero is_in_has which parts text = TooMany
+arguments_within (suc depth) is_in_has which parts text = arguments_by (arguments_within depth is_in_has) (arguments_within depth true) is_in_has which parts text
 
--- the selectors of a whole text
-abbrev pub deepest : ℕ
-deepest = 1000
+-- so many parts a selector may have, those of the selectors in it too
+abbrev pub most_parts : ℕ
+most_parts = 1000
 
-abbrev pub top_at : List ℕ → Option (Reading Asked)
-top_at = complex_at (arguments_within deepest false)
+-- the selectors of a whole text; each has parts of its own
+abbrev pub top_at : Reader Asked
+top_at parts text = complex_at (arguments_within most_parts false) most_parts text
 
 abbrev pub joined_last : List Asked → Asked → List Asked
 joined_last all next = all ++ next ∷ []
 
-abbrev pub whole_of : Reading (List Asked) → Option (List Asked)
-whole_of read = if begins (λ _. true) read.rest then None else Some read.value
+abbrev pub whole_of : Taken (List Asked) → Outcome (List Asked)
+whole_of read = if begins (λ _. true) read.rest then Absent else Found read.value
 
-unfoldable pub selectors_of : List ℕ → Option (List Asked)
+unfoldable pub selectors_of : List ℕ → Outcome (List Asked)
 selectors_of text = do
-  first ← top_at text
-  all ← commas_at joined_last top_at (first.value ∷ []) first.rest
+  first ← top_at most_parts text
+  all ← commas_at joined_last top_at (first.value ∷ []) first.parts first.rest
   whole_of all

@@ -1,6 +1,7 @@
 pub mod AnPlusB
 pub mod Asking
 pub mod Attributes
+pub mod Counting
 pub mod Fault
 pub mod Grammar
 pub mod Indices

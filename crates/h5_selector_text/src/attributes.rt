@@ -192,7 +192,7 @@ impl<'a> Scan<'a> {
         self.no_namespace()?;
         self.skip_blanks();
         let compared = self.comparison(alloc)?;
-        self.close(']', Problem::Flag)?;
+        self.close(']')?;
         Ok(test_of(name, compared))
     }
 }

@@ -103,15 +103,16 @@ fn invalid(length: usize, left: usize, problem: Problem) -> SelectorFault
 }
 
 impl Refusal {
-    ghost use Rattle.std.specs.Prelude.{List, Option};
+    ghost use Rattle.std.specs.Prelude.{List};
     ghost use Rattle.h5_selector_text.specs.Asking.{Asked};
+    ghost use Rattle.h5_selector_text.specs.Counting.{Outcome};
     ghost use Rattle.h5_selector_text.specs.Fault.{IsWithin, Tells};
-    ghost use Rattle.h5_selector_text.specs.Reads.{Fails};
+    ghost use Rattle.h5_selector_text.specs.Reads.{Lacks};
 
     /// The fault, of a text of so many characters.
     pub(crate) fn in_text(self, length: usize) -> SelectorFault
         ensures place { IsWithin length result }
-        ensures tells { (read : Option (List Asked)) → Fails self read → Tells result read }
+        ensures tells { (read : Outcome (List Asked)) → Lacks self read → Tells result read }
     {
         match self {
             Refusal::Invalid { left, problem } => invalid(length, left, problem),

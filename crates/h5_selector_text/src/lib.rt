@@ -3,7 +3,7 @@
 //! What a selector asks of an element is a `Formula`: `formula` has what it may ask, `an_plus_b` indices. `scan` reads names, strings and
 //! numbers; `attributes`, `indices` and `parser` make the formula. `specs/Tokens.antt`, `Attributes.antt`, `Indices.antt`, `Asking.antt` and
 //! `Grammar.antt` say, reader by reader, what stands at the front of a text and what it asks. It is proved that each is read so, and that a
-//! fault is told where nothing is read, or where there are too many parts. Begin with `specs/Grammar.antt`.
+//! fault is told where nothing is read, or where there are too many parts (`specs/Counting.antt`). Begin with `specs/Grammar.antt`.
 #![tactic(auto)]
 
 mod an_plus_b;

@@ -1,11 +1,12 @@
 //! The text of a selector (Selectors Level 4, sections 4.1 and 17). Each combinator becomes a way: read backwards, or, inside `:has()`,
 //! forwards.
-ghost use Rattle.std.specs.Prelude.{◌≡◌, [], ◌∷◌, IfErr, IfNone, IfOk, MatchOption, MatchResult, None, Some, bytes_eq, codes, length, map, option_map, string_bytes};
+ghost use Rattle.std.specs.Prelude.{◌≡◌, ◌-◌, ◌==◌, [], ◌∷◌, IfErr, IfNone, IfOk, MatchOption, MatchResult, None, OnOk, Some, bytes_eq, codes, false, length, map, option_map, string_bytes, true};
 ghost use Rattle.std.specs.Str.{chars};
 ghost use Rattle.h5_selector_text.specs.Asking.{AskAnd, AskLeads, AskNot, AskNth, AskNthOfType, AskOr, asked, back, both, combinator_at, end_child, first, forth, function_of, leading_at, plain_of, sign_at, type_at};
+ghost use Rattle.h5_selector_text.specs.Counting.{Found};
 ghost use Rattle.h5_selector_text.specs.Fault.{IsWithin, Tells};
-ghost use Rattle.h5_selector_text.specs.Grammar.{arguments_within, asked_too, backwards, both_if, commas_at, complex_at, compound_at, forwards, function_at, joined_last, link_asked, links_at, list_at, list_or_none_at, nth_child_at, of_at, pseudo_class_at, relative_at, selector_at, selectors_of, simple_at, simples_at, top_at};
-ghost use Rattle.h5_selector_text.specs.Reads.{Fails, Reads};
+ghost use Rattle.h5_selector_text.specs.Grammar.{arguments_within, asked_too, backwards, both_if, commas_at, complex_at, compound_at, forwards, function_at, joined_last, link_asked, links_at, list_at, list_or_none_at, most_parts, nth_child_at, of_at, pseudo_class_at, relative_at, selector_at, selectors_of, simple_at, simples_at, top_at};
+ghost use Rattle.h5_selector_text.specs.Reads.{Fails, Lacks, Reads, Takes};
 ghost use Rattle.h5_selector_text.specs.Tokens.{behind_blanks, named_at, reading};
 ghost use Rattle.h5_selector_text.specs.declared.fault.Refusal.TheVariants.{TooLong};
 ghost use Rattle.h5_selector_text.specs.declared.formula.Side.TheVariants.{First, Last};
@@ -16,7 +17,8 @@ use super::formula::{AnPlusB, Formula, Side, Way};
 use super::scan::Scan;
 use std::alloc::{AllocError, Global};
 
-// How many parts a selector may have, those of the selectors in it too.
+// How many parts a selector may have, those of the selectors in it too: a compound selector is one, and so is each id, class, attribute
+// and pseudo-class in it.
 const MOST_PARTS: u32 = 1000;
 
 const FIRST: AnPlusB = AnPlusB {
@@ -169,6 +171,17 @@ impl<'a> Scan<'a> {
             None => Combinator::Descendant,
         }
     }
+
+    // The name of a pseudo-class, which begins there.
+    #[tactic(auto, unfolding(crate::specs::Tokens::named_at))]
+    fn pseudo_name(&mut self, alloc: Global, begin: Scan<'a>) -> Result<String, Refusal>
+        ensures { Reads string_bytes result self.new.rest.now (named_at self.old.rest.now) }
+    {
+        if self.peek() == Some(':') {
+            return Err(begin.refusal(Problem::PseudoElement));
+        }
+        self.name(alloc)
+    }
 }
 
 // A pseudo-class without arguments, by its name in lower case.
@@ -241,7 +254,7 @@ fn function_of(name: &str) -> Option<Function>
     }
 }
 
-// An+b, odd or even is followed by selectors where this name stands behind it.
+// Whether a name is the one behind which selectors stand, in what `:nth-child()` takes.
 fn is_of(name: &[char]) -> bool
     ensures { result ≡ bytes_eq name.now (codes "of") }
 {
@@ -318,7 +331,9 @@ struct Parser<'a> {
 
 impl<'a> Parser<'a> {
     fn count_part(&mut self) -> Result<(), Refusal>
-        ensures refused { IfErr result (λ refusal. refusal ≡ TooLong (length self.old.scan.rest.now)) }
+        ensures refused { IfErr result (λ refusal. (refusal ≡ TooLong (length self.old.scan.rest.now)) × ((self.old.parts == 0) ≡ true)) }
+        ensures counted { OnOk result ((self.old.parts == 0) ≡ false) }
+        ensures parts { OnOk result (self.new.parts ≡ self.old.parts - 1) }
         ensures scan { self.new.scan ≡ self.old.scan }
     {
         if self.parts == 0 {
@@ -337,7 +352,7 @@ impl<'a> Parser<'a> {
         begin: Scan<'a>,
         nesting: Nesting,
     ) -> Result<Formula, Refusal>
-        ensures { Reads asked result self.new.scan.rest.now (arguments_within nesting.room nesting.is_in_has function self.old.scan.rest.now) }
+        ensures { Takes asked result self.new.parts self.new.scan.rest.now (arguments_within nesting.room nesting.is_in_has function self.old.parts self.old.scan.rest.now) }
     {
         if nesting.room == 0 {
             return Err(begin.too_long());
@@ -371,7 +386,7 @@ impl<'a> Parser<'a> {
     #[cycle(parse)]
     #[tactic(auto, unfolding(crate::specs::Grammar::nth_child_at))]
     fn nth_child(&mut self, side: Side, nesting: Nesting) -> Result<Formula, Refusal>
-        ensures { Reads asked result self.new.scan.rest.now (nth_child_at (arguments_within nesting.room nesting.is_in_has) side self.old.scan.rest.now) }
+        ensures { Takes asked result self.new.parts self.new.scan.rest.now (nth_child_at (arguments_within nesting.room nesting.is_in_has) side self.old.parts self.old.scan.rest.now) }
     {
         let indices = self.scan.indices(self.alloc)?;
         let of = self.of(nesting)?;
@@ -382,7 +397,7 @@ impl<'a> Parser<'a> {
     #[cycle(parse)]
     #[tactic(auto, unfolding(crate::specs::Grammar::of_at))]
     fn of(&mut self, nesting: Nesting) -> Result<Formula, Refusal>
-        ensures { Reads asked result self.new.scan.rest.now (of_at (arguments_within nesting.room nesting.is_in_has) self.old.scan.rest.now) }
+        ensures { Takes asked result self.new.parts self.new.scan.rest.now (of_at (arguments_within nesting.room nesting.is_in_has) self.old.parts self.old.scan.rest.now) }
     {
         self.scan.skip_blanks();
         if !self.scan.is_at_name() {
@@ -405,13 +420,13 @@ impl<'a> Parser<'a> {
         begin: Scan<'a>,
         nesting: Nesting,
     ) -> Result<Formula, Refusal>
-        ensures { Reads asked result self.new.scan.rest.now (function_at (arguments_within nesting.room nesting.is_in_has) name.now self.old.scan.rest.now) }
+        ensures { Takes asked result self.new.parts self.new.scan.rest.now (function_at (arguments_within nesting.room nesting.is_in_has) name.now self.old.parts self.old.scan.rest.now) }
     {
         let Some(function) = function_of(name) else {
             return Err(begin.refusal(Problem::PseudoClass));
         };
         let formula = self.arguments(function, begin, nesting)?;
-        self.scan.close(')', Problem::Rest)?;
+        self.scan.close(')')?;
         Ok(formula)
     }
 
@@ -419,9 +434,9 @@ impl<'a> Parser<'a> {
     #[cycle(parse)]
     #[tactic(auto, unfolding(crate::specs::Grammar::pseudo_class_at))]
     fn pseudo_class(&mut self, begin: Scan<'a>, nesting: Nesting) -> Result<Formula, Refusal>
-        ensures { Reads asked result self.new.scan.rest.now (pseudo_class_at (arguments_within nesting.room nesting.is_in_has) self.old.scan.rest.now) }
+        ensures { Takes asked result self.new.parts self.new.scan.rest.now (pseudo_class_at (arguments_within nesting.room nesting.is_in_has) self.old.parts self.old.scan.rest.now) }
     {
-        let name = self.pseudo_name(begin)?;
+        let name = self.scan.pseudo_name(self.alloc, begin)?;
         let lower = name.as_str().to_ascii_lowercase(self.alloc)?;
         if self.scan.take('(') {
             return self.function(lower.as_str(), begin, nesting);
@@ -429,22 +444,11 @@ impl<'a> Parser<'a> {
         plain(self.alloc, lower.as_str(), begin)
     }
 
-    // The name of a pseudo-class.
-    #[tactic(auto, unfolding(crate::specs::Tokens::named_at))]
-    fn pseudo_name(&mut self, begin: Scan<'a>) -> Result<String, Refusal>
-        ensures { Reads string_bytes result self.new.scan.rest.now (named_at self.old.scan.rest.now) }
-    {
-        if self.scan.peek() == Some(':') {
-            return Err(begin.refusal(Problem::PseudoElement));
-        }
-        self.scan.name(self.alloc)
-    }
-
     // An id, a class, an attribute or a pseudo-class, if one stands here.
     #[cycle(parse)]
     #[tactic(auto, unfolding(crate::specs::Grammar::simple_at))]
     fn simple(&mut self, nesting: Nesting) -> Result<Option<Formula>, Refusal>
-        ensures { Reads (option_map asked) result self.new.scan.rest.now (simple_at (arguments_within nesting.room nesting.is_in_has) self.old.scan.rest.now) }
+        ensures { Takes (option_map asked) result self.new.parts self.new.scan.rest.now (simple_at (arguments_within nesting.room nesting.is_in_has) self.old.parts self.old.scan.rest.now) }
     {
         let begin = self.scan;
         let Some(c) = begin.peek() else {
@@ -471,8 +475,8 @@ impl<'a> Parser<'a> {
         before: Option<Formula>,
         nesting: Nesting,
     ) -> Result<Option<Formula>, Refusal>
-        ensures { Reads (option_map asked) result self.new.scan.rest.now
-            (simples_at (arguments_within nesting.room nesting.is_in_has) (option_map asked before) self.old.scan.rest.now) }
+        ensures { Takes (option_map asked) result self.new.parts self.new.scan.rest.now
+            (simples_at (arguments_within nesting.room nesting.is_in_has) (option_map asked before) self.old.parts self.old.scan.rest.now) }
     {
         let mut all = before;
         for _step in 0..self.scan.rest.len() {
@@ -489,7 +493,7 @@ impl<'a> Parser<'a> {
     #[cycle(parse)]
     #[tactic(auto, unfolding(crate::specs::Grammar::compound_at))]
     fn compound(&mut self, nesting: Nesting) -> Result<Formula, Refusal>
-        ensures { Reads asked result self.new.scan.rest.now (compound_at (arguments_within nesting.room nesting.is_in_has) self.old.scan.rest.now) }
+        ensures { Takes asked result self.new.parts self.new.scan.rest.now (compound_at (arguments_within nesting.room nesting.is_in_has) self.old.parts self.old.scan.rest.now) }
     {
         self.count_part()?;
         let begun = self.scan.type_or_any(self.alloc)?;
@@ -502,7 +506,7 @@ impl<'a> Parser<'a> {
     // Combinators, each with a compound selector behind it.
     #[cycle(parse)]
     fn links(&mut self, nesting: Nesting) -> Result<Vec<Link>, Refusal>
-        ensures { Reads (λ links. map link_asked links.items) result self.new.scan.rest.now (links_at (arguments_within nesting.room nesting.is_in_has) self.old.scan.rest.now) }
+        ensures { Takes (λ links. map link_asked links.items) result self.new.parts self.new.scan.rest.now (links_at (arguments_within nesting.room nesting.is_in_has) self.old.parts self.old.scan.rest.now) }
     {
         let mut links = Vec::new(self.alloc);
         for _step in 0..self.scan.rest.len() {
@@ -522,7 +526,7 @@ impl<'a> Parser<'a> {
     #[cycle(parse)]
     #[tactic(auto, unfolding(crate::specs::Grammar::complex_at))]
     fn complex(&mut self, nesting: Nesting) -> Result<Formula, Refusal>
-        ensures { Reads asked result self.new.scan.rest.now (complex_at (arguments_within nesting.room nesting.is_in_has) self.old.scan.rest.now) }
+        ensures { Takes asked result self.new.parts self.new.scan.rest.now (complex_at (arguments_within nesting.room nesting.is_in_has) self.old.parts self.old.scan.rest.now) }
     {
         self.scan.skip_blanks();
         let first = self.compound(nesting)?;
@@ -534,7 +538,7 @@ impl<'a> Parser<'a> {
     #[cycle(parse)]
     #[tactic(auto, unfolding(crate::specs::Grammar::relative_at))]
     fn relative(&mut self, nesting: Nesting) -> Result<Formula, Refusal>
-        ensures { Reads asked result self.new.scan.rest.now (relative_at (arguments_within nesting.room nesting.is_in_has) self.old.scan.rest.now) }
+        ensures { Takes asked result self.new.parts self.new.scan.rest.now (relative_at (arguments_within nesting.room nesting.is_in_has) self.old.parts self.old.scan.rest.now) }
     {
         let leading = self.scan.leading_combinator();
         let first = self.compound(nesting)?;
@@ -547,7 +551,7 @@ impl<'a> Parser<'a> {
     // One of several, with commas between them.
     #[cycle(parse)]
     fn selector(&mut self, is_relative: bool, nesting: Nesting) -> Result<Formula, Refusal>
-        ensures { Reads asked result self.new.scan.rest.now (selector_at (arguments_within nesting.room nesting.is_in_has) is_relative self.old.scan.rest.now) }
+        ensures { Takes asked result self.new.parts self.new.scan.rest.now (selector_at (arguments_within nesting.room nesting.is_in_has) is_relative self.old.parts self.old.scan.rest.now) }
     {
         if is_relative {
             return self.relative(nesting);
@@ -563,8 +567,8 @@ impl<'a> Parser<'a> {
         is_relative: bool,
         nesting: Nesting,
     ) -> Result<Formula, Refusal>
-        ensures { Reads asked result self.new.scan.rest.now (commas_at AskOr (selector_at (arguments_within nesting.room nesting.is_in_has) is_relative)
-            (asked first) self.old.scan.rest.now) }
+        ensures { Takes asked result self.new.parts self.new.scan.rest.now (commas_at AskOr (selector_at (arguments_within nesting.room nesting.is_in_has) is_relative)
+            (asked first) self.old.parts self.old.scan.rest.now) }
     {
         let mut all = first;
         for _step in 0..self.scan.rest.len() {
@@ -581,7 +585,7 @@ impl<'a> Parser<'a> {
     #[cycle(parse)]
     #[tactic(auto, unfolding(crate::specs::Grammar::list_at))]
     fn list(&mut self, is_relative: bool, nesting: Nesting) -> Result<Formula, Refusal>
-        ensures { Reads asked result self.new.scan.rest.now (list_at (arguments_within nesting.room nesting.is_in_has) is_relative self.old.scan.rest.now) }
+        ensures { Takes asked result self.new.parts self.new.scan.rest.now (list_at (arguments_within nesting.room nesting.is_in_has) is_relative self.old.parts self.old.scan.rest.now) }
     {
         let first = self.selector(is_relative, nesting)?;
         self.others(first, is_relative, nesting)
@@ -591,7 +595,7 @@ impl<'a> Parser<'a> {
     #[cycle(parse)]
     #[tactic(auto, unfolding(crate::specs::Grammar::list_or_none_at))]
     fn list_or_none(&mut self, nesting: Nesting) -> Result<Formula, Refusal>
-        ensures { Reads asked result self.new.scan.rest.now (list_or_none_at (arguments_within nesting.room nesting.is_in_has) self.old.scan.rest.now) }
+        ensures { Takes asked result self.new.parts self.new.scan.rest.now (list_or_none_at (arguments_within nesting.room nesting.is_in_has) self.old.parts self.old.scan.rest.now) }
     {
         self.scan.skip_blanks();
         if self.scan.peek() == Some(')') {
@@ -609,8 +613,8 @@ const TOP: Nesting = Nesting {
 
 // Those behind the first, each behind a comma. Each has parts of its own.
 fn more_selectors(parser: &mut Parser<'_>, first: Formula) -> Result<Vec<Formula>, Refusal>
-    ensures { Reads (λ list. map asked list.items) result parser.new.scan.rest.now
-        (commas_at joined_last top_at (asked first ∷ []) parser.old.scan.rest.now) }
+    ensures { Takes (λ list. map asked list.items) result parser.new.parts parser.new.scan.rest.now
+        (commas_at joined_last top_at (asked first ∷ []) parser.old.parts parser.old.scan.rest.now) }
 {
     let mut list = Vec::new(parser.alloc);
     list.push(first)?;
@@ -627,7 +631,7 @@ fn more_selectors(parser: &mut Parser<'_>, first: Formula) -> Result<Vec<Formula
 // The selectors of a whole text.
 #[tactic(auto, unfolding(crate::specs::Grammar::selectors_of))]
 fn selectors(alloc: Global, characters: &[char]) -> Result<Vec<Formula>, Refusal>
-    ensures { MatchResult result (λ list. selectors_of characters.now ≡ Some (map asked list.items)) (λ refusal. Fails refusal (selectors_of characters.now)) }
+    ensures { MatchResult result (λ list. selectors_of characters.now ≡ Found (map asked list.items)) (λ refusal. Lacks refusal (selectors_of characters.now)) }
 {
     let mut parser = Parser {
         scan: Scan { rest: characters },
@@ -649,9 +653,10 @@ fn characters_of(alloc: Global, text: &str) -> Result<Vec<char>, AllocError>
     text.chars().collect(alloc)
 }
 
-/// What the selectors of a list ask, by its text.
+/// What the selectors of a list ask, by its text (Selectors Level 4, section 17, "Grammar"). `Invalid` tells what is wrong, and behind how many
+/// characters; it is `TooLong` where one of the selectors has more than 1,000 parts. Where memory is refused, it is `Memory`.
 pub fn parse(alloc: Global, text: &str) -> Result<Vec<Formula>, SelectorFault>
-    ensures selectors { IfOk result (λ list. selectors_of (chars text.now) ≡ Some (map asked list.items)) }
+    ensures selectors { IfOk result (λ list. selectors_of (chars text.now) ≡ Found (map asked list.items)) }
     ensures place { IfErr result (IsWithin (length (chars text.now))) }
     ensures fault { IfErr result (λ fault. Tells fault (selectors_of (chars text.now))) }
 {

@@ -405,9 +405,9 @@ impl<'a> Scan<'a> {
         }
     }
 
-    /// Passes a closing bracket.
+    /// Passes a closing bracket: that of an attribute, or that of a pseudo-class.
     #[tactic(auto, unfolding(crate::specs::Tokens::closed_at))]
-    pub(crate) fn close(&mut self, bracket: char, problem: Problem) -> Result<(), Refusal>
+    pub(crate) fn close(&mut self, bracket: char) -> Result<(), Refusal>
         ensures { Reads (λ _. tt) result self.new.rest.now (closed_at bracket self.old.rest.now) }
     {
         self.skip_blanks();
@@ -417,6 +417,9 @@ impl<'a> Scan<'a> {
         if self.rest.is_empty() {
             return Err(self.refusal(Problem::Unclosed));
         }
-        Err(self.refusal(problem))
+        Err(self.refusal(match bracket {
+            ']' => Problem::Flag,
+            _ => Problem::Rest,
+        }))
     }
 }

@@ -1,9 +1,10 @@
 //! The calls of a selector.
-ghost use Rattle.std.specs.Prelude.{◌≡◌, ◌<◌, ℕ, All, Bool, IfErr, IfOk, IfSome, Some, drop, false, get_or, length, map, not, slice_get};
+ghost use Rattle.std.specs.Prelude.{◌≡◌, ◌<◌, ℕ, All, Bool, IfErr, IfOk, IfSome, drop, false, get_or, length, map, not, slice_get};
 ghost use Rattle.std.specs.List.{filter};
 ghost use Rattle.std.specs.Str.{chars};
 ghost use Rattle.h5_arena.specs.ArenaModel.{IsHeld, optional_place, place};
 ghost use Rattle.h5_selector_text.specs.Asking.{asked};
+ghost use Rattle.h5_selector_text.specs.Counting.{Found};
 ghost use Rattle.h5_selector_text.specs.Fault.{IsWithin, Tells};
 ghost use Rattle.h5_selector_text.specs.Grammar.{selectors_of};
 ghost use Rattle.h5_selectors.specs.Query.{matches_by, seen_by};
@@ -151,10 +152,11 @@ impl Selector {
     ghost use Rattle.h5_selectors.specs.Selected.{is_match, matching_upwards, selected};
 
     /// The selectors of a text, in which commas stand between them (Selectors Level 4, section 17, "Grammar"). A text that is none is
-    /// `Invalid`: the fault has what is wrong, and behind how many of the text's characters. One of more than 1,000 parts is `TooLong`.
+    /// `Invalid`: the fault has what is wrong, and behind how many of the text's characters. It is `TooLong` where one of the selectors has more than
+    /// 1,000 parts: a compound selector is one, and so is each id, class, attribute and pseudo-class in it.
     /// Where memory is refused, it is `Memory`.
     pub fn parse(alloc: Global, text: &str) -> Result<Selector, SelectorFault>
-        ensures selectors { IfOk result (λ selector. selectors_of (chars text.now) ≡ Some (map asked selector)) }
+        ensures selectors { IfOk result (λ selector. selectors_of (chars text.now) ≡ Found (map asked selector)) }
         ensures place { IfErr result (IsWithin (length (chars text.now))) }
         ensures fault { IfErr result (λ fault. Tells fault (selectors_of (chars text.now))) }
     {

@@ -23,6 +23,7 @@ pub use Rattle.h5_arena.specs.Kin
 pub use Rattle.h5_arena.specs.Lent
 pub use Rattle.h5_arena.specs.NodeCalls
 pub use Rattle.h5_selector_text.specs.Asking
+pub use Rattle.h5_selector_text.specs.Counting
 pub use Rattle.h5_selector_text.specs.Fault
 pub use Rattle.h5_selector_text.specs.Grammar
 pub use Rattle.h5_selectors.specs.Holds

@@ -5,4 +5,4 @@ use Rattle.h5_selector_text.proofs.parser.more_selectors.Given as goal
 
 abbrev pub invariant-loop-step : goal.invariant-loop-step
 invariant-loop-step l =
-    repeated (comma_next joined_last top_at) (l._step-end - l._step) (map asked l.list.items) l.parser.scan.rest.now ≡ commas_at joined_last top_at (asked l.fn.first ∷ []) l.fn.parser.scan.rest.now
+    repeated (comma_next joined_last top_at) (l._step-end - l._step) (map asked l.list.items) l.parser.parts l.parser.scan.rest.now ≡ commas_at joined_last top_at (asked l.fn.first ∷ []) l.fn.parser.parts l.fn.parser.scan.rest.now

@@ -52,14 +52,14 @@ decreases-nth_child l = 16 * l.nesting.room + 12
 abbrev pub invariant-simples-loop-step : goal.invariant-simples-loop-step
 invariant-simples-loop-step l =
     let arguments = arguments_within l.fn.nesting.room l.fn.nesting.is_in_has in
-    repeated (simple_next arguments) (l._step-end - l._step) (option_map asked l.all) l.self.scan.rest.now ≡ simples_at arguments (option_map asked l.fn.before) l.fn.self.scan.rest.now
+    repeated (simple_next arguments) (l._step-end - l._step) (option_map asked l.all) l.self.parts l.self.scan.rest.now ≡ simples_at arguments (option_map asked l.fn.before) l.fn.self.parts l.fn.self.scan.rest.now
 
 abbrev pub invariant-links-loop-step : goal.invariant-links-loop-step
 invariant-links-loop-step l =
     let arguments = arguments_within l.fn.nesting.room l.fn.nesting.is_in_has in
-    repeated (link_next arguments) (l._step-end - l._step) (map link_asked l.links.items) l.self.scan.rest.now ≡ links_at arguments l.fn.self.scan.rest.now
+    repeated (link_next arguments) (l._step-end - l._step) (map link_asked l.links.items) l.self.parts l.self.scan.rest.now ≡ links_at arguments l.fn.self.parts l.fn.self.scan.rest.now
 
 abbrev pub invariant-others-loop-step : goal.invariant-others-loop-step
 invariant-others-loop-step l =
     let item = selector_at (arguments_within l.fn.nesting.room l.fn.nesting.is_in_has) l.fn.is_relative in
-    repeated (comma_next AskOr item) (l._step-end - l._step) (asked l.all) l.self.scan.rest.now ≡ commas_at AskOr item (asked l.fn.first) l.fn.self.scan.rest.now
+    repeated (comma_next AskOr item) (l._step-end - l._step) (asked l.all) l.self.parts l.self.scan.rest.now ≡ commas_at AskOr item (asked l.fn.first) l.fn.self.parts l.fn.self.scan.rest.now
