@@ -16,7 +16,8 @@ use Rattle.h5_rules.specs.Sound.{Sound}
 use Rattle.h5_rules.specs.Rows.{Answers, Ending, EndsAs, Follows, apply_all, next_mode}
 use Rattle.h5_rules.specs.modes.Shared.{head_start_names}
 use Rattle.h5_rules.specs.World.{World, root}
-use Rattle.h5_rules.proofs.modes.AfterHeadLaws.{content_row, ends_anywhere}
+use Rattle.h5_rules.proofs.modes.AfterHead.{by_head}
+use Rattle.h5_rules.proofs.rows.EndingLaws.{ends_anywhere, stops_next}
 use Rattle.h5_rules.proofs.rows.KeptLaws.{apply_append}
 use Rattle.h5_state.specs.Turn.{turn_result}
 use Rattle.h5_state.specs.declared.state.State.{State}
@@ -37,7 +38,7 @@ unfolding with_head
 followed choices node tag w u v a b result s z known name same is done ends left told =
     let x = push_head w in
     let r = in_head_start_tag tag x in
-    let none = (content_row tag x name).ends in
+    let none = stops_next r.ending (by_head tag w name).ends.stops in
     record {
       world = left ∙ ap (λ o. apply_all choices (removes_known o) u) is ∙ ap (apply_all choices (removes_known w.head)) done ∙ sym (apply_append choices r.changes (removes_known w.head) x);
       ending = ends_alike node (TagTurn tag) result s z r.ending v none same (ends_anywhere node (TagTurn tag) (turn_result result s) r.ending u v none ends);

@@ -27,9 +27,8 @@ use Rattle.h5_rules.proofs.changes.NameLaws.{names-insert}
 use Rattle.h5_rules.proofs.changes.SituationLaws.{situation_insert}
 use Rattle.h5_rules.proofs.fitting.NamesBodyLaws.{role_known}
 use Rattle.h5_rules.proofs.fitting.NamesFitLaws.{names_body_pushed}
-use Rattle.h5_rules.proofs.modes.AfterHeadLaws.{kept_with_head, lists_with_head, sound_with_head}
+use Rattle.h5_rules.proofs.modes.AfterHead.{by_head, kept_with_head, lists_with_head, sound_with_head}
 use Rattle.h5_rules.proofs.modes.FramesetRowLaws.{kept_after_head_frameset}
-use Rattle.h5_rules.proofs.modes.HeadContentLaws.{IsHeadRow, head_content}
 use Rattle.h5_rules.proofs.modes.TemplateRowLaws.{none_after_head}
 use Rattle.h5_rules.proofs.roles.RoleLaws.{role_made}
 use Rattle.h5_rules.proofs.rows.ByNameLaws.{◌&◌, holds_by_name}
@@ -77,9 +76,6 @@ pushed (Answers TurnsPlain) xs h = h
 pushed (Answers (Indicates encoding)) xs h = h
 pushed (Answers (TurnsRaw kind)) xs h = h
 pushed (Answers _) xs h = h
-
-by_head : (tag : TagText) (w : World) → is_one_of head_start_names tag.name ≡ true → IsHeadRow AfterHead (push_head w) (in_head_start_tag tag (push_head w))
-by_head tag w p = head_content AfterHead refl tag (push_head w) p (λ q. refl)
 
 with_head_row : (tag : TagText) (w : World) → is_one_of head_start_names tag.name ≡ true → IsTold (with_head in_head_start_tag tag w)
 unfolding with_head

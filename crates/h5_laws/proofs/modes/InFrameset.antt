@@ -28,7 +28,7 @@ use Rattle.h5_rules.proofs.changes.NameLaws.{names-insert}
 use Rattle.h5_rules.proofs.changes.PopLaws.{names-pop}
 use Rattle.h5_rules.proofs.changes.SituationLaws.{situation_insert, situation_pop}
 use Rattle.h5_rules.proofs.fitting.NamesTableLaws.{names_frameset_left, names_frameset_popped, names_frameset_pushed}
-use Rattle.h5_rules.proofs.modes.HeadContentLaws.{head_content}
+use Rattle.h5_rules.proofs.modes.InHead.{head_content}
 use Rattle.h5_rules.proofs.roles.RoleLaws.{role_made}
 use Rattle.h5_rules.proofs.rows.ByNameLaws.{◌&◌, holds_by_name, of_named}
 use Rattle.h5_rules.proofs.rows.KeptLaws.{FitsAs, Kept, fits_at}

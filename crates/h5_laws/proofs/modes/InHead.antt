@@ -22,13 +22,13 @@ use Rattle.h5_rules.proofs.changes.NameLaws.{names-insert}
 use Rattle.h5_rules.proofs.changes.PopLaws.{names-pop}
 use Rattle.h5_rules.proofs.changes.SituationLaws.{situation_insert, situation_pop}
 use Rattle.h5_rules.proofs.fitting.NamesFitLaws.{names_head_popped, names_noscript_pushed}
-use Rattle.h5_rules.proofs.modes.HeadContentLaws.{head_start_by, noscript_plain, raw_row}
+use Rattle.h5_rules.proofs.modes.InHead.{content_row, head_start_by, noscript_plain, raw_row}
 use Rattle.h5_rules.proofs.modes.TemplateRowLaws.{none_in_head}
 use Rattle.h5_rules.proofs.roles.RoleLaws.{made_named}
 use Rattle.h5_rules.proofs.rows.ByNameLaws.{◌&◌, holds_by_name, of_named}
 use Rattle.h5_rules.proofs.rows.KeptLaws.{FitsAs, fits_at}
 use Rattle.h5_laws.proofs.LawfulRow.{IsLawfulFor, IsLawfulRow, IsLawfulTag, lawful_choose, lawful_ignored, lawful_row}
-use Rattle.h5_laws.proofs.modes.SharedRows.{comment_lawful, head_row_lawful, no_template_lawful, text_row_lawful}
+use Rattle.h5_laws.proofs.modes.SharedRows.{comment_lawful, head_row_lawful, no_template_lawful, start_html_lawful, text_row_lawful}
 use Rattle.h5_laws.proofs.turns.Ranks.{TurnKind}
 use Rattle.h5_laws.proofs.turns.Ranks as edges
 
@@ -60,7 +60,8 @@ noscript_lawful tag w p = lawful_choose w.options.scripting_enabled _ _
     (λ e. lawful_row _ (tt, (tt, tt)) (λ choices s. noscript_pushed choices w s.sound tag p) (tt, (refl, tt)) tt tt)
 
 start_lawful : (tag : TagText) (w : World) → IsLawfulTag StartTag tag InHead w (in_head_start_tag tag w)
-start_lawful tag w = head_start_by InHead refl tag w (IsLawfulTag StartTag tag InHead w) (λ r x. head_row_lawful InHead w r x) (λ p. refl) (λ p. noscript_lawful tag w p) (λ n. else_lawful w)
+start_lawful tag w = head_start_by (IsLawfulTag StartTag tag InHead w) tag w (λ p. start_html_lawful InHead w tag) (λ r x. head_row_lawful InHead w r (content_row InHead refl tag w (λ p. refl) r x)) (λ p. noscript_lawful tag w p)
+    (λ p. lawful_ignored) (λ n. else_lawful w)
 
 tag_lawful : (k : TagKind) (tag : TagText) (w : World) → IsLawfulTag k tag InHead w (by_kind k (in_head_start_tag tag w) (by_name in_head_end ignored_tag tag w))
 unfolding in_head_end names_of

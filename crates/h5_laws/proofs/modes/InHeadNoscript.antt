@@ -21,7 +21,7 @@ use Rattle.h5_rules.specs.modes.Shared.{head_start_names}
 use Rattle.h5_rules.proofs.changes.PopLaws.{names-pop}
 use Rattle.h5_rules.proofs.changes.SituationLaws.{situation_pop}
 use Rattle.h5_rules.proofs.fitting.NamesFitLaws.{names_noscript_popped}
-use Rattle.h5_rules.proofs.modes.HeadContentLaws.{head_content}
+use Rattle.h5_rules.proofs.modes.InHead.{head_content}
 use Rattle.h5_rules.proofs.rows.ByNameLaws.{◌&◌, holds_by_name, of_named, of_one}
 use Rattle.h5_rules.proofs.rows.KeptLaws.{FitsAs, fits_at}
 use Rattle.h5_laws.proofs.LawfulRow.{IsLawfulFor, IsLawfulRow, IsLawfulTag, lawful_ignored, lawful_row}

@@ -33,8 +33,9 @@ use Rattle.h5_rules.proofs.changes.SituationLaws.{situation_then}
 use Rattle.h5_rules.proofs.fitting.NamesBodyLaws.{is_of_table, names_in_table, no_part_where_ruled, role_known, table_goes}
 use Rattle.h5_rules.proofs.fitting.NamesFitLaws.{names_table_text_begun}
 use Rattle.h5_rules.proofs.fitting.NamesTableLaws.{names_caption_put, names_colgroup_put, names_section_put, names_table_closed}
-use Rattle.h5_rules.proofs.modes.HeadContentLaws.{body_left, body_takes, head_content}
+use Rattle.h5_rules.proofs.fitting.OpenLaws.{body_left}
 use Rattle.h5_rules.proofs.modes.InBody.{NoPartOf, is_end_html}
+use Rattle.h5_rules.proofs.modes.InHead.{body_takes, head_content}
 use Rattle.h5_rules.proofs.modes.TemplateRowLaws.{closed_by_tag}
 use Rattle.h5_rules.proofs.roles.RoleLaws.{role_made}
 use Rattle.h5_rules.proofs.rows.ByNameLaws.{holds_by_name, not_ruled, of_named, of_one, ◌&◌}

@@ -12,7 +12,7 @@ use Rattle.h5_rules.specs.ByName.{by_kind, by_name, ignored_tag, named}
 use Rattle.h5_rules.specs.World.{World}
 use Rattle.h5_rules.specs.fitting.Fits.{is_template_mode}
 use Rattle.h5_rules.specs.modes.InTemplate.{in_template, in_template_as, in_template_end, in_template_part_names, in_template_start, in_template_tag}
-use Rattle.h5_rules.proofs.modes.HeadContentLaws.{head_content}
+use Rattle.h5_rules.proofs.modes.InHead.{head_content}
 use Rattle.h5_rules.proofs.modes.TemplateRowLaws.{closed_by_tag, kept_template_mode}
 use Rattle.h5_rules.proofs.rows.ByNameLaws.{holds_by_name, of_named, of_one, ◌&◌}
 use Rattle.h5_rules.proofs.rows.RowTexts.{is_text}

@@ -13,7 +13,7 @@ use Rattle.h5_rules.specs.modes.InHead.{in_head_end_template, template_eof}
 use Rattle.h5_rules.specs.modes.Shared.{in_body_start_html}
 use Rattle.h5_rules.specs.stack.Scope.{has_template}
 use Rattle.h5_rules.proofs.changes.ListsLaws.{IsSteady, steady_changes}
-use Rattle.h5_rules.proofs.modes.HeadContentLaws.{IsHeadRow, html_row}
+use Rattle.h5_rules.proofs.modes.InHead.{IsHeadRow, html_row}
 use Rattle.h5_rules.proofs.modes.TemplateRowLaws.{ClosedByTag, closed_by_eof}
 use Rattle.h5_rules.proofs.rows.KeptLaws.{FitsAs, kept_append, kept_comment, kept_comment_to_document}
 use Rattle.h5_rules.proofs.rows.RowTexts.{reset_no_text}

@@ -5,9 +5,9 @@ use Rattle.h5_names.specs.AttributeText.{is_same_text}
 use Rattle.h5_names.specs.declared.qualified.QualName.{QualName}
 use Rattle.h5_tables.specs.TagSets.{is_html_named, is_implied, is_special}
 use Rattle.h5_tables.specs.declared.modes.InsertionMode.{InsertionMode}
-use Rattle.h5_tables.specs.declared.modes.InsertionMode.TheVariants.{BeforeHtml, Initial}
+use Rattle.h5_tables.specs.declared.modes.InsertionMode.TheVariants.{BeforeHtml, InTableText, Initial, Text}
 use Rattle.h5_rules.specs.stack.Scope.{comes_before_special, cut_names, drop_while, in_scope, is_implied_but}
-use Rattle.h5_rules.specs.fitting.Fits.{Situation, goes_by_body, is_before_root}
+use Rattle.h5_rules.specs.fitting.Fits.{Situation, goes_by_body, is_before_root, may_be_left}
 use Rattle.h5_rules.specs.fitting.NamesFit.{NamesFit}
 use Rattle.h5_rules.specs.stack.Root.{IsRootOpen, RootIsHtml}
 use Rattle.h5_rules.proofs.roles.EndTagLaws.{still_comes}
@@ -82,7 +82,15 @@ names_root_open s m ns h f = at ns (names_open s m ns h f) (names_root s m ns f)
     at [] o r = absurd (omega (arith, o))
     at (n ∷ ns) o r = root_open n ns r
 
-pub goes_after_root : (m : InsertionMode) → goes_by_body m ≡ true → is_before_root m ≡ false
-goes_after_root Initial h = absurd (cc)
-goes_after_root BeforeHtml h = absurd (cc)
-goes_after_root _ h = refl
+-- a mode that may be left for a text comes so, and those that go by the body are some
+pub left_after_root : (m : InsertionMode) → may_be_left m ≡ true → is_before_root m ≡ false
+left_after_root Initial h = absurd (cc)
+left_after_root BeforeHtml h = absurd (cc)
+left_after_root _ h = refl
+
+pub body_left : (m : InsertionMode) → goes_by_body m ≡ true → may_be_left m ≡ true
+body_left Initial h = absurd (cc)
+body_left BeforeHtml h = absurd (cc)
+body_left Text h = absurd (cc)
+body_left InTableText h = absurd (cc)
+body_left _ h = refl

@@ -21,8 +21,7 @@ use Rattle.h5_rules.proofs.changes.NameLaws.{names-insert}
 use Rattle.h5_rules.proofs.changes.SituationLaws.{situation_insert, situation_then}
 use Rattle.h5_rules.proofs.fitting.NamesFitLaws.{names_frameset_begun}
 use Rattle.h5_rules.proofs.fitting.NamesTableLaws.{names_frameset_put}
-use Rattle.h5_rules.proofs.fitting.OpenLaws.{names_root_open}
-use Rattle.h5_rules.proofs.modes.HeadContentLaws.{left_after_root}
+use Rattle.h5_rules.proofs.fitting.OpenLaws.{left_after_root, names_root_open}
 use Rattle.h5_rules.proofs.roles.RoleLaws.{role_made, role_named}
 use Rattle.h5_rules.proofs.rows.ByNameLaws.{of_named}
 use Rattle.h5_rules.proofs.rows.KeptLaws.{FitsAs, Kept, fits_at}

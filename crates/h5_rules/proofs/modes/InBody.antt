@@ -46,9 +46,10 @@ use Rattle.h5_rules.proofs.changes.SoundLaws.{element_is_node}
 use Rattle.h5_rules.proofs.changes.TreeLaws.{tree_implied_except, tree_then, tree_until}
 use Rattle.h5_rules.proofs.fitting.NamesBodyLaws.{MayEnd, is_of_table, names_after_body, names_in_body, names_other_end, plain_where_ruled, role_known}
 use Rattle.h5_rules.proofs.fitting.NamesTableLaws.{names_table_put}
+use Rattle.h5_rules.proofs.fitting.OpenLaws.{body_left}
 use Rattle.h5_rules.proofs.modes.CloseInLaws.{all_implied_keeps, in_cleared, in_close_except, in_close_other, in_copy, in_ignore_lf, in_implied_except, in_insert_form, in_list_item, in_marker, in_no_form, in_pop, in_remove_form, in_select, in_until, node_in_stack, oldest_is_open}
 use Rattle.h5_rules.proofs.modes.FramesetRowLaws.{body_replaced}
-use Rattle.h5_rules.proofs.modes.HeadContentLaws.{IsHeadRow, body_left, body_takes, head_content, html_row, noscript_plain, raw_row}
+use Rattle.h5_rules.proofs.modes.InHead.{IsHeadRow, body_takes, head_content, html_row, noscript_plain, raw_row}
 use Rattle.h5_rules.proofs.modes.ReadyInLaws.{ReadyIn, in_agency, in_close_heading, in_close_named, in_close_p, in_close_p_in_scope, in_format, in_frameset_off, in_frameset_text, in_implied, in_insert, in_insert_foreign, in_leaf, in_leaf_foreign, in_misnested_a, in_misnested_nobr, in_pop_heading, in_reconstruct, in_second_attrs, in_text}
 use Rattle.h5_rules.proofs.modes.TemplateRowLaws.{closed_by_tag}
 use Rattle.h5_rules.proofs.modes.TextBeginsLaws.{text_begins}

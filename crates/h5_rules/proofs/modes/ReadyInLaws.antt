@@ -20,7 +20,7 @@ use Rattle.h5_rules.proofs.BoolLaws.{and_not}
 use Rattle.h5_rules.proofs.fitting.FrameLaws.{frame_refl, frame_trans}
 use Rattle.h5_rules.proofs.roles.RoleNameLaws.{frame_pushed, frame_while, frame_without}
 use Rattle.h5_rules.proofs.fitting.NamesFitLaws.{names_frame}
-use Rattle.h5_rules.proofs.fitting.OpenLaws.{goes_after_root, names_root_open}
+use Rattle.h5_rules.proofs.fitting.OpenLaws.{body_left, left_after_root, names_root_open}
 use Rattle.h5_rules.proofs.fitting.PlacedNameLaws.{fits_grounded}
 use Rattle.h5_rules.proofs.roles.PlainNameLaws.{formatting_local_plain, frame_implied, heading_plain, implied_plain}
 use Rattle.h5_rules.proofs.roles.RoleLaws.{local_p, role_made, role_named}
@@ -119,7 +119,7 @@ pub record ReadyIn (m : InsertionMode) (w : World) : Type 0 where
 
 module _ (m : InsertionMode) (goes : goes_by_body m ≡ true) where
   pub ready_in : (w : World) → IsSteady w → NamesFit (situation_of w) m (names_of w) → ReadyIn m w
-  ready_in w k f = record { ready = steady_ready w k (names_root_open (situation_of w) m (names_of w) (goes_after_root m goes) f); fit = f }
+  ready_in w k f = record { ready = steady_ready w k (names_root_open (situation_of w) m (names_of w) (left_after_root m (body_left m goes)) f); fit = f }
 
   -- one change, by what it keeps
   pub in_step : (w v : World) → ReadyIn m w → IsSteady v → KeepsSituation w v → Framed w v → ReadyIn m v

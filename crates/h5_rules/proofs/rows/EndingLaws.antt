@@ -1,7 +1,10 @@
 -- How a row ends: whether another turn is taken, and whether something is answered.
-use Rattle.std.proofs.Common.{◌∙◌, ◌≡◌, Bool, None, false, refl, sym}
+use Rattle.std.proofs.Common.{◌∙◌, ◌≡◌, ℕ, Bool, None, Some, false, refl, sym}
+use Rattle.h5_tables.specs.TurnResult.{TurnResult}
+use Rattle.h5_tables.specs.TurnResult as results
+use Rattle.h5_tables.specs.TurnText.{TurnText}
 use Rattle.h5_rules.specs.Changes.{set_foster}
-use Rattle.h5_rules.specs.Rows.{Again, AgainBy, Answers, Ending, IsAcknowledged, IsDone, Row, next_mode}
+use Rattle.h5_rules.specs.Rows.{Again, AgainBy, Answers, Ending, EndsAs, IsAcknowledged, IsDone, Row, next_mode}
 use Rattle.h5_rules.specs.World.{World}
 use Rattle.h5_rules.proofs.changes.ListsLaws.{NeedsOfAll}
 use Rattle.h5_rules.proofs.rows.KeptLaws.{IsBlind}
@@ -27,6 +30,13 @@ stops_next (AgainBy mode) h v = absurd h
 
 pub stops_blind : (r : Row) → RowStops r → IsBlind r
 stops_blind r h on v = stops_next r.ending h (set_foster on v) ∙ sym (stops_next r.ending h v)
+
+-- what ended the turn so ends it in any world
+pub ends_anywhere : {H : Type 0} (node : H → ℕ) (t : TurnText) (result : TurnResult H) (e : Ending) (u v : World) → ((x : World) → next_mode e x ≡ None) → EndsAs node t result e u → EndsAs node t result e v
+ends_anywhere node t results.Done e u v none ends = ends
+ends_anywhere node t results.DoneAckSelfClosing e u v none ends = ends
+ends_anywhere node t (results.Reprocess mode token) e u v none ends = absurd (let clash : None ≡ Some mode = sym (none u) ∙ ends.0 in cc)
+ends_anywhere node t (results.Answer answer) e u v none ends = ends
 
 -- an ending that answers nothing of its own
 abbrev pub Silent : Ending → Type 0

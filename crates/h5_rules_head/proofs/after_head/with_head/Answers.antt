@@ -9,7 +9,7 @@ use Rattle.h5_rules.specs.modes.AfterHead.{removes_known}
 use Rattle.h5_rules.specs.Sound.{Sound}
 use Rattle.h5_rules.specs.World.{World, root}
 use Rattle.h5_rules.proofs.rows.MarkLaws.{still_told}
-use Rattle.h5_rules.proofs.modes.AfterHeadLaws.{head_stays_above, head_stays_known}
+use Rattle.h5_rules.proofs.modes.AfterHead.{head_stays_above, head_stays_known}
 use Rattle.h5_rules.proofs.modes.PushHeadLaws.{only_root, sound_push_head}
 use Rattle.h5_state.specs.Steps.{errors_of, world_of}
 use Rattle.h5_state.specs.Turn.{turn_result}
