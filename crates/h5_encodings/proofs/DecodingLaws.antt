@@ -1,14 +1,14 @@
 -- How bytes are cut doesn't matter.
-use Rattle.std.proofs.Common.{◌≡◌, ◌∙◌, ℕ, true, false, List, [], ◌∷◌, ◌++◌, cond, refl, sym, ap, append_assoc, append-nil, encode_utf8}
+use Rattle.std.proofs.Common.{◌≡◌, ◌∙◌, ℕ, true, false, List, [], ◌∷◌, ◌++◌, cond, refl, sym, ap, append_assoc, append-nil}
 use Rattle.std.specs.Str.Lossy.{utf8_lossy}
 use Rattle.h5_reading.specs.Decoding as utf8
-use Rattle.h5_encodings.specs.Steps.{CutsDontMatter, kept_after, replacement_character, text_of, text_shown, text_so_far}
+use Rattle.h5_encodings.specs.Steps.{CutsDontMatter, kept_after, text_of, text_of_step, text_shown, text_so_far}
 use Rattle.h5_encodings.specs.Decoding.{Decodes, State, is_utf8, reading_of, text_from}
 
 pub cuts_dont_matter : CutsDontMatter
 cuts_dont_matter r kept [] more = refl
 cuts_dont_matter r kept (b ∷ bs) more =
-    let shown = text_shown (r.step kept b).shown in
+    let shown = text_of_step (r.step kept b) in
     let next = (r.step kept b).kept in
     ap (λ t. shown ++ t) (cuts_dont_matter r next bs more)
     ∙ sym (append_assoc shown (text_so_far r next bs) (text_of r (kept_after r next bs) more))
@@ -21,7 +21,7 @@ text_in_utf8 s bs is = ap (λ b. cond b (utf8_lossy (s.unfinished ++ bs)) (text_
 
 -- the text of the end
 pub text_at_end : (s : State) → is_utf8 s.encoding ≡ false
-    → text_from s [] ≡ cond ((reading_of s.encoding).breaks_off s.kept) (encode_utf8 replacement_character) []
+    → text_from s [] ≡ text_shown ((reading_of s.encoding).ending s.kept)
 text_at_end s other = text_in_steps s [] other
 
 pub text_at_utf8_end : (s : State) → is_utf8 s.encoding ≡ true → text_from s [] ≡ utf8_lossy s.unfinished

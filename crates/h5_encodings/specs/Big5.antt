@@ -4,6 +4,7 @@ use Rattle.h5_encodings.specs.declared.steps.Kept.{Kept}
 use Rattle.h5_encodings.specs.declared.steps.Kept.TheVariants as k
 use Rattle.h5_encodings.specs.declared.steps.Shown.TheVariants.{Two}
 use Rattle.h5_encodings.specs.declared.steps.Step.{Step}
+use Rattle.h5_encodings.specs.Steps.{shows}
 use Rattle.h5_encodings.specs.MultiByte.{code_point, first_byte, is_between, last_byte, lead_of}
 use Rattle.h5_encodings.specs.Big5Index.{big5_index}
 
@@ -18,10 +19,10 @@ pointer lead b = if is_between 0x40 0x7E b || is_between 0xA1 0xFE b then Some (
 abbrev pub of_pointer : (pointer : Option ℕ) → ℕ → Step
 of_pointer None b = last_byte None b
 of_pointer (Some pointer) b =
-    if pointer == 1133 then record { shown = Two 0xCA 0x304; kept = k.Nothing }
-    else if pointer == 1135 then record { shown = Two 0xCA 0x30C; kept = k.Nothing }
-    else if pointer == 1164 then record { shown = Two 0xEA 0x304; kept = k.Nothing }
-    else if pointer == 1166 then record { shown = Two 0xEA 0x30C; kept = k.Nothing }
+    if pointer == 1133 then shows (Two 0xCA 0x304) k.Nothing
+    else if pointer == 1135 then shows (Two 0xCA 0x30C) k.Nothing
+    else if pointer == 1164 then shows (Two 0xEA 0x304) k.Nothing
+    else if pointer == 1166 then shows (Two 0xEA 0x30C) k.Nothing
     else last_byte (code_point big5_index (Some pointer)) b
 
 abbrev pub behind : (lead : Option ℕ) → ℕ → Step

@@ -5,9 +5,10 @@ use Rattle.h5_encodings.specs.declared.encoding.Encoding.{Encoding}
 use Rattle.h5_encodings.specs.declared.encoding.Encoding.TheVariants as e
 use Rattle.h5_encodings.specs.declared.steps.Kept.{Kept}
 use Rattle.h5_encodings.specs.declared.steps.Kept.TheVariants as k
+use Rattle.h5_encodings.specs.declared.steps.Shown.{Shown}
 use Rattle.h5_encodings.specs.declared.steps.Shown.TheVariants.{Nothing}
 use Rattle.h5_encodings.specs.declared.steps.Step.{Step}
-use Rattle.h5_encodings.specs.Steps.{Reading, text_of}
+use Rattle.h5_encodings.specs.Steps.{Reading, broken_off, shows, text_of}
 use Rattle.h5_encodings.specs.SingleByte.{single_byte_step}
 use Rattle.h5_encodings.specs.MultiByte.{lead_breaks_off, lead_of}
 use Rattle.h5_encodings.specs.Big5.{big5_step}
@@ -32,7 +33,7 @@ is_utf8 e.XUserDefined = false
 is_utf8 (e.SingleByte encoding) = false
 
 abbrev pub step_in : Encoding → Kept → ℕ → Step
-step_in e.Utf8 kept b = record { shown = Nothing; kept = kept }
+step_in e.Utf8 kept b = shows Nothing kept
 step_in e.Big5 kept b = big5_step kept b
 step_in e.EucJp kept b = euc_jp_step kept b
 step_in e.ShiftJis kept b = shift_jis_step kept b
@@ -43,20 +44,20 @@ step_in e.Utf16le kept b = utf_16_step false kept b
 step_in e.XUserDefined kept b = user_defined_step b
 step_in (e.SingleByte encoding) kept b = single_byte_step encoding b
 
-abbrev pub breaks_off_in : Encoding → Kept → Bool
-breaks_off_in e.Utf8 kept = false
-breaks_off_in e.Big5 kept = lead_breaks_off (lead_of kept)
-breaks_off_in e.EucJp kept = euc_jp_breaks_off kept
-breaks_off_in e.ShiftJis kept = lead_breaks_off (lead_of kept)
-breaks_off_in e.EucKr kept = lead_breaks_off (lead_of kept)
-breaks_off_in e.Replacement kept = false
-breaks_off_in e.Utf16be kept = utf_16_breaks_off kept
-breaks_off_in e.Utf16le kept = utf_16_breaks_off kept
-breaks_off_in e.XUserDefined kept = false
-breaks_off_in (e.SingleByte encoding) kept = false
+abbrev pub ending_in : Encoding → Kept → Shown
+ending_in e.Utf8 kept = Nothing
+ending_in e.Big5 kept = broken_off (lead_breaks_off (lead_of kept))
+ending_in e.EucJp kept = broken_off (euc_jp_breaks_off kept)
+ending_in e.ShiftJis kept = broken_off (lead_breaks_off (lead_of kept))
+ending_in e.EucKr kept = broken_off (lead_breaks_off (lead_of kept))
+ending_in e.Replacement kept = Nothing
+ending_in e.Utf16be kept = broken_off (utf_16_breaks_off kept)
+ending_in e.Utf16le kept = broken_off (utf_16_breaks_off kept)
+ending_in e.XUserDefined kept = Nothing
+ending_in (e.SingleByte encoding) kept = Nothing
 
 unfoldable pub reading_of : Encoding → Reading
-reading_of encoding = record { step = step_in encoding; breaks_off = breaks_off_in encoding }
+reading_of encoding = record { step = step_in encoding; ending = ending_in encoding }
 
 -- where a decoder stands: its encoding, the bytes of a character that isn't finished, in UTF-8, and what it keeps in others; and
 -- whether U+FFFD has stood for bytes, which isn't told of UTF-8

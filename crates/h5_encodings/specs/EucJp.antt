@@ -4,6 +4,7 @@ use Rattle.h5_encodings.specs.declared.steps.Kept.{Kept}
 use Rattle.h5_encodings.specs.declared.steps.Kept.TheVariants as k
 use Rattle.h5_encodings.specs.declared.steps.Shown.TheVariants.{Nothing, Character}
 use Rattle.h5_encodings.specs.declared.steps.Step.{Step}
+use Rattle.h5_encodings.specs.Steps.{shows}
 use Rattle.h5_encodings.specs.MultiByte.{code_point, first_byte, is_between, katakana, last_byte}
 use Rattle.h5_encodings.specs.Jis0208Index.{jis0208_index}
 use Rattle.h5_encodings.specs.Jis0212Index.{jis0212_index}
@@ -15,8 +16,8 @@ pointer lead b = if is_between 0xA1 0xFE lead && is_between 0xA1 0xFE b then Som
 -- behind 8E half-width katakana stand, and behind 8F a lead of the index jis0212
 abbrev pub behind_lead : (lead b : ℕ) → Step
 behind_lead lead b =
-    if lead == 0x8E && is_between 0xA1 0xDF b then record { shown = Character (katakana b); kept = k.Nothing }
-    else if lead == 0x8F && is_between 0xA1 0xFE b then record { shown = Nothing; kept = k.Jis0212 b }
+    if lead == 0x8E && is_between 0xA1 0xDF b then shows (Character (katakana b)) k.Nothing
+    else if lead == 0x8F && is_between 0xA1 0xFE b then shows Nothing (k.Jis0212 b)
     else last_byte (code_point jis0208_index (pointer lead b)) b
 
 abbrev pub is_lead : ℕ → Bool

@@ -5,6 +5,7 @@ use Rattle.h5_encodings.specs.declared.steps.Kept.TheVariants as k
 use Rattle.h5_encodings.specs.declared.steps.Shown.{Shown}
 use Rattle.h5_encodings.specs.declared.steps.Shown.TheVariants.{Nothing, Character, Error, ErrorAnd}
 use Rattle.h5_encodings.specs.declared.steps.Step.{Step}
+use Rattle.h5_encodings.specs.Steps.{shows}
 
 abbrev pub is_between : (low high b : ℕ) → Bool
 is_between low high b = nat_le low b && nat_le b high
@@ -38,9 +39,9 @@ code_point index (Some pointer) = not_null (slice_index index pointer)
 -- a byte that begins a character
 abbrev pub first_byte : (is_lead : Bool) → ℕ → Step
 first_byte is_lead b =
-    if is_ascii b then record { shown = Character b; kept = k.Nothing }
-    else if is_lead then record { shown = Nothing; kept = k.Lead b }
-    else record { shown = Error; kept = k.Nothing }
+    if is_ascii b then shows (Character b) k.Nothing
+    else if is_lead then shows Nothing (k.Lead b)
+    else shows Error k.Nothing
 
 -- the last byte of a code point; where there is none, that is an error, and an ASCII byte is read again, and stands for itself
 abbrev pub shown_at : Option ℕ → ℕ → Shown
@@ -48,7 +49,7 @@ shown_at (Some c) b = Character c
 shown_at None b = if is_ascii b then ErrorAnd b else Error
 
 abbrev pub last_byte : Option ℕ → ℕ → Step
-last_byte c b = record { shown = shown_at c b; kept = k.Nothing }
+last_byte c b = shows (shown_at c b) k.Nothing
 
 -- a lead at the end is an error
 abbrev pub lead_breaks_off : Option ℕ → Bool

@@ -4,6 +4,7 @@ use Rattle.h5_encodings.specs.declared.steps.Kept.{Kept}
 use Rattle.h5_encodings.specs.declared.steps.Kept.TheVariants as k
 use Rattle.h5_encodings.specs.declared.steps.Shown.TheVariants.{Character}
 use Rattle.h5_encodings.specs.declared.steps.Step.{Step}
+use Rattle.h5_encodings.specs.Steps.{shows}
 use Rattle.h5_encodings.specs.MultiByte.{code_point, first_byte, is_between, katakana, last_byte, lead_of}
 use Rattle.h5_encodings.specs.Jis0208Index.{jis0208_index}
 
@@ -25,8 +26,8 @@ character (Some pointer) = if is_between 8836 10715 pointer then Some (0xE000 + 
 -- 0x80 stands for itself, and half-width katakana have a byte of their own
 abbrev pub first : ℕ → Step
 first b =
-    if b == 0x80 then record { shown = Character b; kept = k.Nothing }
-    else if is_between 0xA1 0xDF b then record { shown = Character (katakana b); kept = k.Nothing }
+    if b == 0x80 then shows (Character b) k.Nothing
+    else if is_between 0xA1 0xDF b then shows (Character (katakana b)) k.Nothing
     else first_byte (is_between 0x81 0x9F b || is_between 0xE0 0xFC b) b
 
 abbrev pub behind : (lead : Option ℕ) → ℕ → Step

@@ -4,6 +4,7 @@ use Rattle.h5_encodings.specs.declared.steps.Kept.{Kept}
 use Rattle.h5_encodings.specs.declared.steps.Kept.TheVariants as k
 use Rattle.h5_encodings.specs.declared.steps.Shown.TheVariants.{Nothing, Character, Error, ErrorAnd}
 use Rattle.h5_encodings.specs.declared.steps.Step.{Step}
+use Rattle.h5_encodings.specs.Steps.{shows}
 
 abbrev pub unit_of : (big_endian : Bool) → ℕ → ℕ → ℕ
 unit_of big_endian a b = if big_endian then a * 256 + b else b * 256 + a
@@ -17,9 +18,9 @@ is_trailing u = nat_le 0xDC00 u && nat_le u 0xDFFF
 -- a leading surrogate waits for a trailing one, and a trailing one by itself is an error
 abbrev pub of_unit : ℕ → Step
 of_unit u =
-    if is_leading u then record { shown = Nothing; kept = k.Leading u }
-    else if is_trailing u then record { shown = Error; kept = k.Nothing }
-    else record { shown = Character u; kept = k.Nothing }
+    if is_leading u then shows Nothing (k.Leading u)
+    else if is_trailing u then shows Error k.Nothing
+    else shows (Character u) k.Nothing
 
 -- the character of two surrogates
 abbrev pub pair : (leading trailing : ℕ) → ℕ
@@ -28,17 +29,17 @@ pair leading trailing = 0x10000 + (leading % 1024) * 1024 + trailing % 1024
 -- behind a leading surrogate: where no trailing one follows, that is an error, and the code unit stands by itself
 abbrev pub behind_leading : (leading u : ℕ) → Step
 behind_leading leading u =
-    if is_trailing u then record { shown = Character (pair leading u); kept = k.Nothing }
-    else if is_leading u then record { shown = Error; kept = k.Leading u }
-    else record { shown = ErrorAnd u; kept = k.Nothing }
+    if is_trailing u then shows (Character (pair leading u)) k.Nothing
+    else if is_leading u then shows Error (k.Leading u)
+    else shows (ErrorAnd u) k.Nothing
 
 abbrev pub utf_16_step : (big_endian : Bool) → Kept → ℕ → Step
-utf_16_step big_endian k.Nothing b = record { shown = Nothing; kept = k.Half b }
-utf_16_step big_endian k.Told b = record { shown = Nothing; kept = k.Half b }
-utf_16_step big_endian (k.Lead lead) b = record { shown = Nothing; kept = k.Half b }
-utf_16_step big_endian (k.Jis0212 lead) b = record { shown = Nothing; kept = k.Half b }
+utf_16_step big_endian k.Nothing b = shows Nothing (k.Half b)
+utf_16_step big_endian k.Told b = shows Nothing (k.Half b)
+utf_16_step big_endian (k.Lead lead) b = shows Nothing (k.Half b)
+utf_16_step big_endian (k.Jis0212 lead) b = shows Nothing (k.Half b)
 utf_16_step big_endian (k.Half a) b = of_unit (unit_of big_endian a b)
-utf_16_step big_endian (k.Leading u) b = record { shown = Nothing; kept = k.LeadingHalf u b }
+utf_16_step big_endian (k.Leading u) b = shows Nothing (k.LeadingHalf u b)
 utf_16_step big_endian (k.LeadingHalf u a) b = behind_leading u (unit_of big_endian a b)
 
 -- bytes that are left at the end are one error, however many

@@ -1,6 +1,7 @@
 //! Big5.
 ghost use Rattle.std.specs.Prelude.{◌≡◌};
 ghost use Rattle.h5_encodings.specs.Big5.{big5_step, of_pointer, offset, pointer};
+ghost use Rattle.h5_encodings.specs.Steps.{shows};
 ghost use Rattle.h5_encodings.specs.declared.steps.Kept.TheVariants as k;
 ghost use Rattle.h5_encodings.specs.declared.steps.Shown.TheVariants.{Two};
 
@@ -27,13 +28,9 @@ fn pointer(lead: u8, byte: u8) -> Option<usize>
 }
 
 fn two(first: char, second: char) -> Step
-    ensures shown { result.shown ≡ Two first second }
-    ensures kept { result.kept ≡ k.Nothing }
+    ensures { result ≡ shows (Two first second) k.Nothing }
 {
-    Step {
-        shown: Shown::Two(first, second),
-        kept: Kept::Nothing,
-    }
+    Step::of(Shown::Two(first, second), Kept::Nothing)
 }
 
 // The step of the last byte of a pointer.

@@ -4,7 +4,7 @@ ghost use Rattle.h5_encodings.specs.Decoding.{Decodes, is_utf8, reading_of, star
 ghost use Rattle.h5_encodings.specs.Steps.{has_errors};
 
 use super::encoding::Encoding;
-use super::reading::{breaks_off, push_steps};
+use super::reading::{push_steps, text_at_end};
 use super::steps::Kept;
 use h5_reading::Utf8LossyDecoder;
 use std::alloc::{AllocError, Global};
@@ -93,17 +93,13 @@ impl Decoder {
         Ok(text)
     }
 
-    /// The text of what is left at the end: U+FFFD where bytes are, and else none.
+    /// The text of what is left at the end: U+FFFD where a character is broken off, with what its bytes show by themselves, and else none.
     pub fn finish(self) -> &'static str
         ensures { result.now ≡ text_from self [] }
     {
         if is_utf8(self.encoding) {
             return self.utf8.finish();
         }
-        if breaks_off(self.encoding, self.kept) {
-            "\u{FFFD}"
-        } else {
-            ""
-        }
+        text_at_end(self.encoding, self.kept)
     }
 }

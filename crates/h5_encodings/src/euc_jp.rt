@@ -23,16 +23,10 @@ fn behind_lead(lead: u8, byte: u8) -> Step
     ensures { result ≡ behind_lead lead byte }
 {
     if lead == 0x8E && is_between(0xA1, 0xDF, byte) {
-        return Step {
-            shown: Shown::Character(katakana(byte)),
-            kept: Kept::Nothing,
-        };
+        return Step::of(Shown::Character(katakana(byte)), Kept::Nothing);
     }
     if lead == 0x8F && is_between(0xA1, 0xFE, byte) {
-        return Step {
-            shown: Shown::Nothing,
-            kept: Kept::Jis0212(byte),
-        };
+        return Step::of(Shown::Nothing, Kept::Jis0212(byte));
     }
     last_byte(code_point(jis0208_index(), pointer(lead, byte)), byte)
 }

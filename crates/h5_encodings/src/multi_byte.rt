@@ -64,21 +64,12 @@ pub fn first_byte(is_lead: bool, byte: u8) -> Step
     ensures { result ≡ first_byte is_lead byte }
 {
     if byte < 128 {
-        return Step {
-            shown: Shown::Character(byte as char),
-            kept: Kept::Nothing,
-        };
+        return Step::of(Shown::Character(byte as char), Kept::Nothing);
     }
     if is_lead {
-        Step {
-            shown: Shown::Nothing,
-            kept: Kept::Lead(byte),
-        }
+        Step::of(Shown::Nothing, Kept::Lead(byte))
     } else {
-        Step {
-            shown: Shown::Error,
-            kept: Kept::Nothing,
-        }
+        Step::of(Shown::Error, Kept::Nothing)
     }
 }
 
@@ -96,10 +87,7 @@ pub fn last_byte(code_point: Option<char>, byte: u8) -> Step
             }
         }
     };
-    Step {
-        shown,
-        kept: Kept::Nothing,
-    }
+    Step::of(shown, Kept::Nothing)
 }
 
 /// Whether the end comes behind a lead.

@@ -1,7 +1,7 @@
 //! Bytes that are read in steps.
 ghost use Rattle.std.specs.Prelude.{◌≡◌, ◌++◌, string_bytes, IfOk};
 ghost use Rattle.h5_encodings.specs.Decoding.{reading_of};
-ghost use Rattle.h5_encodings.specs.Steps.{has_errors, is_error, kept_after, text_shown, text_so_far};
+ghost use Rattle.h5_encodings.specs.Steps.{broken_off, has_errors, is_error, kept_after, step_has_error, text_of_step, text_shown, text_so_far};
 
 use super::big5::big5_step;
 use super::encoding::Encoding;
@@ -22,10 +22,7 @@ fn step(encoding: Encoding, kept: Kept, byte: u8) -> Step
     ensures { result ≡ (reading_of encoding).step kept byte }
 {
     match encoding {
-        Encoding::Utf8 => Step {
-            shown: Shown::Nothing,
-            kept,
-        },
+        Encoding::Utf8 => Step::of(Shown::Nothing, kept),
         Encoding::Big5 => big5_step(kept, byte),
         Encoding::EucJp => euc_jp_step(kept, byte),
         Encoding::ShiftJis => shift_jis_step(kept, byte),
@@ -38,17 +35,26 @@ fn step(encoding: Encoding, kept: Kept, byte: u8) -> Step
     }
 }
 
-/// Whether the end comes inside a character, behind what is kept.
+// The text of an end that breaks a character off, or doesn't.
+fn broken_off(is_broken_off: bool) -> &'static str
+    ensures { result.now ≡ text_shown (broken_off is_broken_off) }
+{
+    if is_broken_off { "\u{FFFD}" } else { "" }
+}
+
+/// The text of the end, behind what is kept.
 #[tactic(auto, unfolding(crate::specs::Decoding::reading_of))]
-pub fn breaks_off(encoding: Encoding, kept: Kept) -> bool
-    ensures { result ≡ (reading_of encoding).breaks_off kept }
+pub fn text_at_end(encoding: Encoding, kept: Kept) -> &'static str
+    ensures { result.now ≡ text_shown ((reading_of encoding).ending kept) }
 {
     match encoding {
-        Encoding::EucJp => euc_jp_breaks_off(kept),
-        Encoding::Big5 | Encoding::ShiftJis | Encoding::EucKr => lead_breaks_off(lead_of(kept)),
-        Encoding::Utf16be | Encoding::Utf16le => utf_16_breaks_off(kept),
+        Encoding::EucJp => broken_off(euc_jp_breaks_off(kept)),
+        Encoding::Big5 | Encoding::ShiftJis | Encoding::EucKr => broken_off(lead_breaks_off(lead_of(
+            kept,
+        ))),
+        Encoding::Utf16be | Encoding::Utf16le => broken_off(utf_16_breaks_off(kept)),
         Encoding::Utf8 | Encoding::Replacement | Encoding::XUserDefined | Encoding::SingleByte(_) =>
-            false,
+            "",
     }
 }
 
@@ -81,6 +87,21 @@ fn push_shown(text: &mut String, shown: Shown) -> Result<(), AllocError>
     }
 }
 
+// Whether U+FFFD stands for bytes in what a step shows.
+fn step_has_error(step: Step) -> bool
+    ensures { result ≡ step_has_error step }
+{
+    is_error(step.before) || is_error(step.shown)
+}
+
+// Appends what a step shows.
+fn push_step(text: &mut String, step: Step) -> Result<(), AllocError>
+    ensures { IfOk result (λ _. string_bytes text.new ≡ string_bytes text.old ++ text_of_step step) }
+{
+    push_shown(text, step.before)?;
+    push_shown(text, step.shown)
+}
+
 /// What is kept behind bytes, and whether U+FFFD stands for some of them.
 #[derive(Clone, Copy, Debug, PartialEq, Eq)]
 pub struct Behind {
@@ -105,10 +126,10 @@ pub fn push_steps(
     };
     for &byte in bytes {
         let next = step(encoding, behind.kept, byte);
-        push_shown(text, next.shown)?;
+        push_step(text, next)?;
         behind = Behind {
             kept: next.kept,
-            has_errors: behind.has_errors || is_error(next.shown),
+            has_errors: behind.has_errors || step_has_error(next),
         };
     }
     Ok(behind)

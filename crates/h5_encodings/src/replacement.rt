@@ -13,8 +13,5 @@ pub fn replacement_step(kept: Kept) -> Step
         Kept::Told => Shown::Nothing,
         _ => Shown::Error,
     };
-    Step {
-        shown,
-        kept: Kept::Told,
-    }
+    Step::of(shown, Kept::Told)
 }

@@ -60,16 +60,10 @@ fn first(byte: u8) -> Step
     ensures { result ≡ first byte }
 {
     if byte == 0x80 {
-        return Step {
-            shown: Shown::Character(byte as char),
-            kept: Kept::Nothing,
-        };
+        return Step::of(Shown::Character(byte as char), Kept::Nothing);
     }
     if is_between(0xA1, 0xDF, byte) {
-        return Step {
-            shown: Shown::Character(katakana(byte)),
-            kept: Kept::Nothing,
-        };
+        return Step::of(Shown::Character(katakana(byte)), Kept::Nothing);
     }
     first_byte(
         is_between(0x81, 0x9F, byte) || is_between(0xE0, 0xFC, byte),

@@ -20,8 +20,5 @@ pub fn single_byte_step(encoding: SingleByte, byte: u8) -> Step
             Shown::Character(character)
         }
     };
-    Step {
-        shown,
-        kept: Kept::Nothing,
-    }
+    Step::of(shown, Kept::Nothing)
 }

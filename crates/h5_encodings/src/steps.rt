@@ -1,4 +1,6 @@
 //! What a byte shows, and what is kept for the bytes behind it.
+ghost use Rattle.std.specs.Prelude.{◌≡◌};
+ghost use Rattle.h5_encodings.specs.Steps.{shows};
 
 /// What a decoder keeps of bytes whose text isn't decided yet.
 #[derive(Clone, Copy, Debug, PartialEq, Eq)]
@@ -30,9 +32,24 @@ pub enum Shown {
     ErrorAnd(char),
 }
 
-/// A step: what a byte shows, and what is kept behind it.
+/// A step: what is shown of bytes that were kept and are no character by themselves, what the byte shows behind that, and what is
+/// kept behind it.
 #[derive(Clone, Copy, Debug, PartialEq, Eq)]
 pub struct Step {
+    pub before: Shown,
     pub shown: Shown,
     pub kept: Kept,
+}
+
+impl Step {
+    /// A step that shows nothing of what was kept.
+    pub fn of(shown: Shown, kept: Kept) -> Step
+        ensures { result ≡ shows shown kept }
+    {
+        Step {
+            before: Shown::Nothing,
+            shown,
+            kept,
+        }
+    }
 }

@@ -19,8 +19,5 @@ fn character(byte: u8) -> char
 pub fn user_defined_step(byte: u8) -> Step
     ensures { result ≡ user_defined_step byte }
 {
-    Step {
-        shown: Shown::Character(character(byte)),
-        kept: Kept::Nothing,
-    }
+    Step::of(Shown::Character(character(byte)), Kept::Nothing)
 }

@@ -20,21 +20,12 @@ fn of_unit(unit: u16) -> Step
     ensures { result ≡ of_unit unit }
 {
     match char::from_u32(unit as u32) {
-        Some(character) => Step {
-            shown: Shown::Character(character),
-            kept: Kept::Nothing,
-        },
+        Some(character) => Step::of(Shown::Character(character), Kept::Nothing),
         None => {
             if unit < 0xdc00 {
-                Step {
-                    shown: Shown::Nothing,
-                    kept: Kept::Leading(unit),
-                }
+                Step::of(Shown::Nothing, Kept::Leading(unit))
             } else {
-                Step {
-                    shown: Shown::Error,
-                    kept: Kept::Nothing,
-                }
+                Step::of(Shown::Error, Kept::Nothing)
             }
         }
     }
@@ -54,20 +45,11 @@ fn behind_leading(leading: u16, unit: u16) -> Step
     ensures { result ≡ behind_leading leading unit }
 {
     if 0xdc00 <= unit && unit <= 0xdfff {
-        return Step {
-            shown: Shown::Character(pair(leading, unit)),
-            kept: Kept::Nothing,
-        };
+        return Step::of(Shown::Character(pair(leading, unit)), Kept::Nothing);
     }
     match char::from_u32(unit as u32) {
-        Some(character) => Step {
-            shown: Shown::ErrorAnd(character),
-            kept: Kept::Nothing,
-        },
-        None => Step {
-            shown: Shown::Error,
-            kept: Kept::Leading(unit),
-        },
+        Some(character) => Step::of(Shown::ErrorAnd(character), Kept::Nothing),
+        None => Step::of(Shown::Error, Kept::Leading(unit)),
     }
 }
 
@@ -76,15 +58,12 @@ pub fn utf_16_step(is_big_endian: bool, kept: Kept, byte: u8) -> Step
     ensures { result ≡ utf_16_step is_big_endian kept byte }
 {
     match kept {
-        Kept::Nothing | Kept::Told | Kept::Lead(_) | Kept::Jis0212(_) => Step {
-            shown: Shown::Nothing,
-            kept: Kept::Half(byte),
-        },
+        Kept::Nothing | Kept::Told | Kept::Lead(_) | Kept::Jis0212(_) => Step::of(
+            Shown::Nothing,
+            Kept::Half(byte),
+        ),
         Kept::Half(first) => of_unit(unit_of(is_big_endian, first, byte)),
-        Kept::Leading(leading) => Step {
-            shown: Shown::Nothing,
-            kept: Kept::LeadingHalf(leading, byte),
-        },
+        Kept::Leading(leading) => Step::of(Shown::Nothing, Kept::LeadingHalf(leading, byte)),
         Kept::LeadingHalf(leading, first) => {
             behind_leading(leading, unit_of(is_big_endian, first, byte))
         }
