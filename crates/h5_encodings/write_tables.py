@@ -83,34 +83,69 @@ unfoldable pub {function} : List ℕ
 """
 
 
+RANGES = """//! The index {name} ranges: pointers, and the code points that stand at them. `write_tables.py` writes this file.
+ghost use Rattle.std.specs.Prelude.{{◌≡◌}};
+ghost use Rattle.h5_encodings.specs.{module}.{{{function}}};
+
+#[rattlefmt::skip]
+pub static {constant}: [(u32, char); {count}] = [
+{rows}];
+
+/// The index {name} ranges (Encoding Standard, section 5, "Indexes").
+#[tactic(auto, unfolding(crate::specs::{module}::{function}))]
+pub fn {function}() -> &'static [(u32, char)]
+    ensures {{ result.now ≡ {function} }}
+{{
+    &{constant}
+}}
+"""
+
+CLOSED_RANGES = """-- The index {name} ranges: the table that the code reads. It stays closed, so that no proof computes with it. `write_tables.py`
+-- writes this file.
+use Rattle.std.specs.Prelude.{{ℕ, List}}
+use Rattle.h5_encodings.specs.declared.{file}.TheConstants.{{{constant}}}
+
+unfoldable pub {function} : List (ℕ × ℕ)
+{function} = {constant}
+"""
+
+
 def read_indexes():
-    """The name and the code points of each index."""
+    """The name and the code points of each index, or its pairs of a pointer and a code point."""
     indexes = []
     for line in open(os.path.join(CRATE, "indexes.txt"), encoding="utf-8"):
         words = line.split()
         if not words or words[0] == "#":
             continue
-        if words[0] == "index":
-            indexes.append((words[1], []))
+        if words[0] in ("index", "ranges"):
+            indexes.append((words[0], words[1], []))
         elif words[0] == "codes":
-            indexes[-1][1].extend(int(word, 16) for word in words[1:])
+            indexes[-1][2].extend(int(word, 16) for word in words[1:])
+        elif words[0] == "rows":
+            indexes[-1][2].extend(word.split(":") for word in words[1:])
         else:
             sys.exit(f"indexes.txt: a line begins with {words[0]}")
     return indexes
 
 
-def index_files(name, codes):
-    file = name.lower().replace("-", "_") + "_index"
-    names = {
-        "name": name,
-        "file": file,
-        "function": file,
-        "module": "".join(word.capitalize() for word in file.split("_")),
-        "constant": constant(name),
-        "count": len(codes),
-        "rows": filled(f"'\\u{{{code:04X}}}'," if code else "'\\0'," for code in codes),
-    }
-    return {f"src/{file}.rt": INDEX.format(**names), f"specs/{names['module']}.antt": CLOSED_INDEX.format(**names)}
+def names_of(name, ending, rows):
+    file = f"{name.lower().replace('-', '_')}_{ending}"
+    module = "".join(word.capitalize() for word in file.split("_"))
+    return {"name": name, "file": file, "function": file, "module": module, "count": len(rows)}
+
+
+def index_files(kind, name, rows):
+    if kind == "index":
+        names = names_of(name, "index", rows)
+        names["constant"] = constant(name)
+        names["rows"] = filled(f"'\\u{{{code:04X}}}'," if code else "'\\0'," for code in rows)
+        code, closed = INDEX, CLOSED_INDEX
+    else:
+        names = names_of(name, "ranges", rows)
+        names["constant"] = names["file"].upper()
+        names["rows"] = filled(f"({pointer}, '\\u{{{code}}}')," for pointer, code in rows)
+        code, closed = RANGES, CLOSED_RANGES
+    return {f"src/{names['file']}.rt": code.format(**names), f"specs/{names['module']}.antt": closed.format(**names)}
 
 
 def read():
@@ -239,8 +274,8 @@ def main():
         "specs/Names.antt": names_file(encodings),
         "specs/UpperHalf.antt": half_file(encodings),
     }
-    for name, codes in read_indexes():
-        files.update(index_files(name, codes))
+    for kind, name, rows in read_indexes():
+        files.update(index_files(kind, name, rows))
     differ = []
     for path, text in files.items():
         whole = os.path.join(CRATE, path)

@@ -11,6 +11,7 @@ use Rattle.h5_encodings.specs.declared.steps.Step.{Step}
 use Rattle.h5_encodings.specs.Steps.{Reading, broken_off, shows, text_of}
 use Rattle.h5_encodings.specs.SingleByte.{single_byte_step}
 use Rattle.h5_encodings.specs.MultiByte.{lead_breaks_off, lead_of}
+use Rattle.h5_encodings.specs.Gb18030.{gb18030_breaks_off, gb18030_step}
 use Rattle.h5_encodings.specs.Big5.{big5_step}
 use Rattle.h5_encodings.specs.EucJp.{euc_jp_breaks_off, euc_jp_step}
 use Rattle.h5_encodings.specs.ShiftJis.{shift_jis_step}
@@ -22,6 +23,8 @@ use Rattle.h5_encodings.specs.Replacement.{replacement_step}
 -- UTF-8 has a definition of its own, and isn't read in steps
 abbrev pub is_utf8 : Encoding → Bool
 is_utf8 e.Utf8 = true
+is_utf8 e.Gbk = false
+is_utf8 e.Gb18030 = false
 is_utf8 e.Big5 = false
 is_utf8 e.EucJp = false
 is_utf8 e.ShiftJis = false
@@ -34,6 +37,8 @@ is_utf8 (e.SingleByte encoding) = false
 
 abbrev pub step_in : Encoding → Kept → ℕ → Step
 step_in e.Utf8 kept b = shows Nothing kept
+step_in e.Gbk kept b = gb18030_step kept b
+step_in e.Gb18030 kept b = gb18030_step kept b
 step_in e.Big5 kept b = big5_step kept b
 step_in e.EucJp kept b = euc_jp_step kept b
 step_in e.ShiftJis kept b = shift_jis_step kept b
@@ -46,6 +51,8 @@ step_in (e.SingleByte encoding) kept b = single_byte_step encoding b
 
 abbrev pub ending_in : Encoding → Kept → Shown
 ending_in e.Utf8 kept = Nothing
+ending_in e.Gbk kept = broken_off (gb18030_breaks_off kept)
+ending_in e.Gb18030 kept = broken_off (gb18030_breaks_off kept)
 ending_in e.Big5 kept = broken_off (lead_breaks_off (lead_of kept))
 ending_in e.EucJp kept = broken_off (euc_jp_breaks_off kept)
 ending_in e.ShiftJis kept = broken_off (lead_breaks_off (lead_of kept))

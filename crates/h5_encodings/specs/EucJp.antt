@@ -29,6 +29,8 @@ euc_jp_step k.Told b = first_byte (is_lead b) b
 euc_jp_step (k.Half a) b = first_byte (is_lead b) b
 euc_jp_step (k.Leading u) b = first_byte (is_lead b) b
 euc_jp_step (k.LeadingHalf u a) b = first_byte (is_lead b) b
+euc_jp_step (k.TwoOfFour first second) b = first_byte (is_lead b) b
+euc_jp_step (k.ThreeOfFour first second third) b = first_byte (is_lead b) b
 euc_jp_step (k.Lead lead) b = behind_lead lead b
 euc_jp_step (k.Jis0212 lead) b = last_byte (code_point jis0212_index (pointer lead b)) b
 
@@ -39,5 +41,7 @@ euc_jp_breaks_off k.Told = false
 euc_jp_breaks_off (k.Half a) = false
 euc_jp_breaks_off (k.Leading u) = false
 euc_jp_breaks_off (k.LeadingHalf u a) = false
+euc_jp_breaks_off (k.TwoOfFour first second) = false
+euc_jp_breaks_off (k.ThreeOfFour first second third) = false
 euc_jp_breaks_off (k.Lead lead) = true
 euc_jp_breaks_off (k.Jis0212 lead) = true

@@ -3,11 +3,14 @@ pub mod UpperHalf
 pub mod Labels
 pub mod Steps
 pub mod SingleByte
+pub mod Gb18030Index
+pub mod Gb18030Ranges
 pub mod Big5Index
 pub mod EucKrIndex
 pub mod Jis0208Index
 pub mod Jis0212Index
 pub mod MultiByte
+pub mod Gb18030
 pub mod EucKr
 pub mod ShiftJis
 pub mod EucJp

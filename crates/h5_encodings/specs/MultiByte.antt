@@ -22,6 +22,8 @@ lead_of (k.Leading u) = None
 lead_of (k.LeadingHalf u a) = None
 lead_of (k.Lead lead) = Some lead
 lead_of (k.Jis0212 lead) = None
+lead_of (k.TwoOfFour first second) = None
+lead_of (k.ThreeOfFour first second third) = None
 
 -- the half-width katakana of a byte from A1 to DF
 abbrev pub katakana : ℕ → ℕ

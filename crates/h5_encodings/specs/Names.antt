@@ -37,6 +37,8 @@ single_byte_name XMacCyrillic = codes "x-mac-cyrillic"
 
 abbrev pub name_of : Encoding → List ℕ
 name_of e.Utf8 = codes "UTF-8"
+name_of e.Gbk = codes "GBK"
+name_of e.Gb18030 = codes "gb18030"
 name_of e.Big5 = codes "Big5"
 name_of e.EucJp = codes "EUC-JP"
 name_of e.ShiftJis = codes "Shift_JIS"

@@ -14,3 +14,5 @@ replacement_step (k.Jis0212 lead) = shows Error k.Told
 replacement_step (k.Half a) = shows Error k.Told
 replacement_step (k.Leading u) = shows Error k.Told
 replacement_step (k.LeadingHalf u a) = shows Error k.Told
+replacement_step (k.TwoOfFour first second) = shows Error k.Told
+replacement_step (k.ThreeOfFour first second third) = shows Error k.Told

@@ -58,6 +58,8 @@ declared_by has_pragma (ByCharset named) = named
 -- what is read in place of an encoding that a page can't name
 abbrev pub instead_of_utf16 : Encoding → Encoding
 instead_of_utf16 e.Utf8 = e.Utf8
+instead_of_utf16 e.Gbk = e.Gbk
+instead_of_utf16 e.Gb18030 = e.Gb18030
 instead_of_utf16 e.Big5 = e.Big5
 instead_of_utf16 e.EucJp = e.EucJp
 instead_of_utf16 e.ShiftJis = e.ShiftJis
@@ -70,6 +72,8 @@ instead_of_utf16 (e.SingleByte encoding) = e.SingleByte encoding
 
 abbrev pub instead_of : Encoding → Encoding
 instead_of e.Utf8 = e.Utf8
+instead_of e.Gbk = e.Gbk
+instead_of e.Gb18030 = e.Gb18030
 instead_of e.Big5 = e.Big5
 instead_of e.EucJp = e.EucJp
 instead_of e.ShiftJis = e.ShiftJis

@@ -14,6 +14,10 @@ pub record Reading : Type 0 where
 abbrev pub shows : Shown → Kept → Step
 shows shown kept = record { before = Nothing; shown = shown; kept = kept }
 
+-- a step, with what is shown of bytes that were kept before it
+abbrev pub after : Shown → Step → Step
+after before s = record s { before = before }
+
 -- an end shows an error where it breaks a character off, and else nothing
 abbrev pub broken_off : Bool → Shown
 broken_off true = Error

@@ -15,7 +15,9 @@ fn is_utf8(encoding: Encoding) -> bool
 {
     match encoding {
         Encoding::Utf8 => true,
-        Encoding::Big5
+        Encoding::Gbk
+        | Encoding::Gb18030
+        | Encoding::Big5
         | Encoding::EucJp
         | Encoding::ShiftJis
         | Encoding::EucKr

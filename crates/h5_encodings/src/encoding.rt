@@ -39,6 +39,8 @@ pub enum SingleByte {
 #[derive(Clone, Copy, Debug, PartialEq, Eq)]
 pub enum Encoding {
     Utf8,
+    Gbk,
+    Gb18030,
     Big5,
     EucJp,
     ShiftJis,
@@ -95,6 +97,8 @@ impl Encoding {
     {
         match self {
             Encoding::Utf8 => "UTF-8",
+            Encoding::Gbk => "GBK",
+            Encoding::Gb18030 => "gb18030",
             Encoding::Big5 => "Big5",
             Encoding::EucJp => "EUC-JP",
             Encoding::ShiftJis => "Shift_JIS",

@@ -3,7 +3,7 @@ use super::encoding::{Encoding, SingleByte};
 
 /// The labels, in lower case (Encoding Standard, section 4.2, "Names and labels").
 #[rattlefmt::skip]
-pub static LABELS: [(&str, Encoding); 216] = [
+pub static LABELS: [(&str, Encoding); 226] = [
     ("unicode-1-1-utf-8", Encoding::Utf8),
     ("unicode11utf8", Encoding::Utf8),
     ("unicode20utf8", Encoding::Utf8),
@@ -178,6 +178,16 @@ pub static LABELS: [(&str, Encoding); 216] = [
     ("x-cp1258", Encoding::SingleByte(SingleByte::Windows1258)),
     ("x-mac-cyrillic", Encoding::SingleByte(SingleByte::XMacCyrillic)),
     ("x-mac-ukrainian", Encoding::SingleByte(SingleByte::XMacCyrillic)),
+    ("chinese", Encoding::Gbk),
+    ("csgb2312", Encoding::Gbk),
+    ("csiso58gb231280", Encoding::Gbk),
+    ("gb2312", Encoding::Gbk),
+    ("gb_2312", Encoding::Gbk),
+    ("gb_2312-80", Encoding::Gbk),
+    ("gbk", Encoding::Gbk),
+    ("iso-ir-58", Encoding::Gbk),
+    ("x-gbk", Encoding::Gbk),
+    ("gb18030", Encoding::Gb18030),
     ("big5", Encoding::Big5),
     ("big5-hkscs", Encoding::Big5),
     ("cn-big5", Encoding::Big5),

@@ -7,6 +7,7 @@ use super::big5::big5_step;
 use super::encoding::Encoding;
 use super::euc_jp::{euc_jp_breaks_off, euc_jp_step};
 use super::euc_kr::euc_kr_step;
+use super::gb18030::{gb18030_breaks_off, gb18030_step};
 use super::multi_byte::{lead_breaks_off, lead_of};
 use super::replacement::replacement_step;
 use super::shift_jis::shift_jis_step;
@@ -23,6 +24,7 @@ fn step(encoding: Encoding, kept: Kept, byte: u8) -> Step
 {
     match encoding {
         Encoding::Utf8 => Step::of(Shown::Nothing, kept),
+        Encoding::Gbk | Encoding::Gb18030 => gb18030_step(kept, byte),
         Encoding::Big5 => big5_step(kept, byte),
         Encoding::EucJp => euc_jp_step(kept, byte),
         Encoding::ShiftJis => shift_jis_step(kept, byte),
@@ -48,6 +50,7 @@ pub fn text_at_end(encoding: Encoding, kept: Kept) -> &'static str
     ensures { result.now ≡ text_shown ((reading_of encoding).ending kept) }
 {
     match encoding {
+        Encoding::Gbk | Encoding::Gb18030 => broken_off(gb18030_breaks_off(kept)),
         Encoding::EucJp => broken_off(euc_jp_breaks_off(kept)),
         Encoding::Big5 | Encoding::ShiftJis | Encoding::EucKr => broken_off(lead_breaks_off(lead_of(
             kept,

@@ -91,6 +91,8 @@ pub fn instead_of_utf16(encoding: Encoding) -> Encoding
     match encoding {
         Encoding::Utf16be | Encoding::Utf16le => Encoding::Utf8,
         Encoding::Utf8
+        | Encoding::Gbk
+        | Encoding::Gb18030
         | Encoding::Big5
         | Encoding::EucJp
         | Encoding::ShiftJis
@@ -109,6 +111,8 @@ fn instead_of(encoding: Encoding) -> Encoding
         Encoding::XUserDefined => Encoding::SingleByte(SingleByte::Windows1252),
         Encoding::Utf16be | Encoding::Utf16le => Encoding::Utf8,
         Encoding::Utf8
+        | Encoding::Gbk
+        | Encoding::Gb18030
         | Encoding::Big5
         | Encoding::EucJp
         | Encoding::ShiftJis

@@ -1,6 +1,6 @@
 //! What a byte shows, and what is kept for the bytes behind it.
 ghost use Rattle.std.specs.Prelude.{◌≡◌};
-ghost use Rattle.h5_encodings.specs.Steps.{shows};
+ghost use Rattle.h5_encodings.specs.Steps.{after, shows};
 
 /// What a decoder keeps of bytes whose text isn't decided yet.
 #[derive(Clone, Copy, Debug, PartialEq, Eq)]
@@ -16,6 +16,10 @@ pub enum Kept {
     Lead(u8),
     /// The byte behind 8F, in EUC-JP.
     Jis0212(u8),
+    /// The first two bytes of a character of four, in gb18030.
+    TwoOfFour(u8, u8),
+    /// The first three.
+    ThreeOfFour(u8, u8, u8),
     /// That the one error of "replacement" has been told.
     Told,
 }
@@ -51,5 +55,12 @@ impl Step {
             shown,
             kept,
         }
+    }
+
+    /// The step, with what is shown of bytes that were kept before it.
+    pub fn after(self, before: Shown) -> Step
+        ensures { result ≡ after before self }
+    {
+        Step { before, ..self }
     }
 }

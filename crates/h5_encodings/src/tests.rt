@@ -16,6 +16,18 @@ fn text_of(alloc: Global, label: &str, front: &[u8], back: &[u8]) -> Result<Stri
     Ok(text)
 }
 
+// Whether bytes have a text, wherever they are cut in two.
+fn has_text(alloc: Global, label: &str, bytes: &[u8], expected: &str) -> Result<bool, Fail> {
+    for cut in 0..bytes.len() + 1 {
+        let (front, back) = bytes.split_at(cut);
+        let text = text_of(alloc, label, front, back)?;
+        if text.as_str() != expected {
+            return Ok(false);
+        }
+    }
+    Ok(true)
+}
+
 #[test]
 fn labels_name_encodings(rt: HostRuntime) -> Result<(), Fail> {
     let latin1 = Encoding::for_label(b" Latin1\n").ok_or("no encoding")?;
@@ -24,7 +36,8 @@ fn labels_name_encodings(rt: HostRuntime) -> Result<(), Fail> {
     let replacement = Encoding::for_label(b"hz-gb-2312").ok_or("no encoding")?;
     assert_eq!(rt; replacement.name(), "replacement");
     assert!(rt; Encoding::for_label(b"utf 8").is_none());
-    assert!(rt; Encoding::for_label(b"gbk").is_none());
+    let gbk = Encoding::for_label(b"GB2312").ok_or("no encoding")?;
+    assert_eq!(rt; gbk.name(), "GBK");
     Ok(())
 }
 
@@ -105,6 +118,92 @@ fn big5_is_read_across_chunks(rt: HostRuntime) -> Result<(), Fail> {
         broken.as_str(),
         "\u{FFFD}<\u{FFFD}\u{FFFD}\u{FFFD}\u{FFFD}"
     );
+    Ok(())
+}
+
+#[test]
+fn gbk_is_read_as_gb18030(rt: HostRuntime) -> Result<(), Fail> {
+    let alloc = rt.alloc();
+    assert!(rt;
+        has_text(
+            alloc,
+            "gbk",
+            b"a\xD6\xD0\x80\xFF",
+            "a\u{4E2D}\u{20AC}\u{FFFD}"
+        )?
+    );
+    assert!(rt;
+        has_text(
+            alloc,
+            "gb18030",
+            b"\xA2\xE3\xA3\xA0\xA8\xBC",
+            "\u{20AC}\u{3000}\u{1E3F}"
+        )?
+    );
+    assert!(rt;
+        has_text(
+            alloc,
+            "gbk",
+            b"\xA6\xD9\xA6\xF3\xFEY\xFE\xA0",
+            "\u{FE10}\u{FE19}\u{9FB4}\u{9FBB}"
+        )?
+    );
+    Ok(())
+}
+
+#[test]
+fn four_bytes_are_read_by_the_ranges(rt: HostRuntime) -> Result<(), Fail> {
+    let alloc = rt.alloc();
+    assert!(rt;
+        has_text(
+            alloc,
+            "gb18030",
+            b"\x810\x810\x815\xF47\x841\xA49",
+            "\u{80}\u{E7C7}\u{FFFF}"
+        )?
+    );
+    assert!(rt; has_text(alloc, "gbk", b"\x900\x810\xE32\x9A5", "\u{10000}\u{10FFFF}")?);
+    assert!(rt;
+        has_text(
+            alloc,
+            "gb18030",
+            b"\x841\xA50\x8F9\xFE9\xE32\x9A6",
+            "\u{FFFD}\u{FFFD}\u{FFFD}"
+        )?
+    );
+    Ok(())
+}
+
+#[test]
+fn the_digits_of_no_character_stand_for_themselves(rt: HostRuntime) -> Result<(), Fail> {
+    let alloc = rt.alloc();
+    assert!(rt;
+        has_text(
+            alloc,
+            "gb18030",
+            b"\x81<\x81\x7F\x81\xFF",
+            "\u{FFFD}<\u{FFFD}\u{7F}\u{FFFD}"
+        )?
+    );
+    assert!(rt;
+        has_text(
+            alloc,
+            "gb18030",
+            b"\x810<\x810\x80\x810\xFF\x8101",
+            "\u{FFFD}0<\u{FFFD}0\u{20AC}\u{FFFD}0\u{FFFD}\u{FFFD}01"
+        )?
+    );
+    assert!(rt;
+        has_text(
+            alloc,
+            "gb18030",
+            b"\x810\x81<\x810\xD6\xD0\x810\x81\xFF",
+            "\u{FFFD}0\u{FFFD}<\u{FFFD}0\u{4E2D}\u{FFFD}0\u{FFFD}"
+        )?
+    );
+    assert!(rt; has_text(alloc, "gb18030", b"\x81", "\u{FFFD}")?);
+    assert!(rt; has_text(alloc, "gb18030", b"\x810", "\u{FFFD}")?);
+    assert!(rt; has_text(alloc, "gb18030", b"\x810\x81", "\u{FFFD}")?);
     Ok(())
 }
 

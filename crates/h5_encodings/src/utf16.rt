@@ -58,10 +58,12 @@ pub fn utf_16_step(is_big_endian: bool, kept: Kept, byte: u8) -> Step
     ensures { result ≡ utf_16_step is_big_endian kept byte }
 {
     match kept {
-        Kept::Nothing | Kept::Told | Kept::Lead(_) | Kept::Jis0212(_) => Step::of(
-            Shown::Nothing,
-            Kept::Half(byte),
-        ),
+        Kept::Nothing
+        | Kept::Told
+        | Kept::Lead(_)
+        | Kept::Jis0212(_)
+        | Kept::TwoOfFour(_, _)
+        | Kept::ThreeOfFour(_, _, _) => Step::of(Shown::Nothing, Kept::Half(byte)),
         Kept::Half(first) => of_unit(unit_of(is_big_endian, first, byte)),
         Kept::Leading(leading) => Step::of(Shown::Nothing, Kept::LeadingHalf(leading, byte)),
         Kept::LeadingHalf(leading, first) => {
@@ -75,7 +77,12 @@ pub fn utf_16_breaks_off(kept: Kept) -> bool
     ensures { result ≡ utf_16_breaks_off kept }
 {
     match kept {
-        Kept::Nothing | Kept::Told | Kept::Lead(_) | Kept::Jis0212(_) => false,
+        Kept::Nothing
+        | Kept::Told
+        | Kept::Lead(_)
+        | Kept::Jis0212(_)
+        | Kept::TwoOfFour(_, _)
+        | Kept::ThreeOfFour(_, _, _) => false,
         Kept::Half(_) | Kept::Leading(_) | Kept::LeadingHalf(_, _) => true,
     }
 }
