@@ -14,6 +14,7 @@ use Rattle.h5_encodings.specs.MultiByte.{lead_breaks_off, lead_of}
 use Rattle.h5_encodings.specs.Gb18030.{gb18030_breaks_off, gb18030_step}
 use Rattle.h5_encodings.specs.Big5.{big5_step}
 use Rattle.h5_encodings.specs.EucJp.{euc_jp_breaks_off, euc_jp_step}
+use Rattle.h5_encodings.specs.Iso2022Jp.{iso_2022_jp_ending, iso_2022_jp_step}
 use Rattle.h5_encodings.specs.ShiftJis.{shift_jis_step}
 use Rattle.h5_encodings.specs.EucKr.{euc_kr_step}
 use Rattle.h5_encodings.specs.Utf16.{utf_16_step, utf_16_breaks_off}
@@ -27,6 +28,7 @@ is_utf8 e.Gbk = false
 is_utf8 e.Gb18030 = false
 is_utf8 e.Big5 = false
 is_utf8 e.EucJp = false
+is_utf8 e.Iso2022Jp = false
 is_utf8 e.ShiftJis = false
 is_utf8 e.EucKr = false
 is_utf8 e.Replacement = false
@@ -41,6 +43,7 @@ step_in e.Gbk kept b = gb18030_step kept b
 step_in e.Gb18030 kept b = gb18030_step kept b
 step_in e.Big5 kept b = big5_step kept b
 step_in e.EucJp kept b = euc_jp_step kept b
+step_in e.Iso2022Jp kept b = iso_2022_jp_step kept b
 step_in e.ShiftJis kept b = shift_jis_step kept b
 step_in e.EucKr kept b = euc_kr_step kept b
 step_in e.Replacement kept b = replacement_step kept
@@ -55,6 +58,7 @@ ending_in e.Gbk kept = broken_off (gb18030_breaks_off kept)
 ending_in e.Gb18030 kept = broken_off (gb18030_breaks_off kept)
 ending_in e.Big5 kept = broken_off (lead_breaks_off (lead_of kept))
 ending_in e.EucJp kept = broken_off (euc_jp_breaks_off kept)
+ending_in e.Iso2022Jp kept = iso_2022_jp_ending kept
 ending_in e.ShiftJis kept = broken_off (lead_breaks_off (lead_of kept))
 ending_in e.EucKr kept = broken_off (lead_breaks_off (lead_of kept))
 ending_in e.Replacement kept = Nothing

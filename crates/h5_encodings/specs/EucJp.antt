@@ -31,6 +31,7 @@ euc_jp_step (k.Leading u) b = first_byte (is_lead b) b
 euc_jp_step (k.LeadingHalf u a) b = first_byte (is_lead b) b
 euc_jp_step (k.TwoOfFour first second) b = first_byte (is_lead b) b
 euc_jp_step (k.ThreeOfFour first second third) b = first_byte (is_lead b) b
+euc_jp_step (k.Jp state) b = first_byte (is_lead b) b
 euc_jp_step (k.Lead lead) b = behind_lead lead b
 euc_jp_step (k.Jis0212 lead) b = last_byte (code_point jis0212_index (pointer lead b)) b
 
@@ -43,5 +44,6 @@ euc_jp_breaks_off (k.Leading u) = false
 euc_jp_breaks_off (k.LeadingHalf u a) = false
 euc_jp_breaks_off (k.TwoOfFour first second) = false
 euc_jp_breaks_off (k.ThreeOfFour first second third) = false
+euc_jp_breaks_off (k.Jp state) = false
 euc_jp_breaks_off (k.Lead lead) = true
 euc_jp_breaks_off (k.Jis0212 lead) = true

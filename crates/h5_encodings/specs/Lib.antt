@@ -12,6 +12,7 @@ pub mod Jis0212Index
 pub mod MultiByte
 pub mod Gb18030
 pub mod EucKr
+pub mod Iso2022Jp
 pub mod ShiftJis
 pub mod EucJp
 pub mod Big5

@@ -24,6 +24,7 @@ lead_of (k.Lead lead) = Some lead
 lead_of (k.Jis0212 lead) = None
 lead_of (k.TwoOfFour first second) = None
 lead_of (k.ThreeOfFour first second third) = None
+lead_of (k.Jp state) = None
 
 -- the half-width katakana of a byte from A1 to DF
 abbrev pub katakana : ℕ → ℕ

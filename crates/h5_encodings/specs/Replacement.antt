@@ -16,3 +16,4 @@ replacement_step (k.Leading u) = shows Error k.Told
 replacement_step (k.LeadingHalf u a) = shows Error k.Told
 replacement_step (k.TwoOfFour first second) = shows Error k.Told
 replacement_step (k.ThreeOfFour first second third) = shows Error k.Told
+replacement_step (k.Jp state) = shows Error k.Told

@@ -2,7 +2,7 @@
 use Rattle.std.specs.Prelude.{◌≡◌, ℕ, Bool, true, false, ◌||◌, List, [], ◌∷◌, ◌++◌, encode_utf8}
 use Rattle.h5_encodings.specs.declared.steps.Kept.{Kept}
 use Rattle.h5_encodings.specs.declared.steps.Shown.{Shown}
-use Rattle.h5_encodings.specs.declared.steps.Shown.TheVariants.{Nothing, Character, Two, Error, ErrorAnd}
+use Rattle.h5_encodings.specs.declared.steps.Shown.TheVariants.{Nothing, Character, Two, Error, ErrorAnd, TwoErrors}
 use Rattle.h5_encodings.specs.declared.steps.Step.{Step}
 
 -- how an encoding reads: what a byte shows behind what is kept, and what the end shows there
@@ -33,6 +33,7 @@ text_shown (Character c) = encode_utf8 c
 text_shown (Two c d) = encode_utf8 c ++ encode_utf8 d
 text_shown Error = encode_utf8 replacement_character
 text_shown (ErrorAnd c) = encode_utf8 replacement_character ++ encode_utf8 c
+text_shown TwoErrors = encode_utf8 replacement_character ++ encode_utf8 replacement_character
 
 -- whether U+FFFD stands for bytes in it
 abbrev pub is_error : Shown → Bool
@@ -41,6 +42,7 @@ is_error (Character c) = false
 is_error (Two c d) = false
 is_error Error = true
 is_error (ErrorAnd c) = true
+is_error TwoErrors = true
 
 -- what a step shows, of bytes that were kept and then of its byte, as a text; and whether U+FFFD stands for bytes in that
 abbrev pub text_of_step : Step → List ℕ

@@ -19,6 +19,7 @@ fn is_utf8(encoding: Encoding) -> bool
         | Encoding::Gb18030
         | Encoding::Big5
         | Encoding::EucJp
+        | Encoding::Iso2022Jp
         | Encoding::ShiftJis
         | Encoding::EucKr
         | Encoding::Replacement

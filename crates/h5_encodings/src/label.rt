@@ -32,8 +32,8 @@ fn trimmed(text: &[u8]) -> &[u8]
 }
 
 impl Encoding {
-    /// The encoding that a label names, in any ASCII case; ASCII blanks at its ends don't matter. `None` where it names none that
-    /// is read here (Encoding Standard, section 4.2, "Names and labels", "get an encoding").
+    /// The encoding that a label names, in any ASCII case; ASCII blanks at its ends don't matter. `None` where it names none
+    /// (Encoding Standard, section 4.2, "Names and labels", "get an encoding").
     #[tactic(auto, unfolding(crate::specs::Labels::all_labels))]
     pub fn for_label(label: &[u8]) -> Option<Encoding>
         ensures { result ≡ encoding_labelled label.now }

@@ -3,7 +3,7 @@ use super::encoding::{Encoding, SingleByte};
 
 /// The labels, in lower case (Encoding Standard, section 4.2, "Names and labels").
 #[rattlefmt::skip]
-pub static LABELS: [(&str, Encoding); 226] = [
+pub static LABELS: [(&str, Encoding); 228] = [
     ("unicode-1-1-utf-8", Encoding::Utf8),
     ("unicode11utf8", Encoding::Utf8),
     ("unicode20utf8", Encoding::Utf8),
@@ -196,6 +196,8 @@ pub static LABELS: [(&str, Encoding); 226] = [
     ("cseucpkdfmtjapanese", Encoding::EucJp),
     ("euc-jp", Encoding::EucJp),
     ("x-euc-jp", Encoding::EucJp),
+    ("csiso2022jp", Encoding::Iso2022Jp),
+    ("iso-2022-jp", Encoding::Iso2022Jp),
     ("csshiftjis", Encoding::ShiftJis),
     ("ms932", Encoding::ShiftJis),
     ("ms_kanji", Encoding::ShiftJis),

@@ -4,17 +4,16 @@
 //! chunks: of UTF-8 by `h5_reading`, and of the others by a step for each byte in `reading`, with what it shows and what is kept
 //! behind it in `steps`. Each family has its step in a file of its own: `single_byte` with its tables in `upper_halves`, `utf16`,
 //! `user_defined`, `replacement`, and of the encodings with several bytes for a character, which share `multi_byte`, `gb18030`,
-//! `big5`, `euc_jp`, `shift_jis` and `euc_kr`, with their tables in `gb18030_index`, `gb18030_ranges`, `big5_index`,
+//! `big5`, `euc_jp`, `iso_2022_jp`, `shift_jis` and `euc_kr`, with their tables in `gb18030_index`, `gb18030_ranges`, `big5_index`,
 //! `jis0208_index`, `jis0212_index` and `euc_kr_index`. `laws` has the law that cuts don't matter.
 //!
 //! `sniffing` decides the encoding of a page by its first 1,024 bytes. `prescan` looks for what they say of it: `cut` cuts bytes,
 //! `attribute` reads the attributes of a tag, `said` what those of a `meta` say, and `xml` an XML declaration.
 //!
-//! ISO-2022-JP is not read, and its labels name nothing here. The encodings, their labels and the characters
-//! of the single-byte encodings stand in `encodings.txt`, and the indexes in `indexes.txt`. Out of these `write_tables.py` writes
-//! `encoding`, `labels`, `upper_halves` and two files of definitions, and for each index a file of code and one of definitions.
-//! Begin with `specs/Steps.antt` and `specs/Decoding.antt`, then `src/decoder.rt`; of sniffing with `specs/Sniffing.antt` and
-//! `specs/Prescan.antt`.
+//! The encodings, their labels and the characters of the single-byte encodings stand in `encodings.txt`, and the indexes in
+//! `indexes.txt`. Out of these `write_tables.py` writes `encoding`, `labels`, `upper_halves` and two files of definitions, and for
+//! each index a file of code and one of definitions. Begin with `specs/Steps.antt` and `specs/Decoding.antt`, then
+//! `src/decoder.rt`; of sniffing with `specs/Sniffing.antt` and `specs/Prescan.antt`.
 #![tactic(auto)]
 
 mod attribute;
@@ -29,6 +28,7 @@ mod euc_kr_index;
 mod gb18030;
 mod gb18030_index;
 mod gb18030_ranges;
+mod iso_2022_jp;
 mod jis0208_index;
 mod jis0212_index;
 mod label;

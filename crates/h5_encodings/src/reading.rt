@@ -1,18 +1,19 @@
 //! Bytes that are read in steps.
 ghost use Rattle.std.specs.Prelude.{◌≡◌, ◌++◌, string_bytes, IfOk};
 ghost use Rattle.h5_encodings.specs.Decoding.{reading_of};
-ghost use Rattle.h5_encodings.specs.Steps.{broken_off, has_errors, is_error, kept_after, step_has_error, text_of_step, text_shown, text_so_far};
+ghost use Rattle.h5_encodings.specs.Steps.{has_errors, is_error, kept_after, step_has_error, text_of_step, text_shown, text_so_far};
 
 use super::big5::big5_step;
 use super::encoding::Encoding;
 use super::euc_jp::{euc_jp_breaks_off, euc_jp_step};
 use super::euc_kr::euc_kr_step;
 use super::gb18030::{gb18030_breaks_off, gb18030_step};
+use super::iso_2022_jp::{iso_2022_jp_step, iso_2022_jp_text_at_end};
 use super::multi_byte::{lead_breaks_off, lead_of};
 use super::replacement::replacement_step;
 use super::shift_jis::shift_jis_step;
 use super::single_byte::single_byte_step;
-use super::steps::{Kept, Shown, Step};
+use super::steps::{Kept, Shown, Step, broken_off};
 use super::user_defined::user_defined_step;
 use super::utf16::{utf_16_breaks_off, utf_16_step};
 use std::alloc::AllocError;
@@ -27,6 +28,7 @@ fn step(encoding: Encoding, kept: Kept, byte: u8) -> Step
         Encoding::Gbk | Encoding::Gb18030 => gb18030_step(kept, byte),
         Encoding::Big5 => big5_step(kept, byte),
         Encoding::EucJp => euc_jp_step(kept, byte),
+        Encoding::Iso2022Jp => iso_2022_jp_step(kept, byte),
         Encoding::ShiftJis => shift_jis_step(kept, byte),
         Encoding::EucKr => euc_kr_step(kept, byte),
         Encoding::Replacement => replacement_step(kept),
@@ -37,13 +39,6 @@ fn step(encoding: Encoding, kept: Kept, byte: u8) -> Step
     }
 }
 
-// The text of an end that breaks a character off, or doesn't.
-fn broken_off(is_broken_off: bool) -> &'static str
-    ensures { result.now ≡ text_shown (broken_off is_broken_off) }
-{
-    if is_broken_off { "\u{FFFD}" } else { "" }
-}
-
 /// The text of the end, behind what is kept.
 #[tactic(auto, unfolding(crate::specs::Decoding::reading_of))]
 pub fn text_at_end(encoding: Encoding, kept: Kept) -> &'static str
@@ -51,6 +46,7 @@ pub fn text_at_end(encoding: Encoding, kept: Kept) -> &'static str
 {
     match encoding {
         Encoding::Gbk | Encoding::Gb18030 => broken_off(gb18030_breaks_off(kept)),
+        Encoding::Iso2022Jp => iso_2022_jp_text_at_end(kept),
         Encoding::EucJp => broken_off(euc_jp_breaks_off(kept)),
         Encoding::Big5 | Encoding::ShiftJis | Encoding::EucKr => broken_off(lead_breaks_off(lead_of(
             kept,
@@ -67,7 +63,7 @@ fn is_error(shown: Shown) -> bool
 {
     match shown {
         Shown::Nothing | Shown::Character(_) | Shown::Two(_, _) => false,
-        Shown::Error | Shown::ErrorAnd(_) => true,
+        Shown::Error | Shown::ErrorAnd(_) | Shown::TwoErrors => true,
     }
 }
 
@@ -86,6 +82,10 @@ fn push_shown(text: &mut String, shown: Shown) -> Result<(), AllocError>
         Shown::ErrorAnd(character) => {
             text.push('\u{FFFD}')?;
             text.push(character)
+        }
+        Shown::TwoErrors => {
+            text.push('\u{FFFD}')?;
+            text.push('\u{FFFD}')
         }
     }
 }

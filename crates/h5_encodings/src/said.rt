@@ -95,6 +95,7 @@ pub fn instead_of_utf16(encoding: Encoding) -> Encoding
         | Encoding::Gb18030
         | Encoding::Big5
         | Encoding::EucJp
+        | Encoding::Iso2022Jp
         | Encoding::ShiftJis
         | Encoding::EucKr
         | Encoding::Replacement
@@ -115,6 +116,7 @@ fn instead_of(encoding: Encoding) -> Encoding
         | Encoding::Gb18030
         | Encoding::Big5
         | Encoding::EucJp
+        | Encoding::Iso2022Jp
         | Encoding::ShiftJis
         | Encoding::EucKr
         | Encoding::Replacement

@@ -1,6 +1,38 @@
 //! What a byte shows, and what is kept for the bytes behind it.
 ghost use Rattle.std.specs.Prelude.{◌≡◌};
-ghost use Rattle.h5_encodings.specs.Steps.{after, shows};
+ghost use Rattle.h5_encodings.specs.Steps.{after, broken_off, shows, text_shown};
+
+/// What bytes stand for in ISO-2022-JP, until an escape tells otherwise: the output state of its decoder.
+#[derive(Clone, Copy, Debug, PartialEq, Eq)]
+pub enum JpMode {
+    Ascii,
+    Roman,
+    Katakana,
+    TwoBytes,
+}
+
+/// What is kept of a character or of an escape in ISO-2022-JP.
+#[derive(Clone, Copy, Debug, PartialEq, Eq)]
+pub enum JpPart {
+    Nothing,
+    /// The first byte of a character of two.
+    Lead(u8),
+    /// ESC.
+    Escape,
+    /// ESC and `$`.
+    EscapeDollar,
+    /// ESC and `(`.
+    EscapeParenthesis,
+}
+
+/// Where a decoder of ISO-2022-JP stands.
+#[derive(Clone, Copy, Debug, PartialEq, Eq)]
+pub struct JpState {
+    pub mode: JpMode,
+    /// There was an escape, and neither a character nor an error behind it.
+    pub output_flag: bool,
+    pub part: JpPart,
+}
 
 /// What a decoder keeps of bytes whose text isn't decided yet.
 #[derive(Clone, Copy, Debug, PartialEq, Eq)]
@@ -20,6 +52,8 @@ pub enum Kept {
     TwoOfFour(u8, u8),
     /// The first three.
     ThreeOfFour(u8, u8, u8),
+    /// Where a decoder of ISO-2022-JP stands.
+    Jp(JpState),
     /// That the one error of "replacement" has been told.
     Told,
 }
@@ -34,6 +68,8 @@ pub enum Shown {
     Error,
     /// That, and a character behind it.
     ErrorAnd(char),
+    /// That twice, which only an end shows.
+    TwoErrors,
 }
 
 /// A step: what is shown of bytes that were kept and are no character by themselves, what the byte shows behind that, and what is
@@ -63,4 +99,11 @@ impl Step {
     {
         Step { before, ..self }
     }
+}
+
+/// The text of an end that breaks a character off, or doesn't.
+pub fn broken_off(is_broken_off: bool) -> &'static str
+    ensures { result.now ≡ text_shown (broken_off is_broken_off) }
+{
+    if is_broken_off { "\u{FFFD}" } else { "" }
 }

@@ -104,6 +104,134 @@ fn euc_jp_is_read_across_chunks(rt: HostRuntime) -> Result<(), Fail> {
 }
 
 #[test]
+fn escapes_say_how_iso_2022_jp_is_read(rt: HostRuntime) -> Result<(), Fail> {
+    let alloc = rt.alloc();
+    assert!(rt;
+        has_text(
+            alloc,
+            "iso-2022-jp",
+            b"a\\~\x0E\x0F\x80",
+            "a\\~\u{FFFD}\u{FFFD}\u{FFFD}"
+        )?
+    );
+    assert!(rt;
+        has_text(
+            alloc,
+            "iso-2022-jp",
+            b"\x1B(J\\~a\x0E",
+            "\u{A5}\u{203E}a\u{FFFD}"
+        )?
+    );
+    assert!(rt;
+        has_text(
+            alloc,
+            "iso-2022-jp",
+            b"\x1B(I1` ",
+            "\u{FF71}\u{FFFD}\u{FFFD}"
+        )?
+    );
+    assert!(rt;
+        has_text(
+            alloc,
+            "iso-2022-jp",
+            b"\x1B$BF|K\\\x1B(Ba",
+            "\u{65E5}\u{672C}a"
+        )?
+    );
+    assert!(rt;
+        has_text(
+            alloc,
+            "iso-2022-jp",
+            b"\x1B$@F|\nF\x80F\x0E\x1B(B",
+            "\u{65E5}\u{FFFD}\u{FFFD}\u{FFFD}"
+        )?
+    );
+    assert!(rt; has_text(alloc, "iso-2022-jp", b"\x1B$BF\x1B(Ba", "\u{FFFD}a")?);
+    Ok(())
+}
+
+#[test]
+fn two_escapes_in_a_row_are_an_error(rt: HostRuntime) -> Result<(), Fail> {
+    let alloc = rt.alloc();
+    assert!(rt; has_text(alloc, "csiso2022jp", b"\x1B(J\x1B(Ba", "\u{FFFD}a")?);
+    assert!(rt;
+        has_text(
+            alloc,
+            "csiso2022jp",
+            b"\x1B(B\x1B(B\x1B(B",
+            "\u{FFFD}\u{FFFD}"
+        )?
+    );
+    assert!(rt; has_text(alloc, "csiso2022jp", b"\x1B(I\x7F\x1B(J]", "\u{FFFD}]")?);
+    Ok(())
+}
+
+#[test]
+fn no_escape_is_read_again(rt: HostRuntime) -> Result<(), Fail> {
+    let alloc = rt.alloc();
+    assert!(rt;
+        has_text(
+            alloc,
+            "iso-2022-jp",
+            b"\x1Bx\x1B\x1B(Bb",
+            "\u{FFFD}x\u{FFFD}b"
+        )?
+    );
+    assert!(rt;
+        has_text(
+            alloc,
+            "iso-2022-jp",
+            b"\x1B(x\x1B$x",
+            "\u{FFFD}(x\u{FFFD}$x"
+        )?
+    );
+    assert!(rt; has_text(alloc, "iso-2022-jp", b"\x1B(J\x1B(\\", "\u{FFFD}(\u{A5}")?);
+    assert!(rt;
+        has_text(
+            alloc,
+            "iso-2022-jp",
+            b"\x1B(I\x1B(x\x1B$x",
+            "\u{FFFD}\u{FF68}\u{FFFD}\u{FFFD}\u{FF64}\u{FFFD}"
+        )?
+    );
+    assert!(rt;
+        has_text(
+            alloc,
+            "iso-2022-jp",
+            b"\x1B$B\x1B(x\x1B$F\x1B(\n",
+            "\u{FFFD}\u{FFFD}\u{FFFD}\u{3066}\u{FFFD}\u{FFFD}"
+        )?
+    );
+    assert!(rt; has_text(alloc, "iso-2022-jp", b"\x1B$\x1B(Ba", "\u{FFFD}$a")?);
+    assert!(rt;
+        has_text(
+            alloc,
+            "iso-2022-jp",
+            b"\x1B$B\x1B$\x1B(Ba",
+            "\u{FFFD}\u{FFFD}a"
+        )?
+    );
+    Ok(())
+}
+
+#[test]
+fn iso_2022_jp_ends_by_its_mode(rt: HostRuntime) -> Result<(), Fail> {
+    let alloc = rt.alloc();
+    assert!(rt; has_text(alloc, "iso-2022-jp", b"\x1B", "\u{FFFD}")?);
+    assert!(rt; has_text(alloc, "iso-2022-jp", b"\x1B$", "\u{FFFD}$")?);
+    assert!(rt; has_text(alloc, "iso-2022-jp", b"\x1B(", "\u{FFFD}(")?);
+    assert!(rt; has_text(alloc, "iso-2022-jp", b"\x1B(J\x1B$", "\u{FFFD}$")?);
+    assert!(rt; has_text(alloc, "iso-2022-jp", b"\x1B(I\x1B$", "\u{FFFD}\u{FF64}")?);
+    assert!(rt; has_text(alloc, "iso-2022-jp", b"\x1B(I\x1B(", "\u{FFFD}\u{FF68}")?);
+    assert!(rt; has_text(alloc, "iso-2022-jp", b"\x1B$B\x1B$", "\u{FFFD}\u{FFFD}")?);
+    assert!(rt; has_text(alloc, "iso-2022-jp", b"\x1B$B\x1B(", "\u{FFFD}\u{FFFD}")?);
+    assert!(rt; has_text(alloc, "iso-2022-jp", b"\x1B$BF", "\u{FFFD}")?);
+    assert!(rt; has_text(alloc, "iso-2022-jp", b"\x1B$B\x1B", "\u{FFFD}")?);
+    assert!(rt; has_text(alloc, "iso-2022-jp", b"\x1B$B", "")?);
+    Ok(())
+}
+
+#[test]
 fn big5_is_read_across_chunks(rt: HostRuntime) -> Result<(), Fail> {
     let alloc = rt.alloc();
     let chinese = text_of(alloc, "big5", b"\xA4", b"\xA4\xA4\xE5\x87\x40")?;

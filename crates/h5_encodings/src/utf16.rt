@@ -63,7 +63,8 @@ pub fn utf_16_step(is_big_endian: bool, kept: Kept, byte: u8) -> Step
         | Kept::Lead(_)
         | Kept::Jis0212(_)
         | Kept::TwoOfFour(_, _)
-        | Kept::ThreeOfFour(_, _, _) => Step::of(Shown::Nothing, Kept::Half(byte)),
+        | Kept::ThreeOfFour(_, _, _)
+        | Kept::Jp(_) => Step::of(Shown::Nothing, Kept::Half(byte)),
         Kept::Half(first) => of_unit(unit_of(is_big_endian, first, byte)),
         Kept::Leading(leading) => Step::of(Shown::Nothing, Kept::LeadingHalf(leading, byte)),
         Kept::LeadingHalf(leading, first) => {
@@ -82,7 +83,8 @@ pub fn utf_16_breaks_off(kept: Kept) -> bool
         | Kept::Lead(_)
         | Kept::Jis0212(_)
         | Kept::TwoOfFour(_, _)
-        | Kept::ThreeOfFour(_, _, _) => false,
+        | Kept::ThreeOfFour(_, _, _)
+        | Kept::Jp(_) => false,
         Kept::Half(_) | Kept::Leading(_) | Kept::LeadingHalf(_, _) => true,
     }
 }

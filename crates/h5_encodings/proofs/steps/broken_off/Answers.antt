@@ -1,7 +1,7 @@
-use Rattle.std.proofs.Common.{◌≡◌, sym, ap}
+use Rattle.std.proofs.Common.{sym, ap}
 use Rattle.std.specs.Char.{encode_utf8}
 use Rattle.h5_encodings.specs.Steps.{broken_off, text_shown}
-use Rattle.h5_encodings.proofs.reading.broken_off.Goals as goal
+use Rattle.h5_encodings.proofs.steps.broken_off.Goals as goal
 
 pub returns-then-is_broken_off : goal.returns-then-is_broken_off
 unfolding encode_utf8
