@@ -35,7 +35,7 @@ extern "C" {
 #define HENGARUTO_MEMORY 1u       /* malloc refused, or the tree takes 4 GiB or has 16,777,215 names */
 #define HENGARUTO_NO_NODE 2u      /* no such node, row or name */
 #define HENGARUTO_NO_TREE 3u      /* these bytes are no block */
-#define HENGARUTO_BAD_ARGUMENT 4u /* a name or a selector that is no UTF-8, or a namespace that isn't HTML, MathML or SVG */
+#define HENGARUTO_BAD_ARGUMENT 4u /* a name or a selector that is no UTF-8, a namespace that isn't HTML, MathML or SVG, an unknown label */
 #define HENGARUTO_BAD_SELECTOR 5u /* a selector that isn't one */
 
 #define HENGARUTO_NONE 0xffffffffu /* no node, no name */
@@ -67,6 +67,17 @@ extern "C" {
 /* The tree of a page of UTF-8 (HTML standard, section 13.2). A wrong byte is U+FFFD, as in a browser. */
 uint32_t hengaruto_parse(const unsigned char *page, size_t page_length, uint32_t options, unsigned char **block, size_t *length)
     HENGARUTO_GIVE;
+
+/* Of a page in whatever encoding: the name of its encoding in ASCII, as the Encoding Standard writes it. It is known by a byte order mark;
+ * else by the label, which is that of the header Content-Type ("" where it says none; a label of no encoding is none, too); else by what
+ * the first 1,024 bytes say (section 13.2.3.2). Where nothing says it the name is empty. */
+uint32_t hengaruto_encoding(const unsigned char *page, size_t page_length, const unsigned char *label, size_t label_length,
+                            unsigned char **name, size_t *length) HENGARUTO_GIVE;
+
+/* Its text in UTF-8, by a label or a name of its encoding: what hengaruto_parse takes. U+FFFD stands for each wrong byte, as the encoding's
+ * decoder tells them; a byte order mark stays. HENGARUTO_BAD_ARGUMENT where no encoding has the label. */
+uint32_t hengaruto_decode(const unsigned char *bytes, size_t bytes_length, const unsigned char *label, size_t label_length,
+                          unsigned char **text, size_t *length) HENGARUTO_GIVE;
 
 /* The tree of a fragment (section 13.4), as innerHTML of an element with this name (as "div") and namespace makes it. */
 uint32_t hengaruto_parse_fragment(const unsigned char *page, size_t page_length, const unsigned char *context, size_t context_length,

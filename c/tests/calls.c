@@ -210,6 +210,36 @@ static void pages(void)
     CHECK(hengaruto_clean(bytes_of(""), 0, &given.bytes, &given.length) == HENGARUTO_OK && gave(given, ""));
 }
 
+static uint32_t encoding_of(const char *page, const char *label, struct given *given)
+{
+    return hengaruto_encoding(bytes_of(page), strlen(page), bytes_of(label), strlen(label), &given->bytes, &given->length);
+}
+
+static uint32_t decoded(const char *bytes, size_t count, const char *label, struct given *given)
+{
+    return hengaruto_decode(bytes_of(bytes), count, bytes_of(label), strlen(label), &given->bytes, &given->length);
+}
+
+static void encodings(void)
+{
+    struct given given;
+
+    CHECK(encoding_of("<meta charset=koi8-r>", "", &given) == HENGARUTO_OK && gave(given, "KOI8-R"));
+    CHECK(encoding_of("<meta charset=koi8-r>", " Latin1 ", &given) == HENGARUTO_OK && gave(given, "windows-1252"));
+    CHECK(encoding_of("<meta charset=koi8-r>", "no-such", &given) == HENGARUTO_OK && gave(given, "KOI8-R"));
+    CHECK(encoding_of("\xef\xbb\xbf", "latin1", &given) == HENGARUTO_OK && gave(given, "UTF-8"));
+    CHECK(encoding_of("<p>", "", &given) == HENGARUTO_OK && gave(given, ""));
+
+    CHECK(decoded("\xb1\xe2", 2, "euc-kr", &given) == HENGARUTO_OK && gave(given, "\xea\xb8\xb0"));
+    CHECK(decoded("\xe9\x80", 2, "ISO-8859-1", &given) == HENGARUTO_OK && gave(given, "\xc3\xa9\xe2\x82\xac"));
+    CHECK(decoded("a\0", 2, "utf-16le", &given) == HENGARUTO_OK && gave(given, "a"));
+    CHECK(decoded("\x82", 1, "shift_jis", &given) == HENGARUTO_OK && gave(given, "\xef\xbf\xbd"));
+    CHECK(decoded("", 0, "gb18030", &given) == HENGARUTO_OK && gave(given, ""));
+    given = (struct given){NULL, SOME};
+    CHECK(decoded("a", 1, "no-such", &given) == HENGARUTO_BAD_ARGUMENT);
+    CHECK(given.bytes == NULL && given.length == SOME);
+}
+
 static void places(void)
 {
     struct given tree = parsed(PAGE, 0);
@@ -322,6 +352,7 @@ int main(void)
     html();
     selects();
     pages();
+    encodings();
     places();
     names();
     rows();

@@ -48,6 +48,7 @@ void __wrap_free(void *memory)
 static const char PAGE[] = "<!doctype html><title>t</title><p class=a id=b>one <b>two</b><!--c--><svg xlink:href=x><a/></svg><x-y><table>"
                            "<td>q<template><i>x&amp;<a href=q>w</a></template><ul><li>1<li>2";
 static const char SELECTOR[] = "p.a > b, li:nth-child(2)", NO_SELECTOR[] = "p > [a=";
+static const char DECLARED[] = "<p a=b><meta http-equiv=content-type content='text/html; charset=koi8-r'>\xf7";
 static struct given tree;
 
 typedef uint32_t (*call)(struct given *given);
@@ -98,6 +99,16 @@ static uint32_t clean(struct given *given)
     return hengaruto_clean(bytes_of(PAGE), sizeof PAGE - 1, &given->bytes, &given->length);
 }
 
+static uint32_t encoding(struct given *given)
+{
+    return hengaruto_encoding(bytes_of(DECLARED), sizeof DECLARED - 1, bytes_of(""), 0, &given->bytes, &given->length);
+}
+
+static uint32_t decode(struct given *given)
+{
+    return hengaruto_decode(bytes_of(DECLARED), sizeof DECLARED - 1, bytes_of("koi8-r"), 6, &given->bytes, &given->length);
+}
+
 /* Refuses the first request of a call, then the second, and so on until none is. It answers how many there are. */
 static long refuse_each(const char *name, call made, uint32_t wanted)
 {
@@ -132,6 +143,8 @@ int main(void)
         uint32_t wanted;
     } calls[] = {
         {"parse", parse, HENGARUTO_OK},
+        {"encoding", encoding, HENGARUTO_OK},
+        {"decode", decode, HENGARUTO_OK},
         {"parse_fragment", parse_fragment, HENGARUTO_OK},
         {"html", html, HENGARUTO_OK},
         {"select", selects, HENGARUTO_OK},

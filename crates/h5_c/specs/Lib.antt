@@ -1,1 +1,4 @@
+pub mod Encodings
+pub mod Pages
+pub mod Selecting
 pub mod Status

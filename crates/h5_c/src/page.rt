@@ -1,49 +1,70 @@
 //! Whole pages: their texts, their links, and what is left of them.
+ghost use Rattle.std.specs.Prelude.{◌≡◌, ◌++◌, IfOk, OnOk};
+ghost use Rattle.std.specs.Str.Lossy.{utf8_lossy};
+ghost use Rattle.html_tree_builder.specs.Cleaned.{IsCleaned};
+ghost use Rattle.html_tree_builder.specs.TextPolicy.{text_rules};
+ghost use Rattle.h5_page.specs.Links.{link_text, link_texts};
+ghost use Rattle.h5_c.specs.Pages.{AreLinksOfPage, IsTextOfPage, bytes_of_link, bytes_of_links, text_opts};
+ghost use Rattle.h5_c.specs.Status.{HandsOutSuch};
+
 use super::parse::tree_of;
 use super::status::give;
-use h5_page::{TextOpts, links_of, text_with};
+use h5_page::{Link, TextOpts, links_of, text_with};
 use html_tree_builder::clean::{TextPolicy, clean};
-use html_tree_builder::utf8::Utf8LossyDecoder;
 use std::alloc::{AllocError, Global};
 
-// No width is that of lines as long as they are.
-fn width_of(width: usize) -> Option<usize> {
-    if width == 0 { None } else { Some(width) }
-}
-
-fn text_of(alloc: Global, page: &[u8], width: usize) -> Result<Vec<u8>, AllocError> {
-    let arena = tree_of(alloc, page, 0)?;
-    let opts = TextOpts {
-        width: width_of(width),
+// Lines of this width. No width is that of lines as long as they are.
+fn opts_by(width: usize) -> TextOpts
+    ensures { result ≡ text_opts width }
+{
+    TextOpts {
+        width: if width == 0 { None } else { Some(width) },
         has_numbers: false,
-    };
-    let page = text_with(alloc, &arena.at(arena.document()), opts)?;
-    Ok(page.text.into_bytes())
+    }
 }
 
-// Of each link where it leads, a NUL, its text, a NUL.
-fn link_bytes(alloc: Global, page: &[u8]) -> Result<Vec<u8>, AllocError> {
+fn text_of(alloc: Global, page: &[u8], width: usize) -> Result<Vec<u8>, AllocError>
+    ensures { IfOk result (λ text. IsTextOfPage page.now width text.items) }
+{
     let arena = tree_of(alloc, page, 0)?;
-    let mut bytes = Vec::new(alloc);
-    for link in links_of(alloc, &arena.at(arena.document()))? {
-        bytes.extend_from_slice(link.href.as_str().as_bytes())?;
-        bytes.push(0)?;
-        bytes.extend_from_slice(link.text.as_str().as_bytes())?;
-        bytes.push(0)?;
+    let laid = text_with(alloc, &arena.at(arena.document()), opts_by(width))?;
+    Ok(laid.text.into_bytes())
+}
+
+// Of a link where it leads, a NUL, its text, a NUL.
+fn put_link(bytes: &mut Vec<u8>, link: &Link) -> Result<(), AllocError>
+    ensures { OnOk result (bytes.new.items ≡ bytes.old.items ++ bytes_of_link (link_text link.now)) }
+{
+    bytes.extend_from_slice(link.href.as_str().as_bytes())?;
+    bytes.push(0)?;
+    bytes.extend_from_slice(link.text.as_str().as_bytes())?;
+    bytes.push(0)?;
+    Ok(())
+}
+
+fn put_links(bytes: &mut Vec<u8>, links: &[Link]) -> Result<(), AllocError>
+    ensures { OnOk result (bytes.new.items ≡ bytes.old.items ++ bytes_of_links (link_texts links.now)) }
+{
+    for link in links {
+        put_link(bytes, link)?;
     }
+    Ok(())
+}
+
+fn link_bytes(alloc: Global, page: &[u8]) -> Result<Vec<u8>, AllocError>
+    ensures { IfOk result (λ bytes. AreLinksOfPage page.now bytes.items) }
+{
+    let arena = tree_of(alloc, page, 0)?;
+    let links = links_of(alloc, &arena.at(arena.document()))?;
+    let mut bytes = Vec::new(alloc);
+    put_links(&mut bytes, links.as_slice())?;
     Ok(bytes)
 }
 
-// The text of bytes. U+FFFD stands for what is no UTF-8.
-fn decoded(alloc: Global, bytes: &[u8]) -> Result<String, AllocError> {
-    let mut decoder = Utf8LossyDecoder::new(alloc);
-    let mut text = decoder.decode(bytes)?;
-    text.push_str(decoder.finish())?;
-    Ok(text)
-}
-
-fn cleaned(alloc: Global, html: &[u8]) -> Result<Vec<u8>, AllocError> {
-    let html = decoded(alloc, html)?;
+fn cleaned(alloc: Global, html: &[u8]) -> Result<Vec<u8>, AllocError>
+    ensures { IfOk result (λ left. IsCleaned text_rules (utf8_lossy html.now) left.items) }
+{
+    let html = String::from_utf8_lossy(alloc, html)?;
     let left = clean(alloc, html.as_str(), &TextPolicy)?;
     Ok(left.into_bytes())
 }
@@ -56,7 +77,9 @@ pub extern "C" fn hengaruto_page_text(
     width: usize,
     text: &mut *mut u8,
     length: &mut usize,
-) -> u32 {
+) -> u32
+    ensures { HandsOutSuch (IsTextOfPage page.now width) result length.new }
+{
     give(text_of(alloc, page, width), text, length)
 }
 
@@ -67,7 +90,9 @@ pub extern "C" fn hengaruto_page_links(
     page: &[u8],
     links: &mut *mut u8,
     length: &mut usize,
-) -> u32 {
+) -> u32
+    ensures { HandsOutSuch (AreLinksOfPage page.now) result length.new }
+{
     give(link_bytes(alloc, page), links, length)
 }
 
@@ -78,6 +103,8 @@ pub extern "C" fn hengaruto_clean(
     html: &[u8],
     cleaned_html: &mut *mut u8,
     length: &mut usize,
-) -> u32 {
+) -> u32
+    ensures { HandsOutSuch (IsCleaned text_rules (utf8_lossy html.now)) result length.new }
+{
     give(cleaned(alloc, html), cleaned_html, length)
 }

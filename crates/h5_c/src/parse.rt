@@ -1,43 +1,72 @@
 //! Parsing: bytes become a block.
+ghost use Rattle.std.specs.Prelude.{◌≡◌, ◌≤◌, ℕ, [], IfOk, List, None, Some, option_map, true};
+ghost use Rattle.std.specs.Str.{IsUtf8};
+ghost use Rattle.html_tree_builder.specs.ArenaModel.{arena_choices, new_arena, place, seen_of};
+ghost use Rattle.html_tree_builder.specs.Fragments.{first_in_new, opts_in_context};
+ghost use Rattle.html_tree_builder.specs.Held.{building};
+ghost use Rattle.html_tree_builder.specs.StandardReader.{first};
+ghost use Rattle.h5_c.specs.Pages.{IsBlockOfFragment, IsBlockOfPage, IsFragmentTree, IsTree, context_name, context_url, is_scripting, is_srcdoc, options_of};
+ghost use Rattle.h5_c.specs.Status.{HandsOutSuch};
+
 use super::status::{BAD_ARGUMENT, give};
 use h5_flat::{columns_of_document, columns_of_fragment};
 use html_tree_builder::{
-    Arena, LocalName, Namespace, ParseOpts, QualName, namespaces, parse_document, parse_fragment,
+    Arena, LocalName, Namespace, ParseOpts, Parser, QualName, namespaces, parse_document,
+    parse_fragment,
 };
 use std::alloc::{AllocError, Global};
 
-// What stands in `noscript` is one text, as where scripts run.
-const SCRIPTING: u32 = 1;
-
-// The page is the `srcdoc` of an `iframe`.
-const IFRAME_SRCDOC: u32 = 2;
-
-fn is_scripting(options: u32) -> bool {
-    options & SCRIPTING != 0
+// What stands in `noscript` is one text, as where scripts run: the first bit.
+fn is_scripting(options: u32) -> bool
+    ensures { result ≡ is_scripting options }
+{
+    options % 2 == 1
 }
 
-fn opts_of(options: u32) -> ParseOpts {
+// The page is the `srcdoc` of an `iframe`: the second bit.
+fn is_srcdoc(options: u32) -> bool
+    ensures { result ≡ is_srcdoc options }
+{
+    options / 2 % 2 == 1
+}
+
+fn opts_of(options: u32) -> ParseOpts
+    ensures { result ≡ options_of options }
+{
     let mut opts = ParseOpts::default();
     opts.tree_builder.scripting_enabled = is_scripting(options);
-    opts.tree_builder.iframe_srcdoc = options & IFRAME_SRCDOC != 0;
+    opts.tree_builder.iframe_srcdoc = is_srcdoc(options);
     opts
 }
 
-/// The tree of a page.
-pub(crate) fn tree_of(alloc: Global, page: &[u8], options: u32) -> Result<Arena, AllocError> {
-    let parser = parse_document(alloc, Arena::without_errors(alloc)?, opts_of(options));
-    parser.from_utf8().one(page).map_err(|_| AllocError)
+/// A parser of text that hasn't failed meets no other fault.
+pub(crate) fn refused<F: Drop>(_fault: F) -> AllocError {
+    AllocError
 }
 
-fn block_of(alloc: Global, page: &[u8], options: u32) -> Result<Vec<u8>, AllocError> {
+/// The tree of a page.
+pub(crate) fn tree_of(alloc: Global, page: &[u8], options: u32) -> Result<Arena, AllocError>
+    ensures { IfOk result (λ arena. IsTree options page.now arena) }
+{
+    let parser = parse_document(alloc, Arena::without_errors(alloc)?, opts_of(options));
+    let arena = parser.from_utf8().one(page).map_err(refused)?;
+    Ok(arena)
+}
+
+fn block_of(alloc: Global, page: &[u8], options: u32) -> Result<Vec<u8>, AllocError>
+    ensures { IfOk result (λ block. IsBlockOfPage options page.now block.items) }
+{
     let arena = tree_of(alloc, page, options)?;
     let columns = columns_of_document(alloc, &arena)?;
     drop(arena);
-    columns.pack(alloc)
+    let block = columns.pack(alloc)?;
+    Ok(block)
 }
 
 // The namespace of a context, by its number.
-fn context_url(ns: u32) -> Option<&'static str> {
+fn context_url(ns: u32) -> Option<&'static str>
+    ensures { option_map (λ url. url.now) result ≡ context_url ns }
+{
     match ns {
         1 => Some(namespaces::HTML),
         2 => Some(namespaces::MATHML),
@@ -46,9 +75,25 @@ fn context_url(ns: u32) -> Option<&'static str> {
     }
 }
 
-fn context_of(alloc: Global, local: &str, url: &str) -> Result<QualName, AllocError> {
+fn context_of(alloc: Global, local: &str, url: &str) -> Result<QualName, AllocError>
+    ensures { IfOk result (λ name. name ≡ context_name local.now url.now) }
+{
     let ns = Namespace::new(alloc, url)?;
     Ok(QualName::new(None, ns, LocalName::new(alloc, local)?))
+}
+
+// A parser of a fragment in this context.
+fn parser_in(alloc: Global, context: QualName, options: u32) -> Result<Parser<Arena>, AllocError>
+    ensures builder { IfOk result (λ parser. building seen_of place parser.tokenizer.sink ≡ first_in_new arena_choices (seen_of new_arena) context [] (options_of options).tree_builder) }
+    ensures reader { IfOk result (λ parser. parser.tokenizer.reader ≡ first (opts_in_context (is_scripting options) (building seen_of place parser.tokenizer.sink).view.world (options_of options).tokenizer)) }
+    ensures waiting { IfOk result (λ parser. parser.waiting ≡ []) }
+{
+    let arena = Arena::without_errors(alloc)?;
+    let opts = opts_of(options);
+    let attrs = Vec::new(alloc);
+    let scripting = is_scripting(options);
+    let parser = parse_fragment(alloc, arena, opts, context, attrs, scripting).map_err(refused)?;
+    Ok(parser)
 }
 
 fn fragment_of(
@@ -56,14 +101,12 @@ fn fragment_of(
     page: &[u8],
     context: QualName,
     options: u32,
-) -> Result<Arena, AllocError> {
-    let arena = Arena::without_errors(alloc)?;
-    let attrs = Vec::new(alloc);
-    let scripting = is_scripting(options);
-    let parser = parse_fragment(alloc, arena, opts_of(options), context, attrs, scripting).map_err(
-        |_| AllocError,
-    )?;
-    parser.from_utf8().one(page).map_err(|_| AllocError)
+) -> Result<Arena, AllocError>
+    ensures { IfOk result (λ arena. IsFragmentTree options page.now context arena) }
+{
+    let parser = parser_in(alloc, context, options)?;
+    let arena = parser.from_utf8().one(page).map_err(refused)?;
+    Ok(arena)
 }
 
 fn fragment_block_of(
@@ -72,11 +115,15 @@ fn fragment_block_of(
     local: &str,
     url: &str,
     options: u32,
-) -> Result<Vec<u8>, AllocError> {
-    let arena = fragment_of(alloc, page, context_of(alloc, local, url)?, options)?;
+) -> Result<Vec<u8>, AllocError>
+    ensures { IfOk result (λ block. IsBlockOfFragment options page.now (context_name local.now url.now) block.items) }
+{
+    let context = context_of(alloc, local, url)?;
+    let arena = fragment_of(alloc, page, context, options)?;
     let columns = columns_of_fragment(alloc, &arena)?;
     drop(arena);
-    columns.pack(alloc)
+    let block = columns.pack(alloc)?;
+    Ok(block)
 }
 
 /// The tree of a page, as a block.
@@ -87,7 +134,9 @@ pub extern "C" fn hengaruto_parse(
     options: u32,
     block: &mut *mut u8,
     length: &mut usize,
-) -> u32 {
+) -> u32
+    ensures { HandsOutSuch (IsBlockOfPage options page.now) result length.new }
+{
     give(block_of(alloc, page, options), block, length)
 }
 
@@ -101,7 +150,12 @@ pub extern "C" fn hengaruto_parse_fragment(
     options: u32,
     block: &mut *mut u8,
     length: &mut usize,
-) -> u32 {
+) -> u32
+    ensures no_text { ¬ (IsUtf8 context.now) → result ≡ 4 }
+    ensures no_namespace { context_url context_namespace ≡ None → result ≡ 4 }
+    ensures parsed { IsUtf8 context.now → (url : List ℕ) → context_url context_namespace ≡ Some url
+        → HandsOutSuch (IsBlockOfFragment options page.now (context_name context.now url)) result length.new }
+{
     let (Ok(local), Some(url)) = (std::str::from_utf8(context), context_url(context_namespace))
     else {
         return BAD_ARGUMENT;

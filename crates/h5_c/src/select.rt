@@ -1,4 +1,10 @@
 //! The elements of a block that a selector matches.
+ghost use Rattle.std.specs.Prelude.{◌≡◌, ◌<◌, ◌≤◌, IfOk, false, true};
+ghost use Rattle.std.specs.Str.{IsUtf8, chars};
+ghost use Rattle.html_tree_builder.specs.Grammar.{selectors_of};
+ghost use Rattle.h5_c.specs.Selecting.{Answers};
+ghost use Rattle.h5_flat.specs.Block as b;
+
 use super::status::{BAD_ARGUMENT, BAD_SELECTOR, MEMORY, NO_NODE, NO_TREE, bytes_of, give};
 use h5_flat::{View, arena_of};
 use html_tree_builder::select::{Selector, SelectorFault};
@@ -39,7 +45,13 @@ pub extern "C" fn hengaruto_select(
     selector: &[u8],
     found: &mut *mut u8,
     length: &mut usize,
-) -> u32 {
+) -> u32
+    ensures no_tree { b.is_block block.now ≡ false → result ≡ 3 }
+    ensures no_node { b.is_block block.now ≡ true → b.nodes_in block.now ≤ node → result ≡ 2 }
+    ensures no_text { b.is_block block.now ≡ true → node < b.nodes_in block.now → ¬ (IsUtf8 selector.now) → result ≡ 4 }
+    ensures answered { b.is_block block.now ≡ true → node < b.nodes_in block.now → IsUtf8 selector.now
+        → Answers (selectors_of (chars selector.now)) result }
+{
     let Some(view) = View::of(block) else {
         return NO_TREE;
     };

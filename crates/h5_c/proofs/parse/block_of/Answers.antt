@@ -1,0 +1,4 @@
+use Rattle.h5_c.proofs.parse.block_of.Goals as goal
+
+pub returns : goal.returns
+returns c = record { arena = c.in_ok-arena.arena; is_tree = c.in_ok-arena.ensures; columns = c.in_ok-columns.columns; holds = c.in_ok-columns.ensures; packed = c.in_ok-block.ensures.block }
