@@ -12,6 +12,8 @@ _OUT, _LENGTH = ctypes.POINTER(ctypes.c_void_p), ctypes.POINTER(ctypes.c_size_t)
 _SIGNATURES = {
     "parse": [_BYTES, _SIZE, _U32, _OUT, _LENGTH],
     "parse_fragment": [_BYTES, _SIZE, _BYTES, _SIZE, _U32, _U32, _OUT, _LENGTH],
+    "encoding": [_BYTES, _SIZE, _BYTES, _SIZE, _OUT, _LENGTH],
+    "decode": [_BYTES, _SIZE, _BYTES, _SIZE, _OUT, _LENGTH],
     "html": [_BYTES, _SIZE, _U32, _U32, _OUT, _LENGTH],
     "select": [_BYTES, _SIZE, _U32, _BYTES, _SIZE, _OUT, _LENGTH],
     "page_text": [_BYTES, _SIZE, _SIZE, _OUT, _LENGTH],
@@ -35,7 +37,7 @@ Error.__module__ = SelectorError.__module__ = "hengaruto"
 _MESSAGES = {
     NO_NODE: "there is no such node",
     NO_TREE: "these bytes are no tree",
-    BAD_ARGUMENT: "a name that isn't UTF-8, or a namespace that isn't that of HTML, MathML or SVG",
+    BAD_ARGUMENT: "a name that isn't UTF-8, a namespace that isn't that of HTML, MathML or SVG, or an unknown label",
 }
 
 

@@ -2,7 +2,7 @@
 import pytest
 
 from hengaruto import decode
-from hengaruto._encoding import codec_of, decoded
+from hengaruto._encoding import decoded, said
 
 
 @pytest.mark.parametrize(
@@ -21,8 +21,15 @@ from hengaruto._encoding import codec_of, decoded
         (b"\x80", "iso-8859-1", "€"),
         (b"\x93\xfa", "shift_jis", "日"),
         (b"\xc4\xe3", "gb2312", "你"),
+        (b"\x81\x30\x81\x35", "gb18030", "\x85"),
+        (b"\x80", "gbk", "€"),
         (b"\xa4\xd2", "euc-jp", "ひ"),
+        (b"\x1b$B$R\x1b(B<", "iso-2022-jp", "ひ<"),
+        (b"\xb1\xe2", "euc-kr", "기"),
+        (b"\xa4\xa4", "big5", "中"),
+        (b"\x82<p>", "shift_jis", "\ufffd<p>"),
         (b"\xe9", "no-such-encoding", "é"),
+        (b"\xe9", "ü\ud800", "é"),
     ],
 )
 def test_decode(page, encoding, text):
@@ -30,42 +37,41 @@ def test_decode(page, encoding, text):
 
 
 @pytest.mark.parametrize(
-    "head, codec",
+    "head, name",
     [
-        (b"<meta charset=koi8-r>", "koi8-r"),
-        (b"<META CHARSET = 'KOI8-R' >", "koi8-r"),
-        (b'<meta name=a content=b><meta x charset="koi8-r"/>', "koi8-r"),
-        (b'<meta http-equiv=Content-Type content="text/html; charset=koi8-r">', "koi8-r"),
-        (b'<meta content="text/html;charset=\'koi8-r\'" http-equiv=content-type>', "koi8-r"),
-        (b'<meta content="text/html; charset=koi8-r">', "utf-8"),
-        (b'<meta http-equiv=refresh content="0; charset=koi8-r">', "utf-8"),
-        (b"<!-- <meta charset=koi8-r> --><p>", "utf-8"),
-        (b"<!--><meta charset=koi8-r>", "koi8-r"),
-        (b"<!-- <meta charset=koi8-r>", "utf-8"),
-        (b"<p title='<meta charset=koi8-r>'>", "utf-8"),
-        (b"<!doctype html><html lang=en><head><title>x</title><meta charset=koi8-r>", "koi8-r"),
-        (b"<?xml version='1.0' encoding='koi8-r'?><p>", "utf-8"),
-        (b"</p a='>'><meta charset=koi8-r>", "koi8-r"),
-        (b"<meta charset=utf-16>", "utf-8"),
-        (b"<meta charset=no-such-encoding>", "utf-8"),
-        (b"<meta charset=no-such-encoding><meta charset=koi8-r>", "koi8-r"),
-        (b"<metacharset=koi8-r>", "utf-8"),
-        (b"<meta charset=x-user-defined>", "cp1252"),
-        (b" " * 1010 + b"<meta charset=koi8-r>", "utf-8"),
-        (b"<meta charset", "utf-8"),
-        (b"<", "utf-8"),
-        (b"<meta charset='koi8-r", "utf-8"),
-        (b"<meta charset=koi8-r", "utf-8"),
+        (b"<meta charset=koi8-r>", "KOI8-R"),
+        (b"<META CHARSET = 'KOI8-R' >", "KOI8-R"),
+        (b'<meta name=a content=b><meta x charset="koi8-r"/>', "KOI8-R"),
+        (b'<meta http-equiv=Content-Type content="text/html; charset=koi8-r">', "KOI8-R"),
+        (b'<meta content="text/html;charset=\'koi8-r\'" http-equiv=content-type>', "KOI8-R"),
+        (b'<meta content="text/html; charset=koi8-r">', ""),
+        (b'<meta http-equiv=refresh content="0; charset=koi8-r">', ""),
+        (b"<!-- <meta charset=koi8-r> --><p>", ""),
+        (b"<!--><meta charset=koi8-r>", "KOI8-R"),
+        (b"<!-- <meta charset=koi8-r>", ""),
+        (b"<p title='<meta charset=koi8-r>'>", ""),
+        (b"<!doctype html><html lang=en><head><title>x</title><meta charset=koi8-r>", "KOI8-R"),
+        (b"<?xml version='1.0' encoding='koi8-r'?><p>", "KOI8-R"),
+        (b"</p a='>'><meta charset=koi8-r>", "KOI8-R"),
+        (b"<meta charset=utf-16>", "UTF-8"),
+        (b"<meta charset=no-such-encoding>", ""),
+        (b"<meta charset=no-such-encoding><meta charset=koi8-r>", "KOI8-R"),
+        (b"<metacharset=koi8-r>", ""),
+        (b"<meta charset=x-user-defined>", "windows-1252"),
+        (b" " * 1010 + b"<meta charset=koi8-r>", ""),
+        (b"<meta charset", ""),
+        (b"<", ""),
+        (b"<meta charset='koi8-r", ""),
+        (b"<meta charset=koi8-r", ""),
     ],
 )
-def test_prescan(head, codec):
-    assert decoded(head)[1] == codec
+def test_prescan(head, name):
+    assert said(head) == name
+    assert decoded(head)[1] == (name or "UTF-8")
 
 
 def test_labels():
-    import codecs
-
-    from hengaruto._encoding import _CODECS
-
-    assert len(_CODECS) > 200 and all(codecs.lookup(codec) for codec in _CODECS.values())
-    assert codec_of("latin1") == "cp1252" and codec_of("\nUTF8 ") == "utf-8" and codec_of("x") is None and codec_of(None) is None
+    assert said(b"<meta charset=koi8-r>", "\nUTF8 ") == "UTF-8"
+    assert said(b"<meta charset=koi8-r>", "x") == "KOI8-R"
+    assert said(b"", "gb_2312-80") == "GBK"
+    assert decoded(b"\xe9")[1] == "windows-1252"

@@ -78,7 +78,7 @@ def test_soup():
     assert soup.title.string == "A" and soup.p["class"] == ["a"] and soup.b.text == "bold" and soup.find("svg").name == "svg"
     assert str(soup).startswith("<!DOCTYPE html>") and "<!--front-->" in str(soup) and soup.template.i.string == "in"
     soup = bs4.BeautifulSoup("<p>é".encode("latin-1"), "hengaruto", from_encoding="latin1")
-    assert soup.p.text == "é" and soup.original_encoding == "cp1252"
+    assert soup.p.text == "é" and soup.original_encoding == "windows-1252"
 
 
 def shape_of(root):
