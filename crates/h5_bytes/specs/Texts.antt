@@ -55,7 +55,7 @@ abbrev pub decided_in : Stage → Option (Encoding × Source)
 decided_in (Sniffing first) = None
 decided_in (Decoding decoder source) = Some (decoder.encoding, source)
 
--- whether U+FFFD has stood for bytes, as the decoder tells
-abbrev pub errors_in : Stage → Bool
-errors_in (Sniffing first) = false
-errors_in (Decoding decoder source) = decoder.has_errors
+-- how many U+FFFD have stood for bytes, as the decoder tells
+abbrev pub replaced_in : Stage → ℕ
+replaced_in (Sniffing first) = 0
+replaced_in (Decoding decoder source) = decoder.replaced

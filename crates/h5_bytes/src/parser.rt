@@ -1,10 +1,10 @@
 //! A parser of bytes in any encoding.
-ghost use Rattle.std.specs.Prelude.{◌≡◌, ℕ, List, ◌++◌, [], true, false, Ok, Err, IfOk, OnErr, OnOk, Some};
+ghost use Rattle.std.specs.Prelude.{◌≡◌, ℕ, List, ◌++◌, [], nat_lt, true, false, Ok, Err, IfOk, OnErr, OnOk, Some};
 ghost use Rattle.h5_driver.specs.Parsing.{text_of, view_of};
 ghost use Rattle.h5_driver.specs.PlainDocuments.{BringsBack};
 ghost use Rattle.h5_driver.specs.Reading.{Parses};
 ghost use Rattle.h5_bytes.specs.Parsing.{ProcessedBytes};
-ghost use Rattle.h5_bytes.specs.Texts.{decided_in, errors_in, text_behind, text_of_bytes, waiting_in};
+ghost use Rattle.h5_bytes.specs.Texts.{decided_in, replaced_in, text_behind, text_of_bytes, waiting_in};
 
 use super::stage::{Sniffed, Stage, read_first};
 use h5_driver::Reader;
@@ -91,9 +91,17 @@ impl<R: Reader + Drop> BytesParser<R> {
 
     /// Whether U+FFFD has stood for bytes, as far as their text is decided. It isn't told of UTF-8: `false` there.
     pub fn has_errors(&self) -> bool
-        ensures { result ≡ errors_in self.now.stage }
+        ensures { result ≡ nat_lt 0 (replaced_in self.now.stage) }
     {
-        self.stage.has_errors()
+        self.stage.replaced() > 0
+    }
+
+    /// How many U+FFFD have stood for bytes, as far as their text is decided, at most as many as a u64 holds. It isn't told of UTF-8:
+    /// 0 there.
+    pub fn replaced(&self) -> u64
+        ensures { result ≡ replaced_in self.now.stage }
+    {
+        self.stage.replaced()
     }
 
     // Takes the next chunk of the bytes, whatever was before.

@@ -2,7 +2,7 @@
 ghost use Rattle.std.specs.Prelude.{◌≡◌, ℕ, List, [], IfOk, Some, option_map, string_bytes};
 ghost use Rattle.h5_encodings.specs.declared.sniffing.EncodingOpts.{EncodingOpts};
 ghost use Rattle.h5_encodings.specs.Decoding.{Decodes, start};
-ghost use Rattle.h5_bytes.specs.Texts.{Takes, decided_in, encoding_of_bytes, errors_in, text_behind, text_of_bytes, waiting_in};
+ghost use Rattle.h5_bytes.specs.Texts.{Takes, decided_in, encoding_of_bytes, replaced_in, text_behind, text_of_bytes, waiting_in};
 
 use h5_encodings::{Decoder, Encoding, EncodingOpts, Source, sniff};
 use std::alloc::{AllocError, Global};
@@ -92,13 +92,13 @@ impl Stage {
         }
     }
 
-    // Whether U+FFFD has stood for bytes.
-    pub(super) fn has_errors(&self) -> bool
-        ensures { result ≡ errors_in self.now }
+    // How many U+FFFD have stood for bytes.
+    pub(super) fn replaced(&self) -> u64
+        ensures { result ≡ replaced_in self.now }
     {
         match self {
-            Stage::Sniffing(_first) => false,
-            Stage::Decoding(decoder, _source) => decoder.has_errors(),
+            Stage::Sniffing(_first) => 0,
+            Stage::Decoding(decoder, _source) => decoder.replaced(),
         }
     }
 }

@@ -71,15 +71,15 @@ unfoldable pub reading_of : Encoding → Reading
 reading_of encoding = record { step = step_in encoding; ending = ending_in encoding }
 
 -- where a decoder stands: its encoding, the bytes of a character that isn't finished, in UTF-8, and what it keeps in others; and
--- whether U+FFFD has stood for bytes, which isn't told of UTF-8
+-- how many U+FFFD have stood for bytes, which isn't told of UTF-8
 pub record State : Type 0 where
   pub encoding : Encoding
   pub unfinished : List ℕ
   pub kept : Kept
-  pub has_errors : Bool
+  pub replaced : ℕ
 
 abbrev pub start : Encoding → State
-start encoding = record { encoding = encoding; unfinished = []; kept = k.Nothing; has_errors = false }
+start encoding = record { encoding = encoding; unfinished = []; kept = k.Nothing; replaced = 0 }
 
 -- THE TEXT of bytes from there on, up to their end
 abbrev pub text_from : State → List ℕ → List ℕ

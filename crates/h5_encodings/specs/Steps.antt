@@ -1,5 +1,5 @@
 -- Bytes that are read as a text, a step for each byte, and an end.
-use Rattle.std.specs.Prelude.{◌≡◌, ℕ, Bool, true, false, ◌||◌, List, [], ◌∷◌, ◌++◌, encode_utf8}
+use Rattle.std.specs.Prelude.{◌≡◌, ℕ, ◌+◌, Bool, true, false, List, [], ◌∷◌, ◌++◌, encode_utf8}
 use Rattle.h5_encodings.specs.declared.steps.Kept.{Kept}
 use Rattle.h5_encodings.specs.declared.steps.Shown.{Shown}
 use Rattle.h5_encodings.specs.declared.steps.Shown.TheVariants.{Nothing, Character, Two, Error, ErrorAnd, TwoErrors}
@@ -35,21 +35,21 @@ text_shown Error = encode_utf8 replacement_character
 text_shown (ErrorAnd c) = encode_utf8 replacement_character ++ encode_utf8 c
 text_shown TwoErrors = encode_utf8 replacement_character ++ encode_utf8 replacement_character
 
--- whether U+FFFD stands for bytes in it
-abbrev pub is_error : Shown → Bool
-is_error Nothing = false
-is_error (Character c) = false
-is_error (Two c d) = false
-is_error Error = true
-is_error (ErrorAnd c) = true
-is_error TwoErrors = true
+-- how many U+FFFD stand for bytes in it
+abbrev pub errors_shown : Shown → ℕ
+errors_shown Nothing = 0
+errors_shown (Character c) = 0
+errors_shown (Two c d) = 0
+errors_shown Error = 1
+errors_shown (ErrorAnd c) = 1
+errors_shown TwoErrors = 2
 
--- what a step shows, of bytes that were kept and then of its byte, as a text; and whether U+FFFD stands for bytes in that
+-- what a step shows, of bytes that were kept and then of its byte, as a text; and how many U+FFFD stand for bytes in that
 abbrev pub text_of_step : Step → List ℕ
 text_of_step s = text_shown s.before ++ text_shown s.shown
 
-abbrev pub step_has_error : Step → Bool
-step_has_error s = is_error s.before || is_error s.shown
+abbrev pub step_errors : Step → ℕ
+step_errors s = errors_shown s.before + errors_shown s.shown
 
 -- THE TEXT of bytes behind what is kept, up to their end
 abbrev pub text_of : Reading → Kept → List ℕ → List ℕ
@@ -66,10 +66,10 @@ abbrev pub kept_after : Reading → Kept → List ℕ → Kept
 kept_after r kept [] = kept
 kept_after r kept (b ∷ bs) = kept_after r (r.step kept b).kept bs
 
--- whether U+FFFD stands for bytes in that text
-abbrev pub has_errors : Reading → Kept → List ℕ → Bool
-has_errors r kept [] = false
-has_errors r kept (b ∷ bs) = step_has_error (r.step kept b) || has_errors r (r.step kept b).kept bs
+-- how many U+FFFD stand for bytes in that text
+abbrev pub errors_so_far : Reading → Kept → List ℕ → ℕ
+errors_so_far r kept [] = 0
+errors_so_far r kept (b ∷ bs) = step_errors (r.step kept b) + errors_so_far r (r.step kept b).kept bs
 
 -- how bytes are cut doesn't matter: whatever follows, the text is that so far, and then the one of what follows
 abbrev pub CutsDontMatter : Type 0

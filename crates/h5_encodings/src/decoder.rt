@@ -1,7 +1,8 @@
 //! A decoder of bytes that come in chunks.
-ghost use Rattle.std.specs.Prelude.{◌≡◌, ◌||◌, [], false, true, string_bytes, IfOk, OnOk, OnErr};
+ghost use Rattle.std.specs.Prelude.{◌≡◌, ◌+◌, [], false, nat_lt, true, string_bytes, IfOk, OnOk, OnErr};
+ghost use Rattle.std.specs.Io.Iter.{u64_saturate};
 ghost use Rattle.h5_encodings.specs.Decoding.{Decodes, is_utf8, reading_of, start, text_from};
-ghost use Rattle.h5_encodings.specs.Steps.{has_errors};
+ghost use Rattle.h5_encodings.specs.Steps.{errors_so_far};
 
 use super::encoding::Encoding;
 use super::reading::{push_steps, text_at_end};
@@ -38,7 +39,7 @@ pub struct Decoder {
     encoding: Encoding,
     utf8: Utf8LossyDecoder,
     kept: Kept,
-    has_errors: bool,
+    replaced: u64,
     alloc: Global,
 }
 
@@ -47,7 +48,7 @@ impl Model for Decoder {
 
     ghost Value = { State };
 
-    ghost view = { λ decoder. record { encoding = decoder.encoding; unfinished = decoder.utf8; kept = decoder.kept; has_errors = decoder.has_errors } };
+    ghost view = { λ decoder. record { encoding = decoder.encoding; unfinished = decoder.utf8; kept = decoder.kept; replaced = decoder.replaced } };
 }
 
 impl Decoder {
@@ -59,7 +60,7 @@ impl Decoder {
             encoding,
             utf8: Utf8LossyDecoder::new(alloc),
             kept: Kept::Nothing,
-            has_errors: false,
+            replaced: 0,
             alloc,
         }
     }
@@ -73,17 +74,25 @@ impl Decoder {
 
     /// Whether U+FFFD has stood for bytes that came, as far as their text is decided. It isn't told of UTF-8: `false` there.
     pub fn has_errors(&self) -> bool
-        ensures { result ≡ self.now.has_errors }
+        ensures { result ≡ nat_lt 0 self.now.replaced }
     {
-        self.has_errors
+        self.replaced > 0
+    }
+
+    /// How many U+FFFD have stood for bytes that came, as far as their text is decided, at most as many as a u64 holds. It isn't told
+    /// of UTF-8: 0 there.
+    pub fn replaced(&self) -> u64
+        ensures { result ≡ self.now.replaced }
+    {
+        self.replaced
     }
 
     /// The text of the next bytes, as far as it is decided. Where it answers `AllocError`, nothing has changed.
     pub fn decode(&mut self, bytes: &[u8]) -> Result<String, AllocError>
         ensures decoded { IfOk result (λ text. Decodes self.old bytes.now (string_bytes text) self.new) }
         ensures errors { OnOk result (is_utf8 self.old.encoding ≡ false →
-            self.new.has_errors ≡ (self.old.has_errors || has_errors (reading_of self.old.encoding) self.old.kept bytes.now)) }
-        ensures utf8 { OnOk result (is_utf8 self.old.encoding ≡ true → self.new.has_errors ≡ self.old.has_errors) }
+            self.new.replaced ≡ u64_saturate (self.old.replaced + errors_so_far (reading_of self.old.encoding) self.old.kept bytes.now)) }
+        ensures utf8 { OnOk result (is_utf8 self.old.encoding ≡ true → self.new.replaced ≡ self.old.replaced) }
         ensures same { OnErr result (self.new ≡ self.old) }
     {
         if is_utf8(self.encoding) {
@@ -92,7 +101,7 @@ impl Decoder {
         let mut text = String::with_capacity(self.alloc, bytes.len())?;
         let behind = push_steps(&mut text, self.encoding, self.kept, bytes)?;
         self.kept = behind.kept;
-        self.has_errors = self.has_errors || behind.has_errors;
+        self.replaced = self.replaced.saturating_add(behind.errors);
         Ok(text)
     }
 

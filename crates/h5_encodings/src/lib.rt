@@ -43,8 +43,6 @@ mod shift_jis;
 mod single_byte;
 mod sniffing;
 mod steps;
-#[cfg(test)]
-mod tests;
 mod upper_halves;
 mod user_defined;
 mod utf16;

@@ -1,7 +1,8 @@
 //! Bytes that are read in steps.
-ghost use Rattle.std.specs.Prelude.{◌≡◌, ◌++◌, string_bytes, IfOk};
+ghost use Rattle.std.specs.Prelude.{◌≡◌, ◌≤◌, ◌++◌, string_bytes, IfOk};
 ghost use Rattle.h5_encodings.specs.Decoding.{reading_of};
-ghost use Rattle.h5_encodings.specs.Steps.{has_errors, is_error, kept_after, step_has_error, text_of_step, text_shown, text_so_far};
+ghost use Rattle.std.specs.Io.Iter.{u64_saturate};
+ghost use Rattle.h5_encodings.specs.Steps.{errors_shown, errors_so_far, kept_after, step_errors, text_of_step, text_shown, text_so_far};
 
 use super::big5::big5_step;
 use super::encoding::Encoding;
@@ -57,13 +58,15 @@ pub fn text_at_end(encoding: Encoding, kept: Kept) -> &'static str
     }
 }
 
-// Whether U+FFFD stands for bytes in it.
-fn is_error(shown: Shown) -> bool
-    ensures { result ≡ is_error shown }
+// How many U+FFFD stand for bytes in it.
+fn errors_shown(shown: Shown) -> u64
+    ensures count { result ≡ errors_shown shown }
+    ensures few { result ≤ 2 }
 {
     match shown {
-        Shown::Nothing | Shown::Character(_) | Shown::Two(_, _) => false,
-        Shown::Error | Shown::ErrorAnd(_) | Shown::TwoErrors => true,
+        Shown::Nothing | Shown::Character(_) | Shown::Two(_, _) => 0,
+        Shown::Error | Shown::ErrorAnd(_) => 1,
+        Shown::TwoErrors => 2,
     }
 }
 
@@ -90,11 +93,11 @@ fn push_shown(text: &mut String, shown: Shown) -> Result<(), AllocError>
     }
 }
 
-// Whether U+FFFD stands for bytes in what a step shows.
-fn step_has_error(step: Step) -> bool
-    ensures { result ≡ step_has_error step }
+// How many U+FFFD stand for bytes in what a step shows.
+fn step_errors(step: Step) -> u64
+    ensures { result ≡ step_errors step }
 {
-    is_error(step.before) || is_error(step.shown)
+    errors_shown(step.before) + errors_shown(step.shown)
 }
 
 // Appends what a step shows.
@@ -105,11 +108,11 @@ fn push_step(text: &mut String, step: Step) -> Result<(), AllocError>
     push_shown(text, step.shown)
 }
 
-/// What is kept behind bytes, and whether U+FFFD stands for some of them.
+/// What is kept behind bytes, and how many U+FFFD stand for some of them, at most as many as a u64 holds.
 #[derive(Clone, Copy, Debug, PartialEq, Eq)]
 pub struct Behind {
     pub kept: Kept,
-    pub has_errors: bool,
+    pub errors: u64,
 }
 
 /// Appends the text of bytes as far as it is decided.
@@ -121,18 +124,15 @@ pub fn push_steps(
 ) -> Result<Behind, AllocError>
     ensures text { IfOk result (λ _. string_bytes text.new ≡ string_bytes text.old ++ text_so_far (reading_of encoding) kept bytes.now) }
     ensures kept { IfOk result (λ behind. behind.kept ≡ kept_after (reading_of encoding) kept bytes.now) }
-    ensures errors { IfOk result (λ behind. behind.has_errors ≡ has_errors (reading_of encoding) kept bytes.now) }
+    ensures errors { IfOk result (λ behind. behind.errors ≡ u64_saturate (errors_so_far (reading_of encoding) kept bytes.now)) }
 {
-    let mut behind = Behind {
-        kept,
-        has_errors: false,
-    };
+    let mut behind = Behind { kept, errors: 0 };
     for &byte in bytes {
         let next = step(encoding, behind.kept, byte);
         push_step(text, next)?;
         behind = Behind {
             kept: next.kept,
-            has_errors: behind.has_errors || step_has_error(next),
+            errors: behind.errors.saturating_add(step_errors(next)),
         };
     }
     Ok(behind)

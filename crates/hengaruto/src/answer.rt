@@ -10,7 +10,7 @@ use h5_page::{TextOpts, text_with};
 use h5_print::{print_quirks, write_tree};
 use html_tree_builder::arena::NodeRef;
 use html_tree_builder::clean::{AllowList, TextPolicy, clean_tree};
-use html_tree_builder::encodings::EncodingOpts;
+use html_tree_builder::encodings::{Encoding, EncodingOpts};
 use html_tree_builder::serialize::{SerializeFault, serialize};
 use html_tree_builder::{Arena, QuirksMode, SerializeOpts};
 use std::alloc::{AllocError, Global};
@@ -136,11 +136,26 @@ fn cleaned(
     }
 }
 
-/// Writes what is asked of a tree, which is that of a document or of a fragment.
+// What a page says of itself, and last the encoding in which it was read.
+fn about_read(
+    alloc: Global,
+    top: &NodeRef<'_>,
+    encoding: Encoding,
+) -> Result<Vec<Item>, AllocError> {
+    let mut items = about(alloc, top)?;
+    let mut read = Item::new(alloc);
+    read.add("name", "encoding")?;
+    read.add("content", encoding.name())?;
+    items.push(read)?;
+    Ok(items)
+}
+
+/// Writes what is asked of a tree, which is that of a document or of a fragment, and was read in this encoding.
 pub fn put_answer<W: Write>(
     alloc: Global,
     asked: &Asked<'_>,
     arena: &Arena,
+    encoding: Encoding,
     out: &mut W,
 ) -> Result<(), Fault> {
     let top = top_of(arena, asked.context.is_some());
@@ -159,7 +174,7 @@ pub fn put_answer<W: Write>(
             items_text(alloc, items.as_slice(), asked.form)?.into_bytes()
         }
         What::Meta => {
-            let items = about(alloc, &top)?;
+            let items = about_read(alloc, &top, encoding)?;
             items_text(alloc, items.as_slice(), asked.form)?.into_bytes()
         }
         What::Clean => cleaned(alloc, &top, asked.policy)?,

@@ -1,8 +1,9 @@
 //! Pages that are read.
+use super::decoding::{HowRead, PageText};
 use super::fault::Fault;
 use super::progress::Progress;
 use super::tokens::Written;
-use html_tree_builder::encodings::{Decoder, EncodingOpts, sniff};
+use html_tree_builder::encodings::EncodingOpts;
 use html_tree_builder::interface::{TreeSink, create_element};
 use html_tree_builder::standard::{
     BufferQueue, Parser, Tokenizer, TokenizerOpts, TokenizerResult, parse_document, parse_fragment,
@@ -77,17 +78,11 @@ fn first_bytes<R: Read>(alloc: Global, input: &mut R) -> Result<Vec<u8>, Fault> 
     Ok(first)
 }
 
-// A decoder of an input with these first bytes.
-fn decoder_of(alloc: Global, opts: EncodingOpts, first: &[u8]) -> Result<Decoder, Fault> {
-    let (encoding, _source) = sniff(alloc, opts, first)?;
-    Ok(Decoder::new(alloc, encoding))
-}
-
 // Hands all that can still be read to a parser.
 fn read_rest<R: Read>(
     rt: &HostRuntime,
     parser: &mut Parser<Arena>,
-    decoder: &mut Decoder,
+    page: &mut PageText,
     input: &mut R,
 ) -> Result<(), Fault> {
     let mut chunk = vec![in rt.alloc(); 0u8; 65_536]?;
@@ -98,36 +93,38 @@ fn read_rest<R: Read>(
             break;
         }
         progress.add(rt, bytes.len());
-        parser.process_owned(decoder.decode(bytes)?)?;
+        parser.process_owned(page.decode(bytes)?)?;
     }
     progress.finish(rt);
     Ok(())
 }
 
-// Hands all that can be read to a parser.
+// Hands all that can be read to a parser, and tells how it was read.
 fn read_all<R: Read>(
     rt: &HostRuntime,
     opts: EncodingOpts,
     parser: &mut Parser<Arena>,
     input: &mut R,
-) -> Result<(), Fault> {
+) -> Result<HowRead, Fault> {
     let first = first_bytes(rt.alloc(), input)?;
-    let mut decoder = decoder_of(rt.alloc(), opts, first.as_slice())?;
-    parser.process_owned(decoder.decode(first.as_slice())?)?;
-    read_rest(rt, parser, &mut decoder, input)?;
-    Ok(parser.process(decoder.finish())?)
+    let mut page = PageText::new(rt.alloc(), opts, first.as_slice())?;
+    parser.process_owned(page.decode(first.as_slice())?)?;
+    read_rest(rt, parser, &mut page, input)?;
+    let (rest, how) = page.finish();
+    parser.process(rest)?;
+    Ok(how)
 }
 
-/// The tree of a page.
+/// The tree of a page, and how it was read.
 pub fn tree_of<R: Read>(
     rt: &HostRuntime,
     context: Option<&str>,
     opts: EncodingOpts,
     input: &mut R,
-) -> Result<Arena, Fault> {
+) -> Result<(Arena, HowRead), Fault> {
     let mut parser = parser_in(rt.alloc(), context)?;
-    read_all(rt, opts, &mut parser, input)?;
-    Ok(parser.finish()?)
+    let how = read_all(rt, opts, &mut parser, input)?;
+    Ok((parser.finish()?, how))
 }
 
 type Builder = TreeBuilder<NodeId, Arena>;
@@ -185,7 +182,7 @@ fn feed_rest<R: Read>(
     rt: &HostRuntime,
     reader: &mut Reader,
     queue: &mut BufferQueue,
-    decoder: &mut Decoder,
+    page: &mut PageText,
     input: &mut R,
 ) -> Result<(), Fault> {
     let mut chunk = vec![in rt.alloc(); 0u8; 65_536]?;
@@ -196,38 +193,39 @@ fn feed_rest<R: Read>(
             break;
         }
         progress.add(rt, bytes.len());
-        feed(reader, queue, decoder.decode(bytes)?)?;
+        feed(reader, queue, page.decode(bytes)?)?;
     }
     progress.finish(rt);
     Ok(())
 }
 
-// Feeds all that can be read.
+// Feeds all that can be read, and tells how it was read.
 fn feed_all<R: Read>(
     rt: &HostRuntime,
     opts: EncodingOpts,
     reader: &mut Reader,
     input: &mut R,
-) -> Result<(), Fault> {
+) -> Result<HowRead, Fault> {
     let alloc = rt.alloc();
     let first = first_bytes(alloc, input)?;
-    let mut decoder = decoder_of(alloc, opts, first.as_slice())?;
+    let mut page = PageText::new(alloc, opts, first.as_slice())?;
     let mut queue = BufferQueue::new(alloc);
-    feed(reader, &mut queue, decoder.decode(first.as_slice())?)?;
-    feed_rest(rt, reader, &mut queue, &mut decoder, input)?;
-    let rest = String::from_str(alloc, decoder.finish())?;
-    feed(reader, &mut queue, rest)?;
-    Ok(reader.end()?)
+    feed(reader, &mut queue, page.decode(first.as_slice())?)?;
+    feed_rest(rt, reader, &mut queue, &mut page, input)?;
+    let (rest, how) = page.finish();
+    feed(reader, &mut queue, String::from_str(alloc, rest)?)?;
+    reader.end()?;
+    Ok(how)
 }
 
-/// The tokens of a page, a line for each.
+/// The tokens of a page, a line for each, and how it was read.
 pub fn tokens_of<R: Read>(
     rt: &HostRuntime,
     context: Option<&str>,
     opts: EncodingOpts,
     input: &mut R,
-) -> Result<Vec<u8>, Fault> {
+) -> Result<(Vec<u8>, HowRead), Fault> {
     let mut reader = reader_in(rt.alloc(), context)?;
-    feed_all(rt, opts, &mut reader, input)?;
-    Ok(reader.sink.text.into_bytes())
+    let how = feed_all(rt, opts, &mut reader, input)?;
+    Ok((reader.sink.text.into_bytes(), how))
 }

@@ -22,7 +22,7 @@ fn said_of(rt: &HostRuntime, fault: &Fault) -> Result<String, Fault> {
 // What is printed of the page of an input.
 fn printed<R: Read>(rt: &HostRuntime, asked: &Asked<'_>, input: &mut R) -> Result<String, Fault> {
     let mut bytes = Vec::new(rt.alloc());
-    put_input(rt, asked, input, &mut bytes)?;
+    let _how = put_input(rt, asked, input, &mut bytes)?;
     let text = String::from_utf8_lossy(rt.alloc(), bytes.as_slice())?;
     Ok(text)
 }

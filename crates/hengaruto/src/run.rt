@@ -1,5 +1,6 @@
 //! A run of the program.
 use super::answer::{Asked, put_answer};
+use super::decoding::HowRead;
 use super::dress::dressed;
 use super::fault::Fault;
 use super::page::{is_context, tokens_of, tree_of};
@@ -33,23 +34,36 @@ fn put_tokens<W: Write>(
     out.write_all(text.as_slice()).map_err(Fault::Write)
 }
 
-/// Writes what is asked of the page of an input.
+/// Writes what is asked of the page of an input, and tells how it was read.
 pub fn put_input<R: Read, W: Write>(
     rt: &HostRuntime,
     asked: &Asked<'_>,
     input: &mut R,
     out: &mut W,
-) -> Result<(), Fault> {
+) -> Result<HowRead, Fault> {
     if let What::Tokens = asked.what {
-        let text = tokens_of(rt, asked.context, asked.encodings, input)?;
-        return put_tokens(rt.alloc(), asked, text, out);
+        let (text, how) = tokens_of(rt, asked.context, asked.encodings, input)?;
+        put_tokens(rt.alloc(), asked, text, out)?;
+        return Ok(how);
     }
-    let arena = tree_of(rt, asked.context, asked.encodings, input)?;
-    let written = put_answer(rt.alloc(), asked, &arena, out);
+    let (arena, how) = tree_of(rt, asked.context, asked.encodings, input)?;
+    let written = put_answer(rt.alloc(), asked, &arena, how.encoding, out);
     if asked.is_last {
         mem::forget(arena);
     }
-    written
+    written?;
+    Ok(how)
+}
+
+// Says how many characters stand for bytes that are none, if there are any. Whether it can be said is no matter.
+fn tell_replaced(rt: &HostRuntime, name: &str, how: HowRead) {
+    if how.replaced > 0 {
+        let (count, encoding) = (how.replaced, how.encoding.name());
+        let _told = writeln!(
+            rt.stderr(),
+            "hengaruto: {name}: {count} U+FFFD stand for bytes that are no {encoding}"
+        );
+    }
 }
 
 // Shows an input, which is a page or has records of pages.
@@ -66,10 +80,13 @@ fn show_input<R: Read + Drop>(
     let mut out = rt.stdout();
     let is_terminal = out.is_terminal();
     if !is_terminal && !asked.has_name {
-        return put_input(rt, asked, &mut input, &mut out);
+        let how = put_input(rt, asked, &mut input, &mut out)?;
+        tell_replaced(rt, name, how);
+        return Ok(());
     }
     let mut bytes = Vec::new(rt.alloc());
-    put_input(rt, asked, &mut input, &mut bytes)?;
+    let how = put_input(rt, asked, &mut input, &mut bytes)?;
+    tell_replaced(rt, name, how);
     let text = String::from_utf8_lossy(rt.alloc(), bytes.as_slice())?;
     let front = asked.has_name.then_some(name);
     let lines = dressed(rt.alloc(), text.as_str(), front, is_terminal)?;

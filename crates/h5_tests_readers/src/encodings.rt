@@ -1,7 +1,5 @@
-//! Each public function once, and what pages say of their encodings.
-use super::decoder::Decoder;
-use super::encoding::{Encoding, SingleByte};
-use super::sniffing::{EncodingOpts, Source, sniff};
+//! Bytes in any encoding, and what pages say of theirs.
+use h5_encodings::{Decoder, Encoding, EncodingOpts, SingleByte, Source, sniff};
 use std::alloc::{AllocError, Global};
 use std::test::Fail;
 
@@ -357,6 +355,7 @@ fn errors_are_told(rt: HostRuntime) -> Result<(), Fail> {
     assert!(rt; !decoder.has_errors());
     let _text = decoder.decode(b"\0\xDC")?;
     assert!(rt; decoder.has_errors());
+    assert_eq!(rt; decoder.replaced(), 1);
     Ok(())
 }
 
