@@ -188,7 +188,8 @@ class Document:
         return self.node.find_all(name)
 
     def select(self, selector: str) -> List[Node]:
-        """The elements that a CSS selector matches, each once, in tree order. A selector that is none is a `SelectorError`.
+        """The elements that a CSS selector matches, each once, in tree order. A selector that is none is a `SelectorError`, and a block
+        into which no tree was packed is an `Error`.
 
         >>> doc = parse("<ul><li>1<li class=x>2<li>3</ul>")
         >>> [node.text() for node in doc.select("li.x, li:first-child")]
@@ -411,7 +412,8 @@ class Node:
         return list(self.iter(name))
 
     def select(self, selector: str) -> List[Node]:
-        """The elements below that a CSS selector matches, each once, in tree order. A selector that is none is a `SelectorError`.
+        """The elements below that a CSS selector matches, each once, in tree order. A selector that is none is a `SelectorError`, and a
+        block into which no tree was packed is an `Error`.
 
         >>> [node["href"] for node in parse("<nav><a href=x></a></nav><a href=y></a>").find("nav").select("a[href]")]
         ['x']

@@ -1,14 +1,40 @@
 -- What a call that is handed the text of a selector answers.
-use Rattle.std.specs.Prelude.{◌≡◌, ◌⊎◌, ℕ, List}
-use Rattle.html_tree_builder.specs.Asking.{Asked}
+use Rattle.std.specs.Prelude.{◌≡◌, ◌⊎◌, ℕ, List, [], Some, map}
+use Rattle.std.specs.Option.{option_map_or}
+use Rattle.html_tree_builder.specs.ArenaModel.{place}
+use Rattle.html_tree_builder.specs.Asking.{Asked, asked}
 use Rattle.html_tree_builder.specs.Counting.{Outcome, Found, Absent, TooMany}
+use Rattle.html_tree_builder.specs.Selected.{selected}
+use Rattle.html_tree_builder.specs.Types.{NodeId}
+use Rattle.h5_selector_text.specs.declared.formula.Formula.{Formula}
+use Rattle.h5_flat.specs.Packed.{bytes_of_words}
+use Rattle.h5_flat.specs.SameTree.{IsTreeOf, place_of}
+use Rattle.h5_flat.specs.Unpacked.{id_of}
+use Rattle.h5_flat.specs.declared.unpack.Unpacked.{Unpacked}
+use Rattle.h5_c.specs.Status.{HandsOutSuch}
 
--- elements are handed out, or what is wrong with the selector
-abbrev pub status_of : Outcome (List Asked) → ℕ
-status_of (Found selector) = 0
-status_of Absent = 5
-status_of TooMany = 5
+-- the elements below the node of a number that one of some selectors matches, in tree order; below a text stand none
+abbrev pub selected_below : Unpacked → (number : ℕ) → List Formula → List ℕ
+selected_below tree n list = option_map_or (λ p. selected tree.arena p list) (place_of tree n) []
 
--- or memory is refused
-abbrev pub Answers : Outcome (List Asked) → (status : ℕ) → Type 0
-Answers read status = (status ≡ 1) ⊎ (status ≡ status_of read)
+-- words that are their numbers, in the tree of a block
+pub record AreSelected (block : List ℕ) (number : ℕ) (list : List Formula) (bytes : List ℕ) : Type 0 where
+  pub tree : Unpacked
+  pub is_tree : IsTreeOf block tree
+  pub found : List NodeId
+  pub are_found : map place found ≡ selected_below tree number list
+  pub numbers : List ℕ
+  pub are_numbers : map (id_of tree) numbers ≡ map Some found
+  pub bytes_are : bytes ≡ bytes_of_words numbers
+
+-- the same of selectors that ask what a text asks
+pub record AreAsked (block : List ℕ) (number : ℕ) (selector : List Asked) (bytes : List ℕ) : Type 0 where
+  pub list : List Formula
+  pub asks : map asked list ≡ selector
+  pub are_selected : AreSelected block number list bytes
+
+-- the elements are handed out, or the block has no tree; or what is wrong with the selector; or memory is refused
+abbrev pub Answers : (block : List ℕ) → (number : ℕ) → Outcome (List Asked) → (status count : ℕ) → Type 0
+Answers block number (Found selector) status count = (status ≡ 3) ⊎ HandsOutSuch (AreAsked block number selector) status count
+Answers block number Absent status count = (status ≡ 1) ⊎ (status ≡ 5)
+Answers block number TooMany status count = (status ≡ 1) ⊎ (status ≡ 5)

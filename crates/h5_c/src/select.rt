@@ -1,30 +1,53 @@
 //! The elements of a block that a selector matches.
-ghost use Rattle.std.specs.Prelude.{◌≡◌, ◌<◌, ◌≤◌, IfOk, false, true};
+ghost use Rattle.std.specs.Prelude.{◌≡◌, ◌<◌, ◌≤◌, IfOk, IfSome, false, map, true};
 ghost use Rattle.std.specs.Str.{IsUtf8, chars};
 ghost use Rattle.html_tree_builder.specs.Grammar.{selectors_of};
-ghost use Rattle.h5_c.specs.Selecting.{Answers};
+ghost use Rattle.html_tree_builder.specs.ArenaModel.{place};
+ghost use Rattle.h5_c.specs.Selecting.{Answers, AreSelected, selected_below};
 ghost use Rattle.h5_flat.specs.Block as b;
 
 use super::status::{BAD_ARGUMENT, BAD_SELECTOR, MEMORY, NO_NODE, NO_TREE, bytes_of, give};
-use h5_flat::{View, arena_of};
+use h5_flat::{Unpacked, View, arena_of};
+use html_tree_builder::NodeId;
 use html_tree_builder::select::{Selector, SelectorFault};
 use std::alloc::{AllocError, Global};
 use std::fmt::Write;
 
-// The numbers of the elements below a node that a selector matches. Below a text stand none.
+// The elements below a node that a selector matches. Below a text stand none. Nothing where the arena doesn't have the node.
+fn select_below(
+    alloc: Global,
+    tree: &Unpacked,
+    node: u32,
+    selector: &Selector,
+) -> Result<Option<Vec<NodeId>>, AllocError>
+    ensures { IfOk result (λ found. IfSome found (λ found. map place found.items ≡ selected_below tree.now node selector.now)) }
+{
+    match tree.id(node) {
+        Some(id) if !tree.arena.holds(id) => Ok(None),
+        Some(id) => Ok(Some(selector.select(&tree.arena, id)?)),
+        None => Ok(Some(Vec::new(alloc))),
+    }
+}
+
+// The numbers of the elements below a node that a selector matches. Nothing where the block has no tree.
 fn select(
     alloc: Global,
     view: &View<'_>,
     node: u32,
     selector: &Selector,
-) -> Result<Vec<u8>, AllocError> {
-    let unpacked = arena_of(alloc, view)?;
-    let found = match unpacked.id(node) {
-        Some(id) if unpacked.arena.holds(id) => selector.select(&unpacked.arena, id)?,
-        _ => Vec::new(alloc),
+) -> Result<Option<Vec<u8>>, AllocError>
+    ensures { IfOk result (λ found. IfSome found (λ bytes. AreSelected view.now.block.now node selector.now bytes.items)) }
+{
+    let Some(tree) = arena_of(alloc, view)? else {
+        return Ok(None);
     };
-    let numbers = unpacked.numbers(alloc, found.as_slice())?;
-    bytes_of(alloc, numbers.as_slice())
+    let Some(found) = select_below(alloc, &tree, node, selector)? else {
+        return Ok(None);
+    };
+    match tree.numbers(alloc, found.as_slice())? {
+        Some(numbers) => Ok(Some(bytes_of(alloc, numbers.as_slice())?)),
+        None => Ok(None),
+    }
 }
 
 // What is said of a wrong selector.
@@ -36,7 +59,8 @@ fn message_of(alloc: Global, fault: SelectorFault) -> Result<Vec<u8>, AllocError
     }
 }
 
-/// The elements below a node that a selector matches, or a message that says what is wrong with it.
+/// The elements below a node that a selector matches, in tree order, or a message that says what is wrong with it. Where the block
+/// isn't one that a tree was packed into it has no tree, and `NO_TREE` says so.
 #[unsafe(no_mangle)]
 pub extern "C" fn hengaruto_select(
     alloc: Global,
@@ -50,7 +74,7 @@ pub extern "C" fn hengaruto_select(
     ensures no_node { b.is_block block.now ≡ true → b.nodes_in block.now ≤ node → result ≡ 2 }
     ensures no_text { b.is_block block.now ≡ true → node < b.nodes_in block.now → ¬ (IsUtf8 selector.now) → result ≡ 4 }
     ensures answered { b.is_block block.now ≡ true → node < b.nodes_in block.now → IsUtf8 selector.now
-        → Answers (selectors_of (chars selector.now)) result }
+        → Answers block.now node (selectors_of (chars selector.now)) result length.new }
 {
     let Some(view) = View::of(block) else {
         return NO_TREE;
@@ -62,7 +86,11 @@ pub extern "C" fn hengaruto_select(
         return BAD_ARGUMENT;
     };
     match Selector::parse(alloc, text) {
-        Ok(selector) => give(select(alloc, &view, node, &selector), found, length),
+        Ok(selector) => match select(alloc, &view, node, &selector) {
+            Ok(Some(bytes)) => give(Ok(bytes), found, length),
+            Ok(None) => NO_TREE,
+            Err(AllocError) => MEMORY,
+        },
         Err(SelectorFault::Memory) => MEMORY,
         Err(fault) => match give(message_of(alloc, fault), found, length) {
             MEMORY => MEMORY,

@@ -1,5 +1,6 @@
 //! What a call answers, and how bytes are given to the caller.
-ghost use Rattle.std.specs.Prelude.{◌≡◌, MatchResult};
+ghost use Rattle.std.specs.Prelude.{◌≡◌, IfOk, MatchResult};
+ghost use Rattle.h5_flat.specs.Packed.{bytes_of_words};
 ghost use Rattle.h5_c.specs.Status.{HandsOut};
 
 use std::alloc::{AllocError, Global};
@@ -13,7 +14,7 @@ pub(crate) const MEMORY: u32 = 1;
 /// No such node, row or name.
 pub(crate) const NO_NODE: u32 = 2;
 
-/// The bytes are no block.
+/// The bytes are no block, or not one that a tree was packed into.
 pub(crate) const NO_TREE: u32 = 3;
 
 /// A name or a selector that isn't UTF-8, or a namespace in which no element stands.
@@ -47,7 +48,9 @@ pub(crate) fn give(made: Result<Vec<u8>, AllocError>, out: &mut *mut u8, length:
 }
 
 /// Words as bytes, the least one first.
-pub(crate) fn bytes_of(alloc: Global, words: &[u32]) -> Result<Vec<u8>, AllocError> {
+pub(crate) fn bytes_of(alloc: Global, words: &[u32]) -> Result<Vec<u8>, AllocError>
+    ensures { IfOk result (λ bytes. bytes.items ≡ bytes_of_words words.now) }
+{
     let mut bytes = Vec::new(alloc);
     for word in words {
         bytes.extend_from_slice(&word.to_le_bytes())?;

@@ -5,4 +5,5 @@ pub mod NameLaws
 pub mod PackLaws
 pub mod ReadLaws
 pub mod ReadingLaws
+pub mod SameLaws
 pub mod SoundLaws

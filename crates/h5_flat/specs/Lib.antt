@@ -5,5 +5,6 @@ pub mod Ids
 pub mod Numbered
 pub mod Packed
 pub mod Read
+pub mod SameTree
 pub mod Sound
 pub mod Unpacked

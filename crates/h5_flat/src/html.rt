@@ -50,7 +50,7 @@ impl<'a> View<'a> {
     }
 
     // The local name of a name.
-    fn local_of(&self, name: u32) -> &'a str
+    pub(crate) fn local_of(&self, name: u32) -> &'a str
         ensures { result.now ≡ r.local_of self.now.block.now name }
     {
         match self.name_text(name) {
@@ -71,7 +71,7 @@ impl<'a> View<'a> {
     }
 
     // The number of the name of a row.
-    fn row_name(&self, node: u32, index: u32) -> u32
+    pub(crate) fn row_name(&self, node: u32, index: u32) -> u32
         ensures { result ≡ r.row_name_of self.now.block.now node index }
     {
         match self.row(node, index) {

@@ -3,7 +3,8 @@
 //! `columns` takes the calls that tell of a tree and keeps its nodes as columns of words, in tree order, and `of_arena` takes those of an
 //! arena. `pack` writes the columns into one block, and `view` reads such a block: each read is checked, so any bytes may be read as a
 //! tree, and `soundness` tells whether they are one. `names` keeps names, `numbered_names` numbers them, and `numbers` numbers kinds and
-//! namespaces. `html` writes a node of a block, and `unpack` makes an arena of a block again.
+//! namespaces. `html` writes a node of a block. `unpack` makes an arena of a block again, and `same_tree` tells whether it has the tree of
+//! the block.
 #![tactic(auto)]
 
 mod columns;
@@ -13,9 +14,8 @@ mod numbered_names;
 mod numbers;
 mod of_arena;
 mod pack;
+mod same_tree;
 mod soundness;
-#[cfg(test)]
-mod tests;
 mod unpack;
 mod view;
 

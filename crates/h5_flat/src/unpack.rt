@@ -1,10 +1,11 @@
 //! The arena of a block.
-ghost use Rattle.std.specs.Prelude.{◌≡◌};
+ghost use Rattle.std.specs.Prelude.{◌≡◌, IfOk, IfSome, Some, map};
+ghost use Rattle.h5_flat.specs.SameTree.{IsTreeOf, quirks_named};
 ghost use Rattle.h5_flat.specs.Unpacked.{id_of};
 
 use super::numbers::{COMMENT, DOCTYPE, DOCUMENT, ELEMENT, FRAGMENT, INSTRUCTION, TEXT, short};
 use super::view::View;
-use h5_arena::{Arena, NodeId, TreeFault};
+use h5_arena::{Arena, Child, NodeId, TreeFault};
 use h5_interface::{NodeOrText, QuirksMode, TreeSink, create_element};
 use h5_names::{LocalName, Namespace, QualName, namespaces};
 use std::alloc::{AllocError, Global};
@@ -17,7 +18,9 @@ pub struct Unpacked {
     ids: Vec<Option<NodeId>>,
 }
 
-fn quirks_of(number: u32) -> QuirksMode {
+fn quirks_of(number: u32) -> QuirksMode
+    ensures { result ≡ quirks_named number }
+{
     match number {
         1 => QuirksMode::LimitedQuirks,
         2 => QuirksMode::Quirks,
@@ -33,19 +36,22 @@ impl Unpacked {
         self.ids.as_slice().get(node as usize).copied().flatten()
     }
 
-    /// The numbers of nodes that stand in tree order. Nodes that have none, and such as stand in another order, are left out.
-    pub fn numbers(&self, alloc: Global, found: &[NodeId]) -> Result<Vec<u32>, AllocError> {
+    /// The numbers of nodes. Nothing where one of them has none, or they don't stand in tree order.
+    pub fn numbers(&self, alloc: Global, found: &[NodeId]) -> Result<Option<Vec<u32>>, AllocError>
+        ensures { IfOk result (λ numbers. IfSome numbers (λ numbers. map (id_of self.now) numbers.items ≡ map Some found.now)) }
+    {
         let mut numbers = Vec::new(alloc);
         let mut left = found;
-        for (number, id) in self.ids.iter().enumerate() {
+        for at in 0..self.ids.len() {
             if let Some((first, rest)) = left.split_first() {
-                if *id == Some(*first) {
-                    numbers.push(short(number)?)?;
+                let number = short(at)?;
+                if self.id(number) == Some(*first) {
+                    numbers.push(number)?;
                     left = rest;
                 }
             }
         }
-        Ok(numbers)
+        Ok(left.is_empty().then_some(numbers))
     }
 
     // The element below which a fragment stands.
@@ -89,20 +95,25 @@ impl Unpacked {
         self.arena.create_pi(target, text)
     }
 
-    fn append_doctype(
+    // Makes a doctype. It is the document's last child then.
+    fn make_doctype(
         &mut self,
         alloc: Global,
         view: &View<'_>,
         node: u32,
-    ) -> Result<(), AllocError> {
+    ) -> Result<Option<NodeId>, AllocError> {
         let name = String::from_str(alloc, view.value_of(node, 0))?;
         let public_id = String::from_str(alloc, view.value_of(node, 1))?;
         let system_id = String::from_str(alloc, view.value_of(node, 2))?;
         self.arena
-            .append_doctype_to_document(name, public_id, system_id)
+            .append_doctype_to_document(name, public_id, system_id)?;
+        match self.arena.last_child(self.arena.document()) {
+            Some(Child::Node(id)) => Ok(Some(*id)),
+            _ => Ok(None),
+        }
     }
 
-    // Makes the node of a number. A text and a doctype are put where they stand, and have none.
+    // Makes the node of a number. A text is put where it stands, and has none.
     fn make(
         &mut self,
         alloc: Global,
@@ -119,10 +130,7 @@ impl Unpacked {
                 let text = String::from_str(alloc, view.value_of(node, 0))?;
                 Ok(Some(self.arena.create_comment(text)?))
             }
-            DOCTYPE => {
-                self.append_doctype(alloc, view, node)?;
-                Ok(None)
-            }
+            DOCTYPE => self.make_doctype(alloc, view, node),
             TEXT => {
                 let text = String::from_str(alloc, view.text_of(node))?;
                 self.append(parent, NodeOrText::AppendText(text))?;
@@ -147,12 +155,15 @@ impl Unpacked {
         }
     }
 
-    // Puts the node of a number where it stands. All that stands below it does, and its parent stands nowhere yet, so no way up is
-    // long.
+    // Puts the node of a number where it stands, a doctype aside, which does. All that stands below it does, and its parent stands
+    // nowhere yet, so no way up is long.
     fn attach(&mut self, view: &View<'_>, node: u32) -> Result<(), AllocError> {
         let Some(child) = self.id(node) else {
             return Ok(());
         };
+        if view.kind(node) == DOCTYPE {
+            return Ok(());
+        }
         if node == 0 {
             let document = self.arena.document();
             return self.append(Some(document), NodeOrText::AppendNode(child));
@@ -192,13 +203,22 @@ impl Unpacked {
     }
 }
 
-/// The tree of a block, in an arena. Of bytes that no tree was packed into it is some tree. An `AllocError` where memory is refused.
-pub fn arena_of(alloc: Global, view: &View<'_>) -> Result<Unpacked, AllocError> {
+/// The tree of a block, in an arena. Nothing where the block isn't one that a tree was packed into. An `AllocError` where memory is
+/// refused.
+///
+/// The tree is made, and then it is compared with the block: what is given is the block's tree, whatever the bytes are.
+pub fn arena_of(alloc: Global, view: &View<'_>) -> Result<Option<Unpacked>, AllocError>
+    ensures { IfOk result (λ made. IfSome made (IsTreeOf view.now.block.now)) }
+{
     let mut unpacked = Unpacked {
         arena: Arena::without_errors(alloc)?,
         ids: Vec::new(alloc),
     };
-    unpacked.arena.set_quirks_mode(quirks_of(view.quirks()));
     unpacked.add_all(alloc, view)?;
-    Ok(unpacked)
+    unpacked.arena.set_quirks_mode(quirks_of(view.quirks()));
+    if unpacked.are_nodes_same(view) {
+        Ok(Some(unpacked))
+    } else {
+        Ok(None)
+    }
 }

@@ -11,8 +11,6 @@ mod nodes;
 mod outline;
 mod record;
 mod said;
-#[cfg(test)]
-mod tests;
 mod tokens;
 mod words;
 

@@ -22,8 +22,6 @@ mod open;
 mod page;
 mod page_links;
 mod page_text;
-#[cfg(test)]
-mod tests;
 mod text_writer;
 mod wrap;
 

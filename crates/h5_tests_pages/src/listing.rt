@@ -1,11 +1,8 @@
 //! What is listed of a page.
-use super::item::{Form, Item, print_items};
-use super::leads::{all_links, base_of, links, references};
-use super::nodes::node_lines;
-use super::outline::headings;
-use super::record::{Page, Record, begin_answer, end_answer};
-use super::said::about;
-use super::tokens::token_lines;
+use h5_listing::{
+    Form, Item, Page, Record, about, all_links, base_of, begin_answer, end_answer, headings, links,
+    node_lines, print_items, references, token_lines,
+};
 use html_tree_builder::arena::Arena;
 use html_tree_builder::{ParseOpts, parse_document};
 use std::alloc::Global;

@@ -1,10 +1,8 @@
 //! A tree as a block, and what is read of it.
-use super::html::html_of;
-use super::numbers::{COMMENT, DOCUMENT, ELEMENT, NOTHING, TEXT};
-use super::of_arena::columns_of_document;
-use super::unpack::arena_of;
-use super::view::View;
 use h5_arena::{Arena, NodeId, TreeFault};
+use h5_flat::{
+    COMMENT, DOCUMENT, ELEMENT, NOTHING, TEXT, View, arena_of, columns_of_document, html_of,
+};
 use h5_interface::{NodeOrText, TreeSink, create_element};
 use h5_names::{Attribute, LocalName, Namespace, QualName, namespaces};
 use std::alloc::{AllocError, Global};
@@ -93,12 +91,12 @@ fn a_block_is_written_as_html_and_made_a_tree_again(rt: HostRuntime) -> Result<(
         html.as_slice(),
         b"<p id=\"x\">some text<!--a note--></p>".as_slice()
     );
-    let unpacked = arena_of(alloc, &view)?;
+    let unpacked = arena_of(alloc, &view)?.ok_or("no tree")?;
     let p = unpacked.id(1).ok_or("no node")?;
     assert!(rt; unpacked.arena.holds(p));
     let inner = unpacked.arena.inner_html(p)?;
     assert_eq!(rt; inner.as_str(), "some text<!--a note-->");
-    let numbers = unpacked.numbers(alloc, &[p])?;
+    let numbers = unpacked.numbers(alloc, &[p])?.ok_or("no numbers")?;
     assert_eq!(rt; numbers.as_slice(), [1u32].as_slice());
     Ok(())
 }

@@ -1,6 +1,5 @@
 //! Pages, their text and their links.
-use super::page_links::links_of_page;
-use super::page_text::text_of_page;
+use h5_page::{links_of_page, text_of_page};
 use std::fmt::Write;
 use std::test::Fail;
 
