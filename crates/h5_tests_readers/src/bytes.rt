@@ -13,6 +13,9 @@ type PageParser = BytesParser<StandardReader<Arena>>;
 
 const PAGE: &[u8] = b"<!DOCTYPE html><meta charset=koi8-r><p>\xF7";
 
+// With these a page decides its encoding.
+const BLANKS: [u8; 1024] = [b' '; 1024];
+
 const TREE: &str =
     "<!DOCTYPE html><html><head><meta charset=\"koi8-r\"></head><body><p>\u{412}</p></body></html>";
 
@@ -21,12 +24,11 @@ fn new_parser(alloc: Global) -> Result<PageParser, AllocError> {
     Ok(BytesParser::new(alloc, parser, EncodingOpts::default()))
 }
 
-// The tree of a page that comes in two chunks.
-fn tree_of_two(alloc: Global, one: &[u8], other: &[u8]) -> Result<Arena, BuildFault> {
-    let mut parser = new_parser(alloc)?;
-    parser.process(one)?;
-    parser.process(other)?;
-    parser.finish()
+// A parser that took these bytes.
+fn fed(parser: PageParser, bytes: &[u8]) -> Result<PageParser, BuildFault> {
+    let mut parser = parser;
+    parser.process(bytes)?;
+    Ok(parser)
 }
 
 #[test]
@@ -38,24 +40,15 @@ fn a_page_is_read_in_the_encoding_that_it_says(rt: HostRuntime) -> Result<(), Fa
 }
 
 #[test]
-fn a_page_may_come_in_chunks(rt: HostRuntime) -> Result<(), Fail> {
-    let (one, other) = PAGE.split_at(20);
-    let arena = tree_of_two(rt.alloc(), one, other)?;
-    let html = html_of(rt.alloc(), &arena)?;
-    assert_eq!(rt; html.as_slice(), TREE.as_bytes());
-    Ok(())
-}
-
-#[test]
 fn the_encoding_is_told_once_it_is_decided(rt: HostRuntime) -> Result<(), Fail> {
-    let mut parser = new_parser(rt.alloc())?;
-    parser.process(PAGE)?;
+    let parser = fed(new_parser(rt.alloc())?, PAGE)?;
     assert!(rt; parser.encoding().is_none());
-    let blanks = vec![in rt.alloc(); b' '; 1024]?;
-    parser.process(blanks.as_slice())?;
+    let parser = fed(parser, &BLANKS)?;
     let koi8_r = Encoding::SingleByte(SingleByte::Koi8R);
     assert!(rt; parser.encoding() == Some((koi8_r, Source::Meta)));
     assert!(rt; !parser.has_errors());
     assert_eq!(rt; parser.replaced(), 0);
+    let arena = parser.finish()?;
+    assert!(rt; arena.len() > 1);
     Ok(())
 }
