@@ -2,15 +2,11 @@
 //! standard reader.
 //!
 //! `recording` runs a reader, whichever it is. `plain` and `standard` have texts and what is handed on of them, `calls` what the
-//! calls answer, `parser` has trees in arenas, and `encodings` has bytes in any encoding, and `bytes` pages of them. Begin with `src/standard.rt`.
+//! calls answer, and `parser` has trees in arenas. Begin with `src/standard.rt`.
 #![tactic(auto)]
 
 #[cfg(test)]
-mod bytes;
-#[cfg(test)]
 mod calls;
-#[cfg(test)]
-mod encodings;
 #[cfg(test)]
 mod parser;
 #[cfg(test)]
