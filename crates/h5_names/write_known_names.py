@@ -294,8 +294,10 @@ def write_lists(names, sets, fronts, text):
 
 
 def write_tags(names, text):
-    text = re.sub(r"TAGS: \[&str; \d+\]", f"TAGS: [&str; {len(names) + 1}]", text)
-    return between(text, f"TAGS: [&str; {len(names) + 1}] = [\n", '    "<></>",\n', "".join(f'    "<{it.text}></{it.text}>",\n' for it in names))
+    text = re.sub(r"\[&str; \d+\]", f"[&str; {len(names) + 1}]", text)
+    head = lambda table: f"{table}: [&str; {len(names) + 1}] = [\n"
+    text = between(text, head("TAGS"), '    "<></>",\n', "".join(f'    "<{it.text}></{it.text}>",\n' for it in names))
+    return between(text, head("ATTRIBUTES"), '    "\\" =\\"",\n', "".join(f'    "\\" {it.text}=\\"",\n' for it in names))
 
 
 def write_count(names, text):

@@ -1,4 +1,4 @@
--- The table has the tags of each name at the name's number, and where they are cut.
+-- The tables have the tags and the attribute of each name at the name's number, and where they are cut.
 use Rattle.std.proofs.Common.{◌≡◌, ◌+◌, ◌-◌, ◌++◌, ◌∷◌, ℕ, List, [], drop, get_or, length, map, refl, sym, ap, ◌∙◌, arith, take}
 use Rattle.std.proofs.Math.Seq.{take-append_seam, take-length, drop-append_seam}
 use Rattle.std.proofs.lemmas.List.{length-append, length-drop, take-append-le}
@@ -7,12 +7,17 @@ use Rattle.h5_names.specs.contracts.known_name.KnownName.{the_type}
 use Rattle.h5_names.specs.declared.known_name.KnownName.{KnownName}
 use Rattle.h5_names.specs.declared.known_name.KnownName.TheVariants.{A}
 use Rattle.h5_names.specs.KnownNames.{name_text}
+use Rattle.std.specs.Prelude.{codes}
 use Rattle.h5_serialize.specs.Writing.{both_tags}
-use Rattle.h5_serialize.specs.declared.known_tags.TheConstants.{TAGS}
+use Rattle.h5_serialize.specs.declared.known_tags.TheConstants.{ATTRIBUTES, TAGS}
 
 pub tags_at_number : (known : KnownName) → get_or (map (λ text. text.now) TAGS) (tag_of the_type known) [] ≡ both_tags (name_text known)
 tags_at_number A = refl
 tags_at_number _ = refl
+
+pub attribute_at_number : (known : KnownName) → get_or (map (λ text. text.now) ATTRIBUTES) (tag_of the_type known) [] ≡ codes "\" " ++ name_text known ++ codes "=\""
+attribute_at_number A = refl
+attribute_at_number _ = refl
 
 -- a start tag without attributes
 abbrev bare : List ℕ → List ℕ
@@ -46,3 +51,7 @@ cut_end name tags text e f =
     let end = 60 ∷ 47 ∷ (name ++ 62 ∷ []) in
     to_the_end (length text + 2) tags
     ∙ (ap (drop (length text + 2)) e ∙ (ap (λ k. drop k (both_tags name)) n ∙ drop-append_seam (bare name) end))
+
+-- all but the first byte
+pub cut_first : (x : ℕ) (text rest : List ℕ) → text ≡ x ∷ rest → take (length text - 1) (drop 1 text) ≡ rest
+cut_first x text rest e = to_the_end 1 text ∙ ap (λ l. drop 1 l) e

@@ -1,3 +1,4 @@
+mod AttributeLaws
 mod KnownTags
 pub mod EachLaws
 pub mod EntryLemmas

@@ -18,6 +18,17 @@ attribute_prefix name =
     else (if is_same_text name.ns (codes "http://www.w3.org/1999/xlink") then codes "xlink:"
     else codes "unknown_namespace:")))
 
+-- what an attribute begins with, up to its value
+abbrev pub attribute_front : QualName → List ℕ
+attribute_front name = codes " " ++ attribute_prefix name ++ name.local ++ codes "=\""
+
+-- an attribute up to the end of its value, and the same behind another, whose value it closes
+abbrev pub attribute_begun : AttributeText → List ℕ
+attribute_begun attribute = attribute_front attribute.name ++ escape true attribute.value
+
+abbrev pub attribute_next : AttributeText → List ℕ
+attribute_next attribute = codes "\"" ++ attribute_begun attribute
+
 abbrev pub attribute_written : AttributeText → List ℕ
 attribute_written attribute =
     codes " " ++ attribute_prefix attribute.name ++ attribute.name.local

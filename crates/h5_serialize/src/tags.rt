@@ -1,21 +1,22 @@
 //! Writing tags.
-ghost use Rattle.std.specs.Prelude.{◌≡◌, ◌++◌, List, codes, map, OnOk, OnErr, IsErr, IsOkUnless, ◌∷◌};
+ghost use Rattle.std.specs.Prelude.{◌≡◌, ◌≢◌, [], ◌++◌, List, codes, map, OnOk, OnErr, IsErr, IsOkUnless, ◌∷◌};
 ghost use Rattle.std.specs.Io.KnownBytes.{Keeps};
 ghost use Rattle.std.specs.Iterator.{Drains, IsFinite};
 ghost use Rattle.std.specs.List.{flat_map};
 ghost use Rattle.h5_names.specs.AttributeText.{AttributeText};
+ghost use Rattle.h5_names.specs.KnownNames.{name_text};
 ghost use Rattle.h5_serialize.specs.Fronts.{Writes};
-ghost use Rattle.h5_serialize.specs.Writing.{attribute_prefix, attribute_written, start_tag, end_tag};
+ghost use Rattle.h5_serialize.specs.Writing.{attribute_begun, attribute_front, attribute_next, attribute_prefix, start_tag, end_tag};
 
 use super::attributes::AttrRef;
 use super::escape::{write_between, write_bytes, write_escaped, write_verbatim};
 use super::fault::SerializeFault;
-use super::known_tags::{end_of, start_of, whole_start_of};
+use super::known_tags::{attribute_of, end_of, next_attribute_of, start_of, whole_start_of};
 use h5_names::{KnownName, LocalName, QualName, namespaces};
 use std::io::Write;
 
 // What stands before the local name of an attribute: a space, and then a prefix.
-fn attribute_front(name: &QualName) -> &'static str
+fn prefix_of(name: &QualName) -> &'static str
     ensures { result.now ≡ codes " " ++ attribute_prefix name.now }
 {
     match name.ns.as_str() {
@@ -33,35 +34,84 @@ fn attribute_front(name: &QualName) -> &'static str
     }
 }
 
-// Writes an attribute after a space.
-fn write_attribute<Wr: Write>(
+// The name that HTML knows of an attribute of no namespace, or `Other`.
+fn known_of(name: &QualName) -> KnownName
+    ensures { result ≢ KnownName.Other → (attribute_prefix name.now ≡ []) × (name_text result ≡ name.now.local) }
+{
+    if name.ns.as_str().is_empty() {
+        name.local.known()
+    } else {
+        KnownName::Other
+    }
+}
+
+// Writes what an attribute begins with, up to its value.
+fn write_front<Wr: Write>(writer: &mut Wr, name: &QualName) -> Result<(), SerializeFault>
+    ensures text { Writes result (Wr.contents writer.old) (Wr.contents writer.new) (attribute_front name.now) }
+    ensures fault { IsOkUnless result SerializeFault.Write }
+{
+    match known_of(name) {
+        KnownName::Other => { write_between(writer, prefix_of(name), name.local.as_str(), "=\"") }
+        known => write_bytes(writer, attribute_of(known)),
+    }
+}
+
+// The same behind another attribute, whose value it closes.
+fn write_next_front<Wr: Write>(writer: &mut Wr, name: &QualName) -> Result<(), SerializeFault>
+    ensures text { Writes result (Wr.contents writer.old) (Wr.contents writer.new) (codes "\"" ++ attribute_front name.now) }
+    ensures fault { IsOkUnless result SerializeFault.Write }
+{
+    match known_of(name) {
+        KnownName::Other => {
+            write_verbatim(writer, "\"")?;
+            write_between(writer, prefix_of(name), name.local.as_str(), "=\"")
+        }
+        known => write_bytes(writer, next_attribute_of(known)),
+    }
+}
+
+// Writes an attribute after a space, up to the end of its value.
+fn write_first<Wr: Write>(
     writer: &mut Wr,
     name: &QualName,
     value: &str,
 ) -> Result<(), SerializeFault>
     ensures text { Writes result (Wr.contents writer.old) (Wr.contents writer.new)
-        (attribute_written (record { name = name.now; value = value.now })) }
+        (attribute_begun (record { name = name.now; value = value.now })) }
     ensures fault { IsOkUnless result SerializeFault.Write }
 {
-    write_between(writer, attribute_front(name), name.local.as_str(), "=\"")?;
-    write_escaped(writer, value, true)?;
-    write_verbatim(writer, "\"")
+    write_front(writer, name)?;
+    write_escaped(writer, value, true)
 }
 
-// Goes on with an attribute, unless what came before it met a fault.
+// The same behind another attribute, whose value it closes.
+fn write_next<Wr: Write>(
+    writer: &mut Wr,
+    name: &QualName,
+    value: &str,
+) -> Result<(), SerializeFault>
+    ensures text { Writes result (Wr.contents writer.old) (Wr.contents writer.new)
+        (attribute_next (record { name = name.now; value = value.now })) }
+    ensures fault { IsOkUnless result SerializeFault.Write }
+{
+    write_next_front(writer, name)?;
+    write_escaped(writer, value, true)
+}
+
+// Goes on with an attribute behind another, unless what came before it met a fault.
 fn write_further<Wr: Write, T: AttrRef>(
     writer: &mut Wr,
     begun: Result<(), SerializeFault>,
     attr: &T,
 ) -> Result<(), SerializeFault>
     ensures text { OnOk begun (Writes result (Wr.contents writer.old) (Wr.contents writer.new)
-        (attribute_written (T.attribute attr.now))) }
+        (attribute_next (T.attribute attr.now))) }
     ensures kept { OnErr begun (Keeps (Wr.contents writer.old) (Wr.contents writer.new)) }
     ensures fault { IsOkUnless begun SerializeFault.Write → IsOkUnless result SerializeFault.Write }
     ensures stays { OnErr begun (IsErr result) }
 {
     begun?;
-    write_attribute(writer, attr.name(), attr.value())
+    write_next(writer, attr.name(), attr.value())
 }
 
 // Writes what a start tag of this local name begins with.
@@ -87,8 +137,22 @@ fn write_whole_start<Wr: Write>(writer: &mut Wr, name: &LocalName) -> Result<(),
     }
 }
 
-// Writes what a start tag of this local name begins with, and the attributes that an iterator gives. All of them are read, also
-// behind a fault.
+// Writes what a start tag of this local name begins with, up to the end of its first attribute's value.
+fn write_begun<Wr: Write, T: AttrRef>(
+    writer: &mut Wr,
+    name: &LocalName,
+    first: &T,
+) -> Result<(), SerializeFault>
+    ensures text { Writes result (Wr.contents writer.old) (Wr.contents writer.new)
+        (codes "<" ++ name.now ++ attribute_begun (T.attribute first.now)) }
+    ensures fault { IsOkUnless result SerializeFault.Write }
+{
+    write_start(writer, name)?;
+    write_first(writer, first.name(), first.value())
+}
+
+// Writes what a start tag of this local name begins with, and its attributes, which are the first and those that an iterator
+// gives, up to the end of the last one's value. All of them are read, also behind a fault.
 fn write_open<Wr: Write, T: AttrRef, I: Iterator<Item = T> + Drop>(
     writer: &mut Wr,
     name: &LocalName,
@@ -99,11 +163,10 @@ fn write_open<Wr: Write, T: AttrRef, I: Iterator<Item = T> + Drop>(
     requires ends { IsFinite (I.remaining attrs) }
     ensures text { (all : List _) × Drains I.next_gives attrs all
         × Writes result (Wr.contents writer.old) (Wr.contents writer.new)
-        ((codes "<" ++ name.now) ++ flat_map attribute_written (map T.attribute (first ∷ all))) }
+        ((codes "<" ++ name.now ++ attribute_begun (T.attribute first)) ++ flat_map attribute_next (map T.attribute all)) }
     ensures fault { IsOkUnless result SerializeFault.Write }
 {
-    let mut result = write_start(writer, name);
-    result = write_further(writer, result, &first);
+    let mut result = write_begun(writer, name, &first);
     for attr in attrs {
         result = write_further(writer, result, &attr);
     }
@@ -128,7 +191,7 @@ pub fn write_start_tag<Wr: Write, T: AttrRef, I: Iterator<Item = T> + Drop>(
         None => write_whole_start(writer, &name.local),
         Some(first) => {
             write_open(writer, &name.local, first, attrs)?;
-            write_verbatim(writer, ">")
+            write_verbatim(writer, "\">")
         }
     }
 }

@@ -1,14 +1,11 @@
-use Rattle.std.proofs.Common.{◌++◌, ◌∷◌, ◌≡◌, ℕ, List, [], map, refl}
+use Rattle.std.proofs.Common.{◌++◌, ◌∷◌, map}
 use Rattle.std.specs.Iterator.{Drains}
 use Rattle.std.specs.List.{flat_map}
 use Rattle.std.specs.Prelude.{codes}
-use Rattle.h5_serialize.specs.Writing.{attribute_written}
+use Rattle.h5_serialize.specs.Writing.{attribute_begun, attribute_next}
+use Rattle.h5_serialize.proofs.AttributeLaws.{closed}
 use Rattle.h5_serialize.proofs.FrontLaws.{front_first, goes_on, stops}
 use Rattle.h5_serialize.proofs.tags.write_start_tag.Goals as goal
-
--- what stands before the end of a start tag
-split : (name attrs : List ℕ) → 60 ∷ ((name ++ attrs) ++ 62 ∷ []) ≡ ((60 ∷ name) ++ attrs) ++ 62 ∷ []
-split name attrs = refl
 
 pub returns-in_err-write_open-in-Some-clause-text : goal.returns-in_err-write_open-in-Some-clause-text
 returns-in_err-write_open-in-Some-clause-text g c =
@@ -16,8 +13,10 @@ returns-in_err-write_open-in-Some-clause-text g c =
     let all = c.in-Some.first ∷ open_tag.0 in
     let drains : Drains g.I.Iterator.next_gives c.args.attrs all =
     (open_tag.1.0, (open_tag.1.1.0, (c.next.new.self, c.in-Some.ensures.steps, open_tag.1.1.1), open_tag.1.1.2)) in
-    let attrs = flat_map attribute_written (map g.T.AttrRef.attribute all) in
-    (all, drains, stops _ {b = g.Wr.Write.contents c.write_open.new.writer} _ c.from_residual.ensures.1 (front_first ((codes "<" ++ c.args.name.now.local) ++ attrs) (codes ">") _ (split c.args.name.now.local attrs) open_tag.2))
+    let first = g.T.AttrRef.attribute c.in-Some.first in
+    let rest = map g.T.AttrRef.attribute open_tag.0 in
+    let start = codes "<" ++ c.args.name.now.local in
+    (all, drains, stops _ {b = g.Wr.Write.contents c.write_open.new.writer} _ c.from_residual.ensures.1 (front_first {b = g.Wr.Write.contents c.write_open.new.writer} ((start ++ attribute_begun first) ++ flat_map attribute_next rest) (codes "\">") _ (closed start first rest) open_tag.2))
 
 pub returns-in_ok-write_open-in-Some-clause-text : goal.returns-in_ok-write_open-in-Some-clause-text
 returns-in_ok-write_open-in-Some-clause-text g c =
@@ -25,5 +24,7 @@ returns-in_ok-write_open-in-Some-clause-text g c =
     let all = c.in-Some.first ∷ open_tag.0 in
     let drains : Drains g.I.Iterator.next_gives c.args.attrs all =
     (open_tag.1.0, (open_tag.1.1.0, (c.next.new.self, c.in-Some.ensures.steps, open_tag.1.1.1), open_tag.1.1.2)) in
-    let attrs = flat_map attribute_written (map g.T.AttrRef.attribute all) in
-    (all, drains, goes_on _ _ _ c.write_verbatim.result ((codes "<" ++ c.args.name.now.local) ++ attrs) (codes ">") _ (split c.args.name.now.local attrs) open_tag.2 c.write_verbatim.ensures.text)
+    let first = g.T.AttrRef.attribute c.in-Some.first in
+    let rest = map g.T.AttrRef.attribute open_tag.0 in
+    let start = codes "<" ++ c.args.name.now.local in
+    (all, drains, goes_on _ _ _ c.write_verbatim.result ((start ++ attribute_begun first) ++ flat_map attribute_next rest) (codes "\">") _ (closed start first rest) open_tag.2 c.write_verbatim.ensures.text)
