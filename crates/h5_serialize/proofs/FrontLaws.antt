@@ -81,6 +81,10 @@ pub goes_on : {T E : Type 0} (a b c : Option (List ℕ)) (r : Result T E) (x y a
 goes_on a b c (Ok done) x y all e first h = subst (Appends a c) (sym e) (Appends-trans a b c x y first h)
 goes_on a b c (Err fault) x y all e first h = front_later x y all e first h
 
+-- behind a call that wrote nothing
+pub goes_after : {T E : Type 0} (a b c : Option (List ℕ)) (r : Result T E) (text : List ℕ) → Keeps a b → Writes r b c text → Writes r a c text
+goes_after a b c r text kept h = goes_on a b c r [] text text refl (Appends-kept a a b [] (Appends-nil a) kept) h
+
 -- the second of two parts, where nothing is written of it behind a fault of the first
 pub goes_further : {T E : Type 0} (a b c : Option (List ℕ)) (begun r : Result T E) (x y all : List ℕ) → all ≡ x ++ y
     → Writes begun a b x → OnOk begun (Writes r b c y) → OnErr begun (Keeps b c) → OnErr begun (IsErr r) → Writes r a c all

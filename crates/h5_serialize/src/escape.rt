@@ -16,8 +16,9 @@ use super::fault::SerializeFault;
 use memchr::{memchr, memchr2, memchr3};
 use std::io::{ErrorKind, Write};
 
-/// Writes bytes. The fault is `Write`, where the writer fails; it has taken a front of them then.
-pub fn write_bytes<Wr: Write>(writer: &mut Wr, bytes: &[u8]) -> Result<(), SerializeFault>
+// Writes bytes that the writer did not take at once.
+#[inline(never)]
+fn write_rest<Wr: Write>(writer: &mut Wr, bytes: &[u8]) -> Result<(), SerializeFault>
     ensures bytes { Writes result (Wr.contents writer.old) (Wr.contents writer.new) bytes.now }
     ensures fault { IsOkUnless result SerializeFault.Write }
 {
@@ -37,6 +38,28 @@ pub fn write_bytes<Wr: Write>(writer: &mut Wr, bytes: &[u8]) -> Result<(), Seria
         }
     }
     Err(SerializeFault::Write)
+}
+
+/// Writes bytes. The fault is `Write`, where the writer fails; it has taken a front of them then.
+pub fn write_bytes<Wr: Write>(writer: &mut Wr, bytes: &[u8]) -> Result<(), SerializeFault>
+    ensures bytes { Writes result (Wr.contents writer.old) (Wr.contents writer.new) bytes.now }
+    ensures fault { IsOkUnless result SerializeFault.Write }
+{
+    if bytes.is_empty() {
+        return Ok(());
+    }
+    // Most writers take all of it at once.
+    match writer.write(bytes) {
+        Ok(0) => Err(SerializeFault::Write),
+        Ok(n) if n == bytes.len() => Ok(()),
+        Ok(n) => write_rest(writer, &bytes[n..]),
+        Err(error) => {
+            if error.kind() != ErrorKind::Interrupted {
+                return Err(SerializeFault::Write);
+            }
+            write_rest(writer, bytes)
+        }
+    }
 }
 
 /// Writes a text as it stands. The fault is `Write`, where the writer fails; it has taken a front of it then.
