@@ -18,6 +18,7 @@ CRATES = os.path.dirname(os.path.dirname(os.path.abspath(__file__)))
 SLOTS = 1024
 LONGEST = 19
 NO_NUMBER = 255
+SHORT = 7
 SET_BITS = 32
 
 
@@ -169,6 +170,26 @@ def factors_for(names, now):
     return now
 
 
+def key(text):
+    """A text of up to seven bytes as one number, or 0 for a longer one."""
+    return int.from_bytes(b"\1" + text.encode(), "big") if len(text) <= SHORT else 0
+
+
+def short_slot(text, factor):
+    return key(text) * factor % 2**64 // 2**54
+
+
+def short_factor_for(names, now):
+    """A factor by which each short name has a slot of its own: the one that is there if it serves, or the first that does."""
+    short = [name.text for name in names if len(name.text) <= SHORT]
+    number = 1
+    while len({short_slot(text, now) for text in short}) < len(short):
+        # Numbers without a plan that are the same in each run.
+        number = (number * 6364136223846793005 + 1442695040888963407) % 2**64
+        now = number | 1
+    return now
+
+
 def filled(items, width, indent=4, behind=""):
     """Items in lines of at most this width, parted by spaces."""
     lines, line = [], " " * indent
@@ -224,6 +245,19 @@ def write_slots(names, text):
     text = between(text, "    match number {\n", "    }\n", f"{arms}        {len(names)}..=255 => KnownName::Other,\n")
     text = between(text, "[u8; 1024] = [\n", "];", filled([f"{number}," for number in numbers], 99) + "\n")
     return text, factors
+
+
+def write_short_names(names, text):
+    factor = short_factor_for(names, int(re.search(r"wrapping_mul\((\d+)\)", text)[1]))
+    text = re.sub(r"wrapping_mul\(\d+\)", f"wrapping_mul({factor})", text)
+    numbers = [NO_NUMBER] * SLOTS
+    for number, name in enumerate(names):
+        if len(name.text) <= SHORT:
+            numbers[short_slot(name.text, factor)] = number
+    text = between(text, f"SHORT_NUMBERS: [u8; {SLOTS}] = [\n", "];", filled([f"{number}," for number in numbers], 99) + "\n")
+    text = re.sub(r"KEYS: \[u64; \d+\]", f"KEYS: [u64; {len(names) + 1}]", text)
+    keys = [*(key(name.text) for name in names), key("")]
+    return between(text, f"KEYS: [u64; {len(names) + 1}] = [\n", "];", "".join(f"    {it},\n" for it in keys)), factor
 
 
 def write_definitions(names, factors, text):
@@ -309,11 +343,13 @@ def files_of(names, sets, fronts):
     """Each file that is made of the list, as it stands and as it is to be."""
     read_file = lambda path: open(f"{CRATES}/{path}", encoding="utf-8").read()
     slots, factors = write_slots(names, read_file("h5_names/src/known_slots.rt"))
+    slots, short_factor = write_short_names(names, slots)
     yield "h5_names/src/known_slots.rt", slots
     for path, write in (
         ("h5_names/src/known_name.rt", lambda text: write_names(names, text)),
         ("h5_names/src/known_cases.rt", lambda text: write_cases(names, text)),
         ("h5_names/specs/KnownNames.antt", lambda text: write_definitions(names, factors, text)),
+        ("h5_names/specs/ShortNames.antt", lambda text: re.sub(r"key \* \d+ %", f"key * {short_factor} %", text)),
         ("h5_names/proofs/KnownNameLemmas.antt", lambda text: write_count(names, text)),
         ("h5_names/proofs/known_slots/name_of_number/Answers.antt", lambda text: write_count(names, text)),
         ("h5_tables/src/name_sets.rt", lambda text: write_flags(names, sets, text)),

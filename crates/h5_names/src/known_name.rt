@@ -4,7 +4,7 @@ ghost use Rattle.std.specs.Char.{to_ascii_lowercase};
 ghost use Rattle.h5_names.specs.KnownNames.{known_name_of, name_text};
 
 use super::known_cases::{in_lower_case, in_mixed_case};
-use super::known_slots::candidate;
+use super::known_slots::{candidate, short_name};
 
 /// A name that HTML knows, of an element or an attribute, or `Other`.
 ///
@@ -559,6 +559,9 @@ impl KnownName {
     pub fn from_text(text: &str) -> KnownName
         ensures { result ≡ known_name_of text.now }
     {
+        if text.len() <= 7 {
+            return short_name(text);
+        }
         let lower = candidate(text);
         if lower.as_str() == text {
             return lower;
