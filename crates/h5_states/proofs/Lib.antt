@@ -9,5 +9,8 @@ pub mod LineLaws
 pub mod WholeLaws
 pub mod AheadLaws
 pub mod TableLaws
+pub mod ErrorListLaws
+pub mod TellingLaws
+pub mod ToldLaws
 mod Outcomes
 mod Examples

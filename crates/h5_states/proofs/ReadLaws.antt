@@ -16,6 +16,13 @@ passes_go_on table more (drops d h) = drops d (passes_go_on table more h)
 passes_go_on table more (goes text state d e h) = goes text state d e (passes_go_on table more h)
 passes_go_on table more (again text state d e h) = again text state d e (passes_go_on table more h)
 
+-- bytes are passed, and then more
+pub passes_join : (table : List Reference) {p q r : ReaderPlace} {xs ys zs text more : List ℕ} → Passes table p xs text q ys → Passes table q ys more r zs → Passes table p xs (text ++ more) r zs
+passes_join table passed h = h
+passes_join table (drops d g) h = drops d (passes_join table g h)
+passes_join table (goes text state d e g) h = rw append_assoc (goes text state d e (passes_join table g h))
+passes_join table (again text state d e g) h = rw append_assoc (again text state d e (passes_join table g h))
+
 module _ (table : List Reference) {M : Type 0} (reply_to : M → TokenText → Reply) (after : M → TokenText → ℕ → M) (foreign : M → Bool) where
   step_goes_on : {p : ReaderPlace} {m : M} {xs : List ℕ} {ts : List TokenText} {reply : Reply} {q : ReaderPlace} {n : M} {ys : List ℕ} (more : List ℕ)
       → Step table reply_to after foreign p m xs ts reply q n ys → Step table reply_to after foreign p m (xs ++ more) ts reply q n (ys ++ more)

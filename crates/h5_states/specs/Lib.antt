@@ -20,3 +20,8 @@ pub mod Lines
 pub mod Reading
 pub mod End
 pub mod Whole
+pub mod Told
+pub mod Spots
+pub mod InputErrors
+pub mod Telling
+pub mod ErrorList

@@ -151,3 +151,23 @@ pub fn what_was_seen_is_taken_as_it_is()
     ensures keyword { (table : List Reference) (last seen : List ℕ) → begins_keyword seen ≡ true → AreIgnoredInDoctype table last seen }
     ensures name { (seen : List ℕ) → is_beginning references seen ≡ true → LeavesLetters seen (longest references seen) }
 {}
+
+ghost use Rattle.h5_states.specs.declared.position.Spot.{Spot};
+ghost use Rattle.h5_states.specs.Telling.{Reached, Reaches, IsReadSo, at_first};
+ghost use Rattle.h5_states.specs.declared.position.ToldError.{ToldError};
+
+/// What tells errors is a reading: without them, it is that of the tokens that it hands on.
+pub fn what_tells_errors_reads<S: TokenSink>()
+    ensures { (table : List Reference) (p : ReaderPlace) (s : Spot) (m : S.Meaning) (xs : List ℕ) (r : Reached S.Meaning) (told : List ToldError) →
+        Reaches table S.reply_to S.after S.is_foreign (at_first p s m xs) r told
+        → IsReadSo table S.reply_to S.after S.is_foreign p m xs r }
+{}
+
+/// The errors of a piece, and then those of what it left and of more input behind it, are those of the whole input.
+pub fn told_pieces_join<S: TokenSink>()
+    ensures { (table : List Reference) (p : ReaderPlace) (s : Spot) (m : S.Meaning) (xs more : List ℕ) (q r : Reached S.Meaning) (told errors : List ToldError) →
+        Reaches table S.reply_to S.after S.is_foreign (at_first p s m xs) q told
+        → goes_on q.reply ≡ true → q.text ≡ []
+        → Reaches table S.reply_to S.after S.is_foreign (at_first q.place q.spot q.meaning (q.rest ++ more)) r errors
+        → Reaches table S.reply_to S.after S.is_foreign (at_first p s m (xs ++ more)) r (told ++ errors) }
+{}

@@ -17,9 +17,15 @@
 //! chapter beside the standard.
 #![tactic(auto)]
 
+mod error_list;
+mod error_sink;
 mod errors;
 mod kinds;
 pub mod laws;
+mod position;
 
+pub use error_list::Errors;
+pub use error_sink::ErrorSink;
 pub use errors::ParseError;
 pub use kinds::{Escape, Identifier, Quote, RawTextKind, TextKind};
+pub use position::{Position, Spot, ToldError};

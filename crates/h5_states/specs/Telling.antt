@@ -1,0 +1,127 @@
+-- Reading, with the parse errors that it tells: a reader that takes one byte after another.
+use Rattle.std.specs.Prelude.{◌≡◌, ◌⊎◌, ℕ, Bool, true, false, List, [], ◌∷◌, ◌++◌, if◌then◌else◌}
+use Rattle.h5_token.specs.TokenText.{TokenText, Characters}
+use Rattle.h5_token.specs.Reply.{Reply, Continues}
+use Rattle.h5_reading.specs.Answers.{goes_on}
+use Rattle.h5_states.specs.declared.errors.ParseError.{ParseError}
+use Rattle.h5_states.specs.declared.position.ToldError.{ToldError}
+use Rattle.h5_states.specs.Lines.{normal}
+use Rattle.h5_states.specs.States.{State}
+use Rattle.h5_states.specs.Turn.{Outcome, Consumed, Reconsumed, Emitted, Asks}
+use Rattle.h5_states.specs.References.{Reference}
+use Rattle.h5_states.specs.Machine.{turn}
+use Rattle.h5_states.specs.AtEnd.{at_end}
+use Rattle.h5_states.specs.Reading.{ReaderPlace, outcome, is_dropped, behind, behind_newline, in_state, after_token, Passes, Read}
+use Rattle.h5_states.specs.Told.{told_at}
+use Rattle.h5_states.specs.declared.position.Spot.{Spot}
+use Rattle.h5_states.specs.Spots.{position, spot_behind, spot_past, spot_again}
+use Rattle.h5_states.specs.InputErrors.{InputErrors}
+
+-- How far a reading came: the text that was emitted and not handed on, and the line in which it began; the last answer;
+-- where reading is; what the sink means; and what is left of the input.
+pub record Reached (M : Type 0) : Type 0 where
+  pub text : List ℕ
+  pub line : ℕ
+  pub reply : Reply
+  pub place : ReaderPlace
+  pub spot : Spot
+  pub meaning : M
+  pub rest : List ℕ
+
+-- nothing was read
+abbrev pub at_first : {M : Type 0} → ReaderPlace → Spot → M → List ℕ → Reached M
+at_first p s m xs = record { text = []; line = p.began; reply = Continues; place = p; spot = s; meaning = m; rest = xs }
+
+-- the errors of the row at a byte, and those of the end
+abbrev pub row_errors : List Reference → ReaderPlace → ℕ → List ParseError
+row_errors table p x = (turn table p.last p.state (normal x)).errors
+
+abbrev pub end_errors : List Reference → ReaderPlace → List ParseError
+end_errors table p = (at_end table p.state).errors
+
+-- these errors, where reading is
+abbrev pub told_here : {M : Type 0} → Reached M → List ParseError → List ToldError
+told_here r errors = told_at (position r.place.line r.spot) errors
+
+-- A row is done at the byte at hand, and reading may go on. These are the errors of the input there, if the byte is new, and
+-- then those of the row.
+pub record MeetsByte (table : List Reference) {M : Type 0} (r : Reached M) (x : ℕ) (xs : List ℕ) (deed : Outcome) (errors : List ParseError) : Type 0 where
+  pub goes_on : goes_on r.reply ≡ true
+  pub front : r.rest ≡ x ∷ xs
+  pub not_dropped : is_dropped r.place x ≡ false
+  pub outcome : outcome table r.place x ≡ deed
+  pub input : List ParseError
+  pub input_errors : InputErrors r.spot.is_new r.rest input
+  pub errors_are : errors ≡ input ++ row_errors table r.place x
+
+-- behind the byte at hand, which was consumed
+abbrev pub consumed : {M : Type 0} → ℕ → List ℕ → State → Reached M → Reached M
+consumed x xs state r = record r { reply = Continues; place = behind x state r.place; spot = spot_behind x r.spot; rest = xs }
+
+abbrev pub reconsumed : {M : Type 0} → State → Reached M → Reached M
+reconsumed state r = record r { reply = Continues; place = in_state state r.place; spot = spot_again r.spot }
+
+-- behind a LINE FEED that is dropped
+abbrev pub dropped : {M : Type 0} → List ℕ → Reached M → Reached M
+dropped xs r = record r { reply = Continues; place = behind_newline r.place; spot = spot_past r.spot; rest = xs }
+
+-- a text is emitted, behind what is held
+abbrev pub emitting : {M : Type 0} → List ℕ → Reached M → Reached M
+emitting text r = record r { text = r.text ++ text }
+
+-- no text is held, and what is emitted next begins here
+abbrev pub with_none : {M : Type 0} → Reached M → Reached M
+with_none r = record r { text = []; line = r.place.began }
+
+module _ {M : Type 0} (reply_to : M → TokenText → Reply) (after : M → TokenText → ℕ → M) where
+  -- a token was handed on, which began in this line
+  abbrev pub handed : TokenText → ℕ → Reached M → Reached M
+  handed token line r = with_none (record r { reply = reply_to r.meaning token; place = after_token token (reply_to r.meaning token) r.place; meaning = after r.meaning token line })
+
+module _ (table : List Reference) {M : Type 0} (reply_to : M → TokenText → Reply) (after : M → TokenText → ℕ → M) (foreign : M → Bool) where
+  -- Reading from here on came so far, and told these errors.
+  pub data Reaches (start : Reached M) : Reached M → List ToldError → Type 0 where
+    begins : Reaches start start []
+    drops : {r : Reached M} {told : List ToldError} {x : ℕ} {xs : List ℕ} → Reaches start r told
+        → goes_on r.reply ≡ true → r.rest ≡ x ∷ xs → is_dropped r.place x ≡ true → Reaches start (dropped xs r) told
+    goes : {r : Reached M} {told : List ToldError} {x : ℕ} {xs : List ℕ} {errors : List ParseError} (text : List ℕ) (state : State) → Reaches start r told
+        → MeetsByte table r x xs (Consumed text state) errors
+        → Reaches start (emitting text (consumed x xs state r)) (told ++ told_here r errors)
+    again : {r : Reached M} {told : List ToldError} {x : ℕ} {xs : List ℕ} {errors : List ParseError} (text : List ℕ) (state : State) → Reaches start r told
+        → MeetsByte table r x xs (Reconsumed text state) errors
+        → Reaches start (emitting text (reconsumed state r)) (told ++ told_here r errors)
+    -- the text that is held is handed on, wherever that is convenient
+    hands_text : {r : Reached M} {told : List ToldError} {x : ℕ} {text : List ℕ} → Reaches start r told
+        → goes_on r.reply ≡ true → r.text ≡ x ∷ text → Reaches start (handed reply_to after (Characters r.text) r.line r) told
+    -- there is none
+    hands_nothing : {r : Reached M} {told : List ToldError} → Reaches start r told
+        → goes_on r.reply ≡ true → r.text ≡ [] → Reaches start (at_first r.place r.spot r.meaning r.rest) told
+    hands_token : {r : Reached M} {told : List ToldError} {x : ℕ} {xs : List ℕ} {errors : List ParseError} (token : TokenText) (state : State) → Reaches start r told
+        → r.text ≡ [] → MeetsByte table r x xs (Emitted token state) errors
+        → Reaches start (handed reply_to after token r.place.began (consumed x xs state r)) (told ++ told_here r errors)
+    -- the adjusted current node is asked for, and where it is in the HTML namespace that is an error
+    asks : {r : Reached M} {told : List ToldError} {x : ℕ} {xs : List ℕ} {errors : List ParseError} (there : State) (error : ParseError) (elsewhere : State) → Reaches start r told
+        → r.text ≡ [] → MeetsByte table r x xs (Asks there error elsewhere) errors
+        → Reaches start (with_none (consumed x xs (if foreign r.meaning then there else elsewhere) r))
+        (told ++ told_here r (if foreign r.meaning then errors else errors ++ error ∷ []))
+
+  -- An input was read up to an answer, and then bytes were passed up to here. What they emit is held, and began in this line.
+  pub record IsHeld (p : ReaderPlace) (m : M) (xs : List ℕ) (r : Reached M) : Type 0 where
+    pub tokens : List TokenText
+    pub reply : Reply
+    pub place : ReaderPlace
+    pub rest : List ℕ
+    pub read : Read table reply_to after foreign p m xs tokens reply place r.meaning rest
+    pub goes_on : goes_on reply ≡ true
+    pub passes : Passes table place rest r.text r.place r.rest
+    pub began : r.line ≡ place.began
+
+  -- An input was read up to here, where it was answered so. Nothing is held.
+  pub record IsHanded (p : ReaderPlace) (m : M) (xs : List ℕ) (r : Reached M) : Type 0 where
+    pub tokens : List TokenText
+    pub read : Read table reply_to after foreign p m xs tokens r.reply r.place r.meaning r.rest
+    pub none : r.text ≡ []
+    pub began : r.line ≡ r.place.began
+
+  abbrev pub IsReadSo : ReaderPlace → M → List ℕ → Reached M → Type 0
+  IsReadSo p m xs r = IsHeld p m xs r ⊎ IsHanded p m xs r
