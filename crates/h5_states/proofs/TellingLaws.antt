@@ -32,7 +32,7 @@ again_passes table {p} {x} {xs} text state front d e =
 module _ (table : List Reference) {M : Type 0} (reply_to : M → TokenText → Reply) (after : M → TokenText → ℕ → M) (foreign : M → Bool) where
   -- where reading goes on, what is held is what was passed behind what was handed on
   pub held : {p : ReaderPlace} {m : M} {xs : List ℕ} (r : Reached M) → IsReadSo table reply_to after foreign p m xs r → goes_on r.reply ≡ true → IsHeld table reply_to after foreign p m xs r
-  held r (inl h) on = h
+  held r (inl h) on = h.1
   held r (inr h) on = record {
     tokens = h.tokens;
     reply = r.reply;
@@ -51,7 +51,7 @@ module _ (table : List Reference) {M : Type 0} (reply_to : M → TokenText → R
   text_read {ts = ts} x line t text e l read on passes = rw (e, l) (ts ++ (Characters (x ∷ t) ∷ []), read_on read on (text_step (rw e at passes)))
 
   -- nothing is held, and reading goes on from here
-  none_read : {p : ReaderPlace} {m : M} {xs : List ℕ} (r : Reached M) → IsHeld table reply_to after foreign p m xs r → r.text ≡ []
+  pub none_read : {p : ReaderPlace} {m : M} {xs : List ℕ} (r : Reached M) → IsHeld table reply_to after foreign p m xs r → r.text ≡ []
       → (us : List TokenText) × Read table reply_to after foreign p m xs us Continues r.place r.meaning r.rest
   none_read r h e = (h.tokens ++ [], read_on h.read h.goes_on (quiet_step (subst (λ t. Passes table h.place h.rest t r.place r.rest) e h.passes)))
 
@@ -61,7 +61,7 @@ module _ (table : List Reference) {M : Type 0} (reply_to : M → TokenText → R
   reaches_read begins = inr (record { tokens = []; read = nothing_read; none = refl; began = refl })
   reaches_read (drops {r} {xs = ys} so on front d) =
       let h = held r (reaches_read so) on in
-      inl (record {
+      inl (refl, record {
         tokens = h.tokens;
         reply = h.reply;
         place = h.place;
@@ -73,7 +73,7 @@ module _ (table : List Reference) {M : Type 0} (reply_to : M → TokenText → R
       })
   reaches_read (goes {r} text state so here) =
       let h = held r (reaches_read so) here.goes_on in
-      inl (record {
+      inl (refl, record {
         tokens = h.tokens;
         reply = h.reply;
         place = h.place;
@@ -85,7 +85,7 @@ module _ (table : List Reference) {M : Type 0} (reply_to : M → TokenText → R
       })
   reaches_read (again {r} text state so here) =
       let h = held r (reaches_read so) here.goes_on in
-      inl (record {
+      inl (refl, record {
         tokens = h.tokens;
         reply = h.reply;
         place = h.place;

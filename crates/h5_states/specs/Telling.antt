@@ -124,4 +124,4 @@ module _ (table : List Reference) {M : Type 0} (reply_to : M → TokenText → R
     pub began : r.line ≡ r.place.began
 
   abbrev pub IsReadSo : ReaderPlace → M → List ℕ → Reached M → Type 0
-  IsReadSo p m xs r = IsHeld p m xs r ⊎ IsHanded p m xs r
+  IsReadSo p m xs r = ((r.reply ≡ Continues) × IsHeld p m xs r) ⊎ IsHanded p m xs r
