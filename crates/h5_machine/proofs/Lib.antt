@@ -10,6 +10,11 @@ pub mod CountLaws
 pub mod CutLaws
 pub mod DoctypeLaws
 pub mod FoldLaws
+pub mod FurtherLaws
+pub mod TagErrorLaws
+pub mod DeclarationErrorLaws
+pub mod DoctypeErrorLaws
+pub mod ReferenceErrorLaws
 pub mod NameLaws
 pub mod NameRunLaws
 pub mod MoreLaws

@@ -8,3 +8,4 @@ pub mod Wide
 pub mod Ending
 pub mod Runs
 pub mod Quoted
+pub mod RowErrors

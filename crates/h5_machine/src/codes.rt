@@ -3,8 +3,10 @@
 ghost use Rattle.std.specs.Prelude.{◌≡◌, ◌<◌, ◌≤◌, ◌-◌, ◌+◌, ◌*◌, ◌||◌, true, encode_utf8, if◌then◌else◌, nat_lt};
 ghost use Rattle.h5_states.specs.References as r;
 ghost use Rattle.h5_states.specs.Signs.{is_hex_digit, replacement};
+ghost use Rattle.h5_states.specs.InputErrors.{character_errors};
+ghost use Rattle.h5_states.specs.Told.{if_any};
 
-use super::transition::{note, note_if};
+use super::row_errors::only_if;
 use h5_states::ParseError;
 
 // The code points that references to 0x80 to 0x9F stand for, 0 where they stand for themselves.
@@ -54,18 +56,38 @@ fn is_control(code: u32) -> bool
     (code < 0x20 && !(code == 9 || code == 10 || code == 12)) || (0x7f <= code && code <= 0x9f)
 }
 
-fn note_code(code: u32) {
+/// The error of a number, if there is one.
+pub fn code_error(code: u32) -> Option<ParseError>
+    ensures { if_any result ≡ r.code_errors code }
+{
     if code == 0 {
-        note(ParseError::NullCharacterReference);
-    } else if code > 0x10ffff {
-        note(ParseError::CharacterReferenceOutsideUnicodeRange);
-    } else if 0xd800 <= code && code <= 0xdfff {
-        note(ParseError::SurrogateCharacterReference);
-    } else if is_noncharacter(code) {
-        note(ParseError::NoncharacterCharacterReference);
-    } else {
-        note_if(is_control(code), ParseError::ControlCharacterReference);
+        return Some(ParseError::NullCharacterReference);
     }
+    if code > 0x10ffff {
+        return Some(ParseError::CharacterReferenceOutsideUnicodeRange);
+    }
+    if 0xd800 <= code && code <= 0xdfff {
+        return Some(ParseError::SurrogateCharacterReference);
+    }
+    if is_noncharacter(code) {
+        return Some(ParseError::NoncharacterCharacterReference);
+    }
+    only_if(is_control(code), ParseError::ControlCharacterReference)
+}
+
+/// The error of a character of the input stream, if there is one: a noncharacter, or a control that is neither NUL nor
+/// ASCII whitespace (HTML standard, section 13.2.3.5).
+pub fn input_error(c: char) -> Option<ParseError>
+    ensures { if_any result ≡ character_errors c }
+{
+    let code = c as u32;
+    if is_noncharacter(code) {
+        return Some(ParseError::NoncharacterInInputStream);
+    }
+    only_if(
+        is_control(code) && !(code == 0 || code == 13),
+        ParseError::ControlCharacterInInputStream,
+    )
 }
 
 // What a code point of the C1 controls stands for.
@@ -95,7 +117,6 @@ fn character(code: u32) -> char
 pub fn code_point(code: u32) -> char
     ensures { encode_utf8 result ≡ r.code_point code }
 {
-    note_code(code);
     if code == 0 {
         return UNKNOWN;
     }

@@ -10,8 +10,8 @@ ghost use Rattle.h5_machine.specs.Wide.{comment_takes_wide};
 
 use super::machine_state::{CommentState, DoctypeState, MachineState};
 use super::signs::{begins, begins_folded, is_folded, is_word, pop_byte, push_byte, push_cleaned};
-use super::transition::{CurrentToken, Transition, note, note_if};
-use h5_states::{ParseError, TextKind};
+use super::transition::{CurrentToken, Transition};
+use h5_states::TextKind;
 use std::alloc::AllocError;
 
 const HANDS: Transition = Transition::Emitted(CurrentToken::Comment, TextKind::Data);
@@ -24,7 +24,6 @@ fn bogus_comment(comment: &mut String, b: u8) -> Result<Transition, AllocError>
     if b == b'>' {
         return Ok(HANDS);
     }
-    note_if(b == 0, ParseError::UnexpectedNullCharacter);
     push_cleaned(comment, b)?;
     Ok(Transition::Consumed(MachineState::Comment(CommentState::BogusComment)))
 }
@@ -40,7 +39,6 @@ fn begins_opening(seen: &str) -> bool
 fn not_opened() -> Transition
     ensures { result ≡ Transition.Reconsumed (MachineState.Comment CommentState.BogusComment) }
 {
-    note(ParseError::IncorrectlyOpenedComment);
     Transition::Reconsumed(MachineState::Comment(CommentState::BogusComment))
 }
 
@@ -75,10 +73,7 @@ fn comment_start(comment: &mut String, b: u8) -> Transition
     comment.clear();
     match b {
         b'-' => Transition::Consumed(MachineState::Comment(CommentState::CommentStartDash)),
-        b'>' => {
-            note(ParseError::AbruptClosingOfEmptyComment);
-            HANDS
-        }
+        b'>' => HANDS,
         _ => Transition::Reconsumed(MachineState::Comment(CommentState::Comment)),
     }
 }
@@ -90,10 +85,7 @@ fn comment_start_dash(comment: &mut String, b: u8) -> Result<Transition, AllocEr
     comment.clear();
     match b {
         b'-' => Ok(Transition::Consumed(MachineState::Comment(CommentState::CommentEnd))),
-        b'>' => {
-            note(ParseError::AbruptClosingOfEmptyComment);
-            Ok(HANDS)
-        }
+        b'>' => Ok(HANDS),
         _ => {
             comment.push_str("-")?;
             Ok(Transition::Reconsumed(MachineState::Comment(CommentState::Comment)))
@@ -113,7 +105,6 @@ fn comment(comment: &mut String, b: u8) -> Result<Transition, AllocError>
         }
         b'-' => Ok(Transition::Consumed(MachineState::Comment(CommentState::CommentEndDash))),
         _ => {
-            note_if(b == 0, ParseError::UnexpectedNullCharacter);
             push_cleaned(comment, b)?;
             Ok(Transition::Consumed(MachineState::Comment(CommentState::Comment)))
         }
@@ -165,7 +156,6 @@ fn comment_less_than_sign_bang_dash(b: u8) -> Transition
 fn comment_less_than_sign_bang_dash_dash(b: u8) -> Transition
     ensures { (comment : List ℕ) → DoesComment result comment (c.comment_less_than_sign_bang_dash_dash_state comment b) }
 {
-    note_if(b != b'>', ParseError::NestedComment);
     Transition::Reconsumed(MachineState::Comment(CommentState::CommentEnd))
 }
 
@@ -207,10 +197,7 @@ fn comment_end_bang(comment: &mut String, b: u8) -> Result<Transition, AllocErro
             comment.push_str("--!")?;
             Ok(Transition::Consumed(MachineState::Comment(CommentState::CommentEndDash)))
         }
-        b'>' => {
-            note(ParseError::IncorrectlyClosedComment);
-            Ok(HANDS)
-        }
+        b'>' => Ok(HANDS),
         _ => {
             comment.push_str("--!")?;
             Ok(Transition::Reconsumed(MachineState::Comment(CommentState::Comment)))

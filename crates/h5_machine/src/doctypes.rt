@@ -17,20 +17,12 @@ use super::machine_state::{DoctypeState, MachineState};
 use super::signs::{
     REPLACEMENT, begins_folded, is_blank, is_folded, push_byte, push_lowered, sign_of,
 };
-use super::transition::{CurrentToken, Transition, note, note_if};
-use h5_states::{Identifier, ParseError, Quote, TextKind};
+use super::transition::{CurrentToken, Transition};
+use h5_states::{Identifier, Quote, TextKind};
 use h5_token::Doctype;
 use std::alloc::AllocError;
 
 const HANDS: Transition = Transition::Emitted(CurrentToken::Doctype, TextKind::Data);
-
-// The error of the one identifier, or of the other.
-fn chosen(id: Identifier, public: ParseError, system: ParseError) -> ParseError {
-    match id {
-        Identifier::Public => public,
-        Identifier::System => system,
-    }
-}
 
 fn goes(state: DoctypeState) -> Transition
     ensures { result ≡ Transition.Consumed (MachineState.Doctype state) }
@@ -80,7 +72,6 @@ fn begin_doctype(b: u8) -> Transition
     if is_blank(b) {
         return goes(DoctypeState::BeforeDoctypeName);
     }
-    note_if(b != b'>', ParseError::MissingWhitespaceBeforeDoctypeName);
     Transition::Reconsumed(MachineState::Doctype(DoctypeState::BeforeDoctypeName))
 }
 
@@ -98,13 +89,11 @@ fn before_doctype_name(
         return Ok(goes(DoctypeState::BeforeDoctypeName));
     }
     if b == b'>' {
-        note(ParseError::MissingDoctypeName);
         *doctype = nameless();
         return Ok(HANDS);
     }
     let mut name = empty;
     if b == 0 {
-        note(ParseError::UnexpectedNullCharacter);
         name.push_str(REPLACEMENT)?;
     } else {
         push_byte(&mut name, b.to_ascii_lowercase())?;
@@ -126,7 +115,6 @@ fn doctype_name(doctype: &mut Doctype, seen: &mut String, b: u8) -> Result<Trans
         return Ok(HANDS);
     }
     if b == 0 {
-        note(ParseError::UnexpectedNullCharacter);
         push_doctype_name(doctype, REPLACEMENT)?;
     } else {
         push_name_byte(doctype, b)?;
@@ -209,7 +197,6 @@ fn without_keyword(doctype: &mut Doctype) -> Transition
     ensures transition { result ≡ Transition.Reconsumed (MachineState.Doctype DoctypeState.BogusDoctype) }
     ensures doctype { doctype_text doctype.new ≡ quirky (doctype_text doctype.old) }
 {
-    note(ParseError::InvalidCharacterSequenceAfterDoctypeName);
     doctype.force_quirks = true;
     Transition::Reconsumed(MachineState::Doctype(DoctypeState::BogusDoctype))
 }
@@ -264,11 +251,6 @@ fn without_identifier(id: Identifier, doctype: &mut Doctype) -> Transition
     ensures transition { result ≡ HANDS }
     ensures doctype { doctype_text doctype.new ≡ quirky (doctype_text doctype.old) }
 {
-    note(chosen(
-        id,
-        ParseError::MissingDoctypePublicIdentifier,
-        ParseError::MissingDoctypeSystemIdentifier,
-    ));
     doctype.force_quirks = true;
     HANDS
 }
@@ -278,11 +260,6 @@ fn without_quote(id: Identifier, doctype: &mut Doctype) -> Transition
     ensures transition { result ≡ Transition.Reconsumed (MachineState.Doctype DoctypeState.BogusDoctype) }
     ensures doctype { doctype_text doctype.new ≡ quirky (doctype_text doctype.old) }
 {
-    note(chosen(
-        id,
-        ParseError::MissingQuoteBeforeDoctypePublicIdentifier,
-        ParseError::MissingQuoteBeforeDoctypeSystemIdentifier,
-    ));
     doctype.force_quirks = true;
     Transition::Reconsumed(MachineState::Doctype(DoctypeState::BogusDoctype))
 }
@@ -295,20 +272,9 @@ fn after_doctype_keyword(id: Identifier, doctype: &mut Doctype, empty: String, b
     if is_blank(b) {
         return goes(DoctypeState::BeforeDoctypeIdentifier(id));
     }
-    let blank_missing = chosen(
-        id,
-        ParseError::MissingWhitespaceAfterDoctypePublicKeyword,
-        ParseError::MissingWhitespaceAfterDoctypeSystemKeyword,
-    );
     match b {
-        b'"' => {
-            note(blank_missing);
-            begins_identifier(id, Quote::Double, doctype, empty)
-        }
-        b'\'' => {
-            note(blank_missing);
-            begins_identifier(id, Quote::Single, doctype, empty)
-        }
+        b'"' => begins_identifier(id, Quote::Double, doctype, empty),
+        b'\'' => begins_identifier(id, Quote::Single, doctype, empty),
         b'>' => without_identifier(id, doctype),
         _ => without_quote(id, doctype),
     }
@@ -359,16 +325,10 @@ fn doctype_identifier(
     }
     match b {
         0 => {
-            note(ParseError::UnexpectedNullCharacter);
             push_identifier(id, doctype, REPLACEMENT)?;
             Ok(goes(DoctypeState::DoctypeIdentifier(id, quote)))
         }
         b'>' => {
-            note(chosen(
-                id,
-                ParseError::AbruptDoctypePublicIdentifier,
-                ParseError::AbruptDoctypeSystemIdentifier,
-            ));
             doctype.force_quirks = true;
             Ok(HANDS)
         }
@@ -389,14 +349,8 @@ fn after_doctype_public_identifier(doctype: &mut Doctype, empty: String, b: u8) 
     }
     match b {
         b'>' => HANDS,
-        b'"' => {
-            note(ParseError::MissingWhitespaceBetweenDoctypePublicAndSystemIdentifiers);
-            begins_identifier(Identifier::System, Quote::Double, doctype, empty)
-        }
-        b'\'' => {
-            note(ParseError::MissingWhitespaceBetweenDoctypePublicAndSystemIdentifiers);
-            begins_identifier(Identifier::System, Quote::Single, doctype, empty)
-        }
+        b'"' => begins_identifier(Identifier::System, Quote::Double, doctype, empty),
+        b'\'' => begins_identifier(Identifier::System, Quote::Single, doctype, empty),
         _ => without_quote(Identifier::System, doctype),
     }
 }
@@ -427,7 +381,6 @@ fn after_doctype_system_identifier(b: u8) -> Transition
     if b == b'>' {
         return HANDS;
     }
-    note(ParseError::UnexpectedCharacterAfterDoctypeSystemIdentifier);
     Transition::Reconsumed(MachineState::Doctype(DoctypeState::BogusDoctype))
 }
 
@@ -438,7 +391,6 @@ fn bogus_doctype(b: u8) -> Transition
     if b == b'>' {
         return HANDS;
     }
-    note_if(b == 0, ParseError::UnexpectedNullCharacter);
     goes(DoctypeState::BogusDoctype)
 }
 

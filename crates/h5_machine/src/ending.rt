@@ -14,8 +14,7 @@ use super::machine_state::{
 };
 use super::references::{OpenReference, flush, flush_char, flush_digitless, flush_named};
 use super::tag::OpenTag;
-use super::transition::{CurrentToken, note};
-use h5_states::{ParseError, TextKind};
+use super::transition::CurrentToken;
 use h5_token::Doctype;
 use std::alloc::AllocError;
 
@@ -24,32 +23,15 @@ fn end_text(state: TextState, buffer: &str, out: &mut String) -> Result<(), Allo
     ensures { OnOk result ((parts : Parts) → Ends (text_state_of state buffer.now) (string_bytes out.old) (string_bytes out.new) None parts) }
 {
     match state {
-        TextState::Text(kind) => {
-            if kind == TextKind::CdataSection {
-                note(ParseError::EofInCdata);
-            }
-            Ok(())
-        }
         TextState::RawLessThanSign(_) => out.push_str("<"),
         TextState::RawEndTagOpen(_) => out.push_str("</"),
         TextState::RawEndTagName(_) => {
             out.push_str("</")?;
             out.push_str(buffer)
         }
-        TextState::CdataSectionBracket => {
-            note(ParseError::EofInCdata);
-            out.push_str("]")
-        }
-        TextState::CdataSectionEnd => {
-            note(ParseError::EofInCdata);
-            out.push_str("]]")
-        }
-        TextState::ScriptDataEscapeStart => Ok(()),
-        TextState::ScriptDataEscapeStartDash => Ok(()),
-        _ => {
-            note(ParseError::EofInScriptHtmlCommentLikeText);
-            Ok(())
-        }
+        TextState::CdataSectionBracket => out.push_str("]"),
+        TextState::CdataSectionEnd => out.push_str("]]"),
+        _ => Ok(()),
     }
 }
 
@@ -58,18 +40,9 @@ fn end_tag(state: TagState, out: &mut String) -> Result<(), AllocError>
     ensures { OnOk result ((parts : Parts) → Ends (tag_state_of state parts.tag) (string_bytes out.old) (string_bytes out.new) None parts) }
 {
     match state {
-        TagState::TagOpen => {
-            note(ParseError::EofBeforeTagName);
-            out.push_str("<")
-        }
-        TagState::EndTagOpen => {
-            note(ParseError::EofBeforeTagName);
-            out.push_str("</")
-        }
-        _ => {
-            note(ParseError::EofInTag);
-            Ok(())
-        }
+        TagState::TagOpen => out.push_str("<"),
+        TagState::EndTagOpen => out.push_str("</"),
+        _ => Ok(()),
     }
 }
 
@@ -79,17 +52,9 @@ fn end_comment(state: CommentState, comment: &mut String)
         (Some CurrentToken.Comment) (record parts { comment = string_bytes comment.new }) }
 {
     match state {
-        CommentState::BogusComment => {}
-        CommentState::MarkupDeclarationOpen => note(ParseError::IncorrectlyOpenedComment),
-        CommentState::CommentStart => {
-            note(ParseError::EofInComment);
-            comment.clear();
-        }
-        CommentState::CommentStartDash => {
-            note(ParseError::EofInComment);
-            comment.clear();
-        }
-        _ => note(ParseError::EofInComment),
+        CommentState::CommentStart => comment.clear(),
+        CommentState::CommentStartDash => comment.clear(),
+        _ => {}
     }
 }
 
@@ -100,18 +65,9 @@ fn end_doctype(state: DoctypeState, doctype: &mut Doctype)
 {
     match state {
         DoctypeState::BogusDoctype => {}
-        DoctypeState::BeginDoctype => {
-            note(ParseError::EofInDoctype);
-            *doctype = nameless();
-        }
-        DoctypeState::BeforeDoctypeName => {
-            note(ParseError::EofInDoctype);
-            *doctype = nameless();
-        }
-        _ => {
-            note(ParseError::EofInDoctype);
-            doctype.force_quirks = true;
-        }
+        DoctypeState::BeginDoctype => *doctype = nameless(),
+        DoctypeState::BeforeDoctypeName => *doctype = nameless(),
+        _ => doctype.force_quirks = true,
     }
 }
 

@@ -11,20 +11,29 @@
 
 mod codes;
 mod comments;
+mod doctype_errors;
 mod doctypes;
+mod end_errors;
 mod ending;
 mod machine;
 mod machine_state;
 mod open_name;
 mod quoted;
+mod reference_errors;
 mod references;
+mod row_errors;
 mod runs;
 mod signs;
 mod tag;
+mod tag_errors;
 mod tags;
+mod telling;
+mod text_errors;
 mod texts;
 mod transition;
+mod wide;
 
 pub use ending::end_of;
 pub use machine::{Machine, Step};
+pub use telling::tell_input_error;
 pub use transition::CurrentToken;

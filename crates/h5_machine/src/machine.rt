@@ -30,6 +30,7 @@ use super::tag::OpenTag;
 use super::tags::tag_turn;
 use super::texts::text_turn;
 use super::transition::{CurrentToken, Transition};
+use super::wide::takes_wide;
 use h5_markup::{SharedNames, find_bare, make_bare};
 use h5_names::LocalName;
 use h5_reading::LastName;
@@ -147,8 +148,8 @@ fn asks_in(at: MachineState) -> bool
     }
 }
 
-// CARRIAGE RETURN is a LINE FEED.
-fn normal(b: u8) -> u8
+/// CARRIAGE RETURN is a LINE FEED.
+pub fn normal(b: u8) -> u8
     ensures { result ≡ normal b }
 {
     if b == b'\r' { b'\n' } else { b }
@@ -270,11 +271,18 @@ impl Machine {
         }
     }
 
-    // Whether it is a LINE FEED behind a CARRIAGE RETURN, which was a newline already.
-    fn is_dropped(&self, b: u8) -> bool
+    /// Whether it is a LINE FEED behind a CARRIAGE RETURN, which was a newline already.
+    pub fn is_dropped(&self, b: u8) -> bool
         ensures { result ≡ reading.is_dropped (place_of self.now) b }
     {
         self.after_return && b == b'\n'
+    }
+
+    /// Whether the state takes bytes that are no ASCII as they are. Such bytes are taken as a run.
+    pub fn takes_wide(&self) -> bool
+        ensures { result ≡ takes_wide self.now.at }
+    {
+        takes_wide(self.at)
     }
 
     /// Takes the byte at hand. What it emits is added to a text.

@@ -2,13 +2,15 @@
 
 ghost use Rattle.std.specs.Prelude.{◌≡◌, ◌<◌, true, [], ◌∷◌, ◌++◌, None, OnOk, IfOk, map, string_bytes};
 ghost use Rattle.std.specs.Char.{to_ascii_lowercase};
+ghost use Rattle.h5_markup.specs.Attributes.{is_named_in};
+ghost use Rattle.h5_names.specs.AttributeText.{attribute_texts};
 ghost use Rattle.h5_machine.specs.Parts.{name_so_far};
 ghost use Rattle.h5_machine.specs.Runs.{are_in};
 
 use super::runs::Run;
 use super::signs::{push_byte, push_lowered};
 use h5_markup::SharedNames;
-use h5_names::LocalName;
+use h5_names::{Attribute, LocalName};
 use std::alloc::{AllocError, Global};
 use std::marker::Model;
 
@@ -59,6 +61,29 @@ impl OpenName {
     {
         self.made = None;
         self.text.clear();
+    }
+
+    // The name so far.
+    fn as_str(&self) -> &str
+        ensures { result.now ≡ self.now }
+    {
+        match &self.made {
+            Some(name) => name.as_str(),
+            None => self.text.as_str(),
+        }
+    }
+
+    /// Whether one of these attributes has this name.
+    pub fn is_in(&self, attributes: &[Attribute]) -> bool
+        ensures { result ≡ is_named_in self.now (attribute_texts attributes.now) }
+    {
+        let name = self.as_str();
+        for attribute in attributes {
+            if attribute.name.local.as_str() == name {
+                return true;
+            }
+        }
+        false
     }
 
     // Whether nothing came of it.

@@ -15,9 +15,8 @@ use super::codes::{code_point, with_digit};
 use super::machine_state::{MachineState, ReferenceState, ReturnTo, returned};
 use super::signs::{is_alphanumeric, is_hex_digit, push_byte};
 use super::tag::OpenTag;
-use super::transition::{Transition, note, note_if};
+use super::transition::Transition;
 use h5_references::{Named, is_beginning, longest};
-use h5_states::ParseError;
 use std::alloc::AllocError;
 
 /// A character reference so far.
@@ -113,16 +112,17 @@ fn next_of(rest: &str, b: u8) -> u8
     }
 }
 
+/// Whether a name ends in a semicolon.
 #[tactic(auto, using(crate::proofs::FlushLaws::ends_in_last))]
-fn is_closed(name: &str) -> bool
+pub fn is_closed(name: &str) -> bool
     ensures { result ≡ r.ends_in 59 name.now }
 {
     let bytes = name.as_bytes();
     0 < bytes.len() && bytes[bytes.len() - 1] == b';'
 }
 
-// The name that was found, and what was seen behind it.
-fn split_found<'a>(seen: &'a str, found: &Named) -> (&'a str, &'a str)
+/// The name that was found, and what was seen behind it.
+pub fn split_found<'a>(seen: &'a str, found: &Named) -> (&'a str, &'a str)
     requires { IsAscii (take found.now.len seen.now) }
     ensures name { result.0.now ≡ take found.now.len seen.now }
     ensures rest { result.1.now ≡ drop found.now.len seen.now }
@@ -130,8 +130,8 @@ fn split_found<'a>(seen: &'a str, found: &Named) -> (&'a str, &'a str)
     seen.split_at(found.len.min(seen.len()))
 }
 
-// For historical reasons, a name without a semicolon is text in an attribute where '=' or an alphanumeric follows.
-fn is_historical(return_to: ReturnTo, name: &str, rest: &str, b: u8) -> bool
+/// For historical reasons, a name without a semicolon is text in an attribute where '=' or an alphanumeric follows.
+pub fn is_historical(return_to: ReturnTo, name: &str, rest: &str, b: u8) -> bool
     ensures { (tag : Tag) (text : List ℕ) →
         result ≡ r.is_historical (return_of return_to tag) (record { name = name.now; text = text; rest = rest.now }) b }
 {
@@ -170,10 +170,6 @@ fn flush_found(
     if is_historical(return_to, name, rest, b) {
         return flush_both(return_to, tag, out, "&", seen);
     }
-    note_if(
-        !is_closed(name),
-        ParseError::MissingSemicolonAfterCharacterReference,
-    );
     flush_both(return_to, tag, out, found.text, rest)
 }
 
@@ -250,7 +246,6 @@ fn ambiguous_ampersand(
         flush_char(return_to, tag, out, b as char)?;
         return Ok(goes(ReferenceState::AmbiguousAmpersand, return_to));
     }
-    note_if(b == b';', ParseError::UnknownNamedCharacterReference);
     Ok(Transition::Reconsumed(returned(return_to)))
 }
 
@@ -280,7 +275,6 @@ pub fn flush_digitless(
 ) -> Result<(), AllocError>
     ensures { OnOk result (Flushes return_to (codes "&#" ++ seen.now) tag.old (string_bytes out.old) tag.new (string_bytes out.new)) }
 {
-    note(ParseError::AbsenceOfDigitsInNumericCharacterReference);
     flush_both(return_to, tag, out, "&#", seen)
 }
 
@@ -334,7 +328,6 @@ fn behind_digits(
         flush_char(return_to, tag, out, code_point(code))?;
         return Ok(Transition::Consumed(returned(return_to)));
     }
-    note(ParseError::MissingSemicolonAfterCharacterReference);
     Ok(again(ReferenceState::NumericCharacterReferenceEnd, return_to))
 }
 

@@ -47,7 +47,44 @@ impl Model for OpenTag {
 impl OpenTag {
     ghost use Rattle.h5_token.specs.TokenText.{TagIs, tag_text};
     ghost use Rattle.h5_token.specs.declared.tag.TagKind.TheVariants.{StartTag};
-    ghost use Rattle.h5_states.specs.Construction.{new_tag, named_further, attribute_named_further, value_further, completed, with_attribute, self_closed, token_of};
+    ghost use Rattle.std.specs.Prelude.{nat_lt, length};
+    ghost use Rattle.h5_states.specs.Turn.{is_end};
+    ghost use Rattle.h5_states.specs.Construction.{is_repeated, new_tag, named_further, attribute_named_further, value_further, completed, with_attribute, self_closed, token_of};
+
+    /// Whether it is an end tag.
+    pub fn is_end(&self) -> bool
+        ensures { result ≡ is_end self.now.kind }
+    {
+        match self.kind {
+            TagKind::StartTag => false,
+            TagKind::EndTag => true,
+        }
+    }
+
+    /// Whether it closes itself.
+    pub fn closes_itself(&self) -> bool
+        ensures { result ≡ self.now.self_closing }
+    {
+        self.self_closing
+    }
+
+    /// Whether it has attributes, once its current one is complete.
+    #[tactic(auto, using(crate::proofs::TagErrorLaws::some_current))]
+    pub fn has_attributes(&self) -> bool
+        ensures { result ≡ nat_lt 0 (length (completed self.now).attrs) }
+    {
+        if self.in_attribute {
+            return true;
+        }
+        !self.kept.attributes.is_empty()
+    }
+
+    /// Whether its current attribute's name stands in it already.
+    pub fn is_repeated(&self) -> bool
+        ensures { result ≡ is_repeated self.now }
+    {
+        self.in_attribute && self.attribute.is_in(&self.kept.attributes)
+    }
 
     /// A start tag without a name. It takes no memory.
     pub fn new(alloc: Global) -> OpenTag

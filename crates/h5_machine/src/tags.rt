@@ -13,10 +13,10 @@ ghost use Rattle.h5_states.specs.Turn.{hand_tag};
 use super::machine_state::{
     CommentState, DATA, MachineState, ReferenceState, ReturnTo, TagState, ValueKind,
 };
-use super::signs::{REPLACEMENT, is_blank, is_name_end, is_quote, sign_of};
+use super::signs::{REPLACEMENT, is_blank, is_name_end, sign_of};
 use super::tag::OpenTag;
-use super::transition::{CurrentToken, Transition, note, note_if};
-use h5_states::{ParseError, Quote, TextKind};
+use super::transition::{CurrentToken, Transition};
+use h5_states::{Quote, TextKind};
 use h5_token::TagKind;
 use std::alloc::AllocError;
 
@@ -45,7 +45,6 @@ fn tag_open(
         }
         b'/' => Ok(Transition::Consumed(MachineState::Tag(TagState::EndTagOpen))),
         b'?' => {
-            note(ParseError::UnexpectedQuestionMarkInsteadOfTagName);
             comment.clear();
             Ok(Transition::Reconsumed(MachineState::Comment(CommentState::BogusComment)))
         }
@@ -54,7 +53,6 @@ fn tag_open(
                 tag.begin(TagKind::StartTag);
                 return Ok(Transition::Reconsumed(MachineState::Tag(TagState::TagName)));
             }
-            note(ParseError::InvalidFirstCharacterOfTagName);
             out.push_str("<")?;
             Ok(Transition::Reconsumed(DATA))
         }
@@ -70,10 +68,8 @@ fn end_tag_open(tag: &mut OpenTag, comment: &mut String, b: u8) -> Transition
         return Transition::Reconsumed(MachineState::Tag(TagState::TagName));
     }
     if b == b'>' {
-        note(ParseError::MissingEndTagName);
         return Transition::Consumed(DATA);
     }
-    note(ParseError::InvalidFirstCharacterOfTagName);
     comment.clear();
     Transition::Reconsumed(MachineState::Comment(CommentState::BogusComment))
 }
@@ -90,7 +86,6 @@ fn tag_name(tag: &mut OpenTag, b: u8) -> Result<Transition, AllocError>
         b'/' => Ok(Transition::Consumed(MachineState::Tag(TagState::SelfClosingStartTag))),
         b'>' => hand_tag(tag),
         0 => {
-            note(ParseError::UnexpectedNullCharacter);
             tag.push_name(REPLACEMENT)?;
             Ok(Transition::Consumed(MachineState::Tag(TagState::TagName)))
         }
@@ -112,7 +107,6 @@ fn before_attribute_name(tag: &mut OpenTag, b: u8) -> Result<Transition, AllocEr
         b'/' => Ok(Transition::Reconsumed(MachineState::Tag(TagState::AfterAttributeName))),
         b'>' => Ok(Transition::Reconsumed(MachineState::Tag(TagState::AfterAttributeName))),
         b'=' => {
-            note(ParseError::UnexpectedEqualsSignBeforeAttributeName);
             tag.begin_attribute()?;
             tag.push_attribute_byte(b)?;
             Ok(Transition::Consumed(MachineState::Tag(TagState::AttributeName)))
@@ -122,12 +116,6 @@ fn before_attribute_name(tag: &mut OpenTag, b: u8) -> Result<Transition, AllocEr
             Ok(Transition::Reconsumed(MachineState::Tag(TagState::AttributeName)))
         }
     }
-}
-
-fn is_odd_in_name(b: u8) -> bool
-    ensures { result ≡ g.is_odd_in_name b }
-{
-    is_quote(b) || b == b'<'
 }
 
 // 13.2.5.33 Attribute name state: where it is left, a name that stands there already is an error
@@ -142,13 +130,8 @@ fn attribute_name(tag: &mut OpenTag, b: u8) -> Result<Transition, AllocError>
         return Ok(Transition::Consumed(MachineState::Tag(TagState::BeforeAttributeValue)));
     }
     if b == 0 {
-        note(ParseError::UnexpectedNullCharacter);
         tag.push_attribute(REPLACEMENT)?;
     } else {
-        note_if(
-            is_odd_in_name(b),
-            ParseError::UnexpectedCharacterInAttributeName,
-        );
         tag.push_attribute_byte(b)?;
     }
     Ok(Transition::Consumed(MachineState::Tag(TagState::AttributeName)))
@@ -188,10 +171,7 @@ fn before_attribute_value(tag: &mut OpenTag, b: u8) -> Result<Transition, AllocE
     match b {
         b'"' => Ok(Transition::Consumed(value(ValueKind::Quoted(Quote::Double)))),
         b'\'' => Ok(Transition::Consumed(value(ValueKind::Quoted(Quote::Single)))),
-        b'>' => {
-            note(ParseError::MissingAttributeValue);
-            hand_tag(tag)
-        }
+        b'>' => hand_tag(tag),
         _ => Ok(Transition::Reconsumed(value(ValueKind::Unquoted))),
     }
 }
@@ -211,7 +191,6 @@ fn attribute_value_quoted(quote: Quote, tag: &mut OpenTag, b: u8) -> Result<Tran
             ReturnTo::Value(kind),
         ))),
         0 => {
-            note(ParseError::UnexpectedNullCharacter);
             tag.push_value(REPLACEMENT)?;
             Ok(Transition::Consumed(value(kind)))
         }
@@ -220,12 +199,6 @@ fn attribute_value_quoted(quote: Quote, tag: &mut OpenTag, b: u8) -> Result<Tran
             Ok(Transition::Consumed(value(kind)))
         }
     }
-}
-
-fn is_odd_in_value(b: u8) -> bool
-    ensures { result ≡ g.is_odd_in_value b }
-{
-    is_quote(b) || b == b'<' || b == b'=' || b == b'`'
 }
 
 // 13.2.5.38 Attribute value (unquoted) state
@@ -243,15 +216,10 @@ fn attribute_value_unquoted(tag: &mut OpenTag, b: u8) -> Result<Transition, Allo
         ))),
         b'>' => hand_tag(tag),
         0 => {
-            note(ParseError::UnexpectedNullCharacter);
             tag.push_value(REPLACEMENT)?;
             Ok(Transition::Consumed(value(ValueKind::Unquoted)))
         }
         _ => {
-            note_if(
-                is_odd_in_value(b),
-                ParseError::UnexpectedCharacterInUnquotedAttributeValue,
-            );
             tag.push_value_byte(b)?;
             Ok(Transition::Consumed(value(ValueKind::Unquoted)))
         }
@@ -278,10 +246,7 @@ fn after_attribute_value_quoted(tag: &mut OpenTag, b: u8) -> Result<Transition, 
     match b {
         b'/' => Ok(Transition::Consumed(MachineState::Tag(TagState::SelfClosingStartTag))),
         b'>' => hand_tag(tag),
-        _ => {
-            note(ParseError::MissingWhitespaceBetweenAttributes);
-            Ok(Transition::Reconsumed(MachineState::Tag(TagState::BeforeAttributeName)))
-        }
+        _ => Ok(Transition::Reconsumed(MachineState::Tag(TagState::BeforeAttributeName))),
     }
 }
 
@@ -293,7 +258,6 @@ fn self_closing_start_tag(tag: &mut OpenTag, b: u8) -> Result<Transition, AllocE
         tag.close_itself();
         return hand_tag(tag);
     }
-    note(ParseError::UnexpectedSolidusInTag);
     Ok(Transition::Reconsumed(MachineState::Tag(TagState::BeforeAttributeName)))
 }
 

@@ -18,9 +18,9 @@ use super::machine_state::{
 };
 use super::signs::{is_blank, is_lowered, is_name_end, push_byte, push_cleaned};
 use super::tag::OpenTag;
-use super::transition::{CurrentToken, Transition, note, note_if};
+use super::transition::{CurrentToken, Transition};
 use h5_reading::LastName;
-use h5_states::{Escape, ParseError, RawTextKind, TextKind};
+use h5_states::{Escape, RawTextKind, TextKind};
 use h5_token::TagKind;
 use std::alloc::AllocError;
 
@@ -35,10 +35,7 @@ fn data(out: &mut String, b: u8) -> Result<Transition, AllocError>
             ReturnTo::Data,
         ))),
         b'<' => Ok(Transition::Consumed(MachineState::Tag(TagState::TagOpen))),
-        0 => {
-            note(ParseError::UnexpectedNullCharacter);
-            Ok(Transition::Emitted(CurrentToken::Null, TextKind::Data))
-        }
+        0 => Ok(Transition::Emitted(CurrentToken::Null, TextKind::Data)),
         _ => {
             push_byte(out, b)?;
             Ok(Transition::Consumed(DATA))
@@ -52,7 +49,6 @@ fn replacing(out: &mut String, b: u8, state: TextState) -> Result<Transition, Al
     ensures transition { IfOk result (λ transition. transition ≡ Transition.Consumed (MachineState.Text state)) }
     ensures text { OnOk result (string_bytes out.new ≡ string_bytes out.old ++ cleaned b) }
 {
-    note_if(b == 0, ParseError::UnexpectedNullCharacter);
     push_cleaned(out, b)?;
     Ok(Transition::Consumed(MachineState::Text(state)))
 }

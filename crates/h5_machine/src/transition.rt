@@ -1,7 +1,7 @@
 //! What a row does.
 
 use super::machine_state::MachineState;
-use h5_states::{ParseError, TextKind};
+use h5_states::TextKind;
 
 /// What is handed on.
 #[derive(Clone, Copy, Debug, PartialEq, Eq)]
@@ -26,11 +26,3 @@ pub enum Transition {
     /// elsewhere that of a bogus comment.
     Asks,
 }
-
-/// Where a parse error stands. None is told yet.
-#[inline(always)]
-pub fn note(_error: ParseError) {}
-
-/// The same, where this holds.
-#[inline(always)]
-pub fn note_if(_holds: bool, _error: ParseError) {}

@@ -1,0 +1,57 @@
+-- The errors of a tag that is handed on.
+use Rattle.std.proofs.Common.{◌≡◌, ℕ, Bool, true, false, List, [], ◌∷◌, ◌++◌, refl, sym, ap, ◌∙◌, length, nat_lt, if◌then◌else◌}
+use Rattle.std.proofs.lemmas.Bool.{false≢true}
+use Rattle.std.specs.Prelude.{◌&&◌, Option, Some, None}
+use Rattle.h5_names.specs.AttributeText.{AttributeText}
+use Rattle.h5_markup.specs.Attributes.{attribute_named, is_named_in}
+use Rattle.h5_states.specs.declared.errors.ParseError.{ParseError}
+use Rattle.h5_states.specs.declared.errors.ParseError.TheVariants.{EndTagWithAttributes, EndTagWithTrailingSolidus}
+use Rattle.h5_states.specs.Construction.{Attribute, Tag, completed, with_complete}
+use Rattle.h5_states.specs.Told.{if_any}
+use Rattle.h5_states.specs.Turn.{hand_complete, hand_tag, is_end}
+
+two_errors : (p q : Bool) (e f : ParseError) → (if p then e ∷ (if q then f ∷ [] else []) else (if q then f ∷ [] else [])) ≡ (if p then e ∷ [] else []) ++ (if q then f ∷ [] else [])
+two_errors true q e f = refl
+two_errors false q e f = refl
+
+-- those of a tag, by whether it has attributes and closes itself
+abbrev tag_errors : Tag → Bool → Bool → List ParseError
+tag_errors t has closes = (if is_end t.kind && has then EndTagWithAttributes ∷ [] else []) ++ (if is_end t.kind && closes then EndTagWithTrailingSolidus ∷ [] else [])
+
+errors_by : (b : Bool) (t : Tag) (closes : Bool) (more : List AttributeText)
+    → (hand_complete (if b then record t { self_closing = closes; duplicates = true; current = None } else record t { self_closing = closes; attrs = t.attrs ++ more; current = None })).errors
+    ≡ tag_errors t (nat_lt 0 (length (if b then record t { duplicates = true; current = None } else record t { attrs = t.attrs ++ more; current = None }).attrs)) closes
+errors_by true t closes more = two_errors (is_end t.kind && nat_lt 0 (length t.attrs)) (is_end t.kind && closes) EndTagWithAttributes EndTagWithTrailingSolidus
+errors_by false t closes more = two_errors (is_end t.kind && nat_lt 0 (length (t.attrs ++ more))) (is_end t.kind && closes) EndTagWithAttributes EndTagWithTrailingSolidus
+
+errors_with : (t : Tag) (closes : Bool) (current : Option Attribute)
+    → (hand_complete (with_complete (record t { self_closing = closes }) current)).errors ≡ tag_errors t (nat_lt 0 (length (with_complete t current).attrs)) closes
+errors_with t closes None = two_errors (is_end t.kind && nat_lt 0 (length t.attrs)) (is_end t.kind && closes) EndTagWithAttributes EndTagWithTrailingSolidus
+errors_with t closes (Some a) = errors_by (is_named_in a.name t.attrs) t closes (attribute_named a.name a.value ∷ [])
+
+pub handed_as : (first second third : Option ParseError) (t : Tag) (closes e has : Bool) → e ≡ is_end t.kind → has ≡ nat_lt 0 (length (completed t).attrs)
+    → if_any second ≡ (if e && has then EndTagWithAttributes ∷ [] else []) → if_any third ≡ (if e && closes then EndTagWithTrailingSolidus ∷ [] else [])
+    → if_any first ++ (if_any second ++ if_any third) ≡ if_any first ++ (hand_tag (record t { self_closing = closes })).errors
+handed_as first second third t closes e has is_end_so has_so two three =
+    ap (λ l. if_any first ++ l)
+    ((λ i. two i ++ three i)
+    ∙ (λ i. (if is_end_so i && has_so i then EndTagWithAttributes ∷ [] else []) ++ (if is_end_so i && closes then EndTagWithTrailingSolidus ∷ [] else []))
+    ∙ sym (errors_with t closes t.current))
+
+-- with a tag attributes stay, whether its current one is complete or not
+has_some : (xs : List AttributeText) (a : AttributeText) → nat_lt 0 (length (xs ++ a ∷ [])) ≡ true
+has_some [] a = refl
+has_some (x ∷ xs) a = refl
+
+named_some : (xs : List AttributeText) (name : List ℕ) → is_named_in name xs ≡ true → nat_lt 0 (length xs) ≡ true
+named_some [] name e = absurd (false≢true e)
+named_some (x ∷ xs) name e = refl
+
+some_by : (b : Bool) (t : Tag) (a : Attribute) → is_named_in a.name t.attrs ≡ b
+    → true ≡ nat_lt 0 (length (if b then record t { duplicates = true; current = None } else record t { attrs = t.attrs ++ attribute_named a.name a.value ∷ []; current = None }).attrs)
+some_by true t a e = sym (named_some t.attrs a.name e)
+some_by false t a e = sym (has_some t.attrs (attribute_named a.name a.value))
+
+-- one that is under construction is there, or its name was
+pub some_current : (t : Tag) (a : Attribute) → true ≡ nat_lt 0 (length (with_complete t (Some a)).attrs)
+some_current t a = some_by (is_named_in a.name t.attrs) t a refl

@@ -1,0 +1,8 @@
+use Rattle.h5_states.proofs.ToldLaws.{tells_none}
+use Rattle.h5_machine.proofs.row_errors.tell_one.Goals as goal
+
+pub returns-in-None : goal.returns-in-None
+returns-in-None g c = rw c.in-None.is (tells_none g.E.ErrorSink.Told c.args.errors.now)
+
+pub returns-in-Some : goal.returns-in-Some
+returns-in-Some g c = rw c.in-Some.is c.error.ensures

@@ -1,0 +1,133 @@
+//! The errors of the rows of character references (HTML standard, sections 13.2.5.72 to 13.2.5.80).
+
+ghost use Rattle.std.specs.Prelude.{◌≡◌, ◌++◌, [], ◌∷◌, ℕ, List, Some, take, string_bytes};
+ghost use Rattle.std.specs.Str.{IsAscii};
+ghost use Rattle.h5_states.specs.Construction.{Tag};
+ghost use Rattle.h5_states.specs.Machine.{turn};
+ghost use Rattle.h5_states.specs.References as r;
+ghost use Rattle.h5_states.specs.References.{longest};
+ghost use Rattle.h5_states.specs.ReferenceTable.{references};
+ghost use Rattle.h5_states.specs.States.{Return};
+ghost use Rattle.h5_references.specs.Found.{found_in};
+ghost use Rattle.h5_machine.specs.Flushing.{behind_digits};
+ghost use Rattle.h5_states.specs.Told.{if_any};
+ghost use Rattle.h5_machine.specs.StateOf.{reference_state_of, return_of};
+
+use super::codes::code_error;
+use super::machine_state::{ReferenceState, ReturnTo};
+use super::references::{OpenReference, is_closed, is_historical, split_found};
+use super::row_errors::only_if;
+use super::signs::is_hex_digit;
+use h5_references::{Named, further_len, longest};
+use h5_states::ParseError;
+
+// Whether a name of the table begins with what was seen and this byte.
+fn begins_further(seen: &str, b: u8) -> bool
+    ensures { result ≡ r.is_beginning references (seen.now ++ b ∷ []) }
+{
+    if further_len(seen.as_bytes(), &[b]) == 0 {
+        return false;
+    }
+    true
+}
+
+// The error of a name that was found in what was seen. The byte is the one at hand.
+fn found_error(return_to: ReturnTo, seen: &str, found: &Named, b: u8) -> Option<ParseError>
+    requires { IsAscii (take found.now.len seen.now) }
+    ensures { (tag : Tag) → if_any result ≡ (r.named (return_of return_to tag) seen.now b (found_in seen.now (Some found.now))).errors }
+{
+    let (name, rest) = split_found(seen, found);
+    if is_historical(return_to, name, rest, b) {
+        return None;
+    }
+    only_if(
+        !is_closed(name),
+        ParseError::MissingSemicolonAfterCharacterReference,
+    )
+}
+
+/// The error of what was seen, where it doesn't go on. The byte is the one at hand.
+pub fn named_error(return_to: ReturnTo, seen: &str, b: u8) -> Option<ParseError>
+    ensures { (tag : Tag) → if_any result ≡ (r.named (return_of return_to tag) seen.now b (longest references seen.now)).errors }
+{
+    match longest(seen.as_bytes()) {
+        None => None,
+        Some(found) => found_error(return_to, seen, &found, b),
+    }
+}
+
+// 13.2.5.73 Named character reference state
+fn named_reference_error(return_to: ReturnTo, seen: &str, b: u8) -> Option<ParseError>
+    ensures { (tag : Tag) → if_any result ≡ (r.named_character_reference_state references (return_of return_to tag) seen.now b).errors }
+{
+    if begins_further(seen, b) {
+        return None;
+    }
+    named_error(return_to, seen, b)
+}
+
+// Behind the digits of a number.
+fn digits_error(code: u32, b: u8) -> Option<ParseError>
+    ensures { (return : Return) → if_any result ≡ (behind_digits return code b).errors }
+{
+    if b == b';' {
+        return code_error(code);
+    }
+    Some(ParseError::MissingSemicolonAfterCharacterReference)
+}
+
+// 13.2.5.78 Hexadecimal character reference state
+fn hexadecimal_error(code: u32, b: u8) -> Option<ParseError>
+    ensures { (return : Return) → if_any result ≡ (r.hexadecimal_state return code b).errors }
+{
+    if is_hex_digit(b) {
+        return None;
+    }
+    digits_error(code, b)
+}
+
+// 13.2.5.79 Decimal character reference state
+fn decimal_error(code: u32, b: u8) -> Option<ParseError>
+    ensures { (return : Return) → if_any result ≡ (r.decimal_state return code b).errors }
+{
+    if b.is_ascii_digit() {
+        return None;
+    }
+    digits_error(code, b)
+}
+
+/// The error of a row of character references.
+pub fn reference_error(
+    state: ReferenceState,
+    return_to: ReturnTo,
+    reference: &OpenReference,
+    b: u8,
+) -> Option<ParseError>
+    ensures { (last : List ℕ) (tag : Tag) → if_any result
+        ≡ (turn references last (reference_state_of state (return_of return_to tag) (string_bytes reference.now.seen) reference.now.code) b).errors }
+{
+    match state {
+        ReferenceState::CharacterReference => None,
+        ReferenceState::NamedCharacterReference => named_reference_error(
+            return_to,
+            reference.seen.as_str(),
+            b,
+        ),
+        ReferenceState::AmbiguousAmpersand => only_if(
+            b == b';',
+            ParseError::UnknownNamedCharacterReference,
+        ),
+        ReferenceState::NumericCharacterReference => None,
+        ReferenceState::HexadecimalStart => only_if(
+            !is_hex_digit(b),
+            ParseError::AbsenceOfDigitsInNumericCharacterReference,
+        ),
+        ReferenceState::DecimalStart => only_if(
+            !b.is_ascii_digit(),
+            ParseError::AbsenceOfDigitsInNumericCharacterReference,
+        ),
+        ReferenceState::Hexadecimal => hexadecimal_error(reference.code, b),
+        ReferenceState::Decimal => decimal_error(reference.code, b),
+        ReferenceState::NumericCharacterReferenceEnd => code_error(reference.code),
+    }
+}

@@ -1,0 +1,92 @@
+//! Parse errors of the byte at hand, and of the end.
+
+ghost use Rattle.std.specs.Prelude.{◌≡◌};
+ghost use Rattle.h5_states.specs.AtEnd.{at_end};
+ghost use Rattle.h5_states.specs.InputErrors.{character_errors};
+ghost use Rattle.h5_states.specs.Machine.{turn};
+ghost use Rattle.h5_states.specs.ReferenceTable.{references};
+ghost use Rattle.h5_states.specs.Telling.{end_errors, row_errors};
+ghost use Rattle.h5_states.specs.Told.{Tells, told_at};
+ghost use Rattle.h5_machine.specs.MachineText.{place_of};
+ghost use Rattle.h5_machine.specs.RowErrors.{all_of};
+ghost use Rattle.h5_machine.specs.StateOf.{state_of};
+
+use super::codes::input_error;
+use super::doctype_errors::doctype_error;
+use super::end_errors::{
+    comment_end_error, doctype_end_error, reference_end_errors, tag_end_errors, text_end_error,
+};
+use super::machine::{Machine, normal};
+use super::machine_state::MachineState;
+use super::reference_errors::reference_error;
+use super::row_errors::{RowErrors, tell_one};
+use super::tag_errors::tag_errors;
+use super::text_errors::{comment_error, text_error};
+use h5_states::{ErrorSink, Position};
+
+/// Tells the error of a character of the input stream, if there is one, as standing here.
+pub fn tell_input_error<E: ErrorSink>(c: char, at: Position, errors: &mut E)
+    ensures { Tells E.Told errors.old errors.new (told_at at (character_errors c)) }
+{
+    tell_one(input_error(c), at, errors);
+}
+
+impl Machine {
+    // The errors of the row of the state, at a byte that was made normal.
+    fn row_errors(&self, b: u8) -> RowErrors
+        ensures { all_of result ≡ (turn references self.now.last (state_of self.now.at self.now.parts) b).errors }
+    {
+        match self.at {
+            MachineState::Text(state) => RowErrors::one(text_error(state, b)),
+            MachineState::Tag(state) => tag_errors(state, &self.tag, b),
+            MachineState::Comment(state) => RowErrors::one(comment_error(
+                state,
+                self.comment.as_str(),
+                b,
+            )),
+            MachineState::Doctype(state) => RowErrors::one(doctype_error(
+                state,
+                self.buffer.as_str(),
+                b,
+            )),
+            MachineState::Reference(state, return_to) => RowErrors::one(reference_error(
+                state,
+                return_to,
+                &self.reference,
+                b,
+            )),
+        }
+    }
+
+    // Those of the end, in the state.
+    fn end_errors(&self) -> RowErrors
+        ensures { all_of result ≡ (at_end references (state_of self.now.at self.now.parts)).errors }
+    {
+        match self.at {
+            MachineState::Text(state) => RowErrors::one(text_end_error(state)),
+            MachineState::Tag(state) => tag_end_errors(state, &self.tag),
+            MachineState::Comment(state) => RowErrors::one(comment_end_error(state)),
+            MachineState::Doctype(state) => RowErrors::one(doctype_end_error(
+                state,
+                self.buffer.as_str(),
+            )),
+            MachineState::Reference(state, return_to) => {
+                reference_end_errors(state, return_to, &self.reference)
+            }
+        }
+    }
+
+    /// Tells the errors of the row at the byte at hand, as standing here.
+    pub fn tell_errors<E: ErrorSink>(&self, b: u8, at: Position, errors: &mut E)
+        ensures { Tells E.Told errors.old errors.new (told_at at (row_errors references (place_of self.now) b)) }
+    {
+        self.row_errors(normal(b)).tell(at, errors);
+    }
+
+    /// Tells the errors of the end of the input, as standing here.
+    pub fn tell_errors_at_end<E: ErrorSink>(&self, at: Position, errors: &mut E)
+        ensures { Tells E.Told errors.old errors.new (told_at at (end_errors references (place_of self.now))) }
+    {
+        self.end_errors().tell(at, errors);
+    }
+}
