@@ -4,3 +4,7 @@ pub mod TakeLaws
 pub mod BareLaws
 pub mod LeftLaws
 pub mod OutcomeLaws
+pub mod WideRows
+pub mod TellingLaws
+pub mod EncodingLaws
+pub mod TellingReads

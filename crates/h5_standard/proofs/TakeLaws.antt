@@ -176,7 +176,7 @@ pub reconsumed_is_less_at : (m n : MachineText) (x : ℕ) (old new rest : List �
 reconsumed_is_less_at m n x old new rest front c = subst (λ r. weight (place_of n) r < weight (place_of m) r) (sym front) (reconsumed_weighs_less (drop 1 rest) c)
 
 -- a byte that isn't reconsumed is ASCII
-normal_wide : (x : ℕ) → 128 ≤ x → normal x ≡ x
+pub normal_wide : (x : ℕ) → 128 ≤ x → normal x ≡ x
 normal_wide x w = grind arith
 
 ascii_by : (wide : Bool) (m : MachineText) (x : ℕ) (d : Outcome) → takes_wide m.at ≡ wide → (takes_wide m.at ≡ true → x < 128) → outcome references (place_of m) x ≡ d → (IsReconsumed d → ⊥) → 128 ≤ x → x < 128

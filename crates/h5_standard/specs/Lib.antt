@@ -5,3 +5,4 @@ pub mod ReaderText
 pub mod Options
 pub mod Outcome
 pub mod Closing
+pub mod Telling

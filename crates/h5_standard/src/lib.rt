@@ -11,7 +11,11 @@ mod ending;
 mod handing;
 mod reader;
 mod steps;
+mod telling;
+mod telling_reader;
+mod telling_steps;
 mod tokenizer;
 
 pub use h5_reading::{BufferQueue, TokenizerOpts, TokenizerResult};
+pub use telling::TellingTokenizer;
 pub use tokenizer::Tokenizer;

@@ -39,8 +39,8 @@ impl Reader {
     }
 }
 
-// Passes the byte order mark, where one may come and does.
-fn skip_mark<'a>(at_start: &mut bool, text: &'a str) -> &'a str
+/// Passes the byte order mark, where one may come and does.
+pub fn skip_mark<'a>(at_start: &mut bool, text: &'a str) -> &'a str
     ensures rest { result.now ≡ behind_mark at_start.old text.entry.now }
     ensures at_start { at_start.new ≡ still_at_start at_start.old text.entry.now }
 {

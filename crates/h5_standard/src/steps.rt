@@ -30,9 +30,9 @@ pub enum Halt<'a, H> {
 
 /// Text that was emitted and not yet handed on, and the line in which it begins.
 #[derive(Drop)]
-struct Emitted {
-    text: String,
-    line: u64,
+pub struct Emitted {
+    pub text: String,
+    pub line: u64,
 }
 
 impl Emitted {
@@ -40,7 +40,8 @@ impl Emitted {
     ghost use Rattle.h5_states.specs.Reading.{ReaderPlace};
     ghost use Rattle.h5_standard.specs.Steps.{Holds, Leads};
 
-    fn new(alloc: Global, line: u64) -> Emitted
+    /// None, which takes no memory. What is emitted next begins in this line.
+    pub fn new(alloc: Global, line: u64) -> Emitted
         ensures text { string_bytes result.text ≡ [] }
         ensures line { result.line ≡ line }
     {
@@ -72,14 +73,15 @@ impl Emitted {
     }
 }
 
-// What a step comes to.
+/// What a step comes to.
 #[derive(Drop)]
-enum Progress<'a, H> {
+pub enum Progress<'a, H> {
     GoesOn(&'a str),
     Stops(Stop<H>, &'a str),
 }
 
-fn progress_of<'a, H: Drop>(stopped: Option<Stop<H>>, rest: &'a str) -> Progress<'a, H>
+/// That of an answer.
+pub fn progress_of<'a, H: Drop>(stopped: Option<Stop<H>>, rest: &'a str) -> Progress<'a, H>
     ensures { result ≡ progress_of stopped rest.entry }
 {
     match stopped {
@@ -88,8 +90,8 @@ fn progress_of<'a, H: Drop>(stopped: Option<Stop<H>>, rest: &'a str) -> Progress
     }
 }
 
-// What follows the byte at the front, which is ASCII.
-fn behind_byte<'a>(rest: &'a str) -> &'a str
+/// What follows the byte at the front, which is ASCII.
+pub fn behind_byte<'a>(rest: &'a str) -> &'a str
     requires some { 0 < length rest.now }
     requires ascii { slice_index rest.now 0 < 128 }
     ensures { result.now ≡ drop 1 rest.entry.now }

@@ -19,7 +19,7 @@ use std::alloc::Global;
 #[derive(Drop)]
 pub struct Tokenizer<Sink: TokenSink> {
     pub sink: Sink,
-    reader: Reader,
+    pub(crate) reader: Reader,
     alloc: Global,
 }
 

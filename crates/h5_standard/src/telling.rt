@@ -1,0 +1,116 @@
+//! The reader that tells parse errors, over what takes its tokens and what takes its errors.
+
+ghost use Rattle.std.specs.Prelude.{◌≡◌, Err, true};
+ghost use Rattle.h5_states.specs.End.{Closes};
+ghost use Rattle.h5_states.specs.ReferenceTable.{references};
+ghost use Rattle.h5_states.specs.Spots.{position};
+ghost use Rattle.h5_states.specs.Telling.{at_first, end_errors};
+ghost use Rattle.h5_states.specs.Told.{Tells, told_at};
+ghost use Rattle.h5_standard.specs.Mark.{behind_mark};
+ghost use Rattle.h5_standard.specs.Options.{first_place};
+ghost use Rattle.h5_standard.specs.Outcome.{ClosedAs, Feeds};
+ghost use Rattle.h5_standard.specs.Telling.{FeedsTelling, spot_behind_mark};
+
+use super::ending::close;
+use super::reader::Reader;
+use super::telling_reader::read_with_errors;
+use super::tokenizer::Tokenizer;
+use h5_reading::{BufferQueue, Stage, TokenizerOpts, TokenizerResult};
+use h5_states::{ErrorSink, Spot};
+use h5_token::{BuildFault, TokenSink};
+use std::alloc::Global;
+
+/// The standard reader, which tells each parse error of tokenization and of the input stream, and where it stands (HTML
+/// standard, section 13.2.2, "Parse errors"). It takes one byte after another.
+#[derive(Drop)]
+pub struct TellingTokenizer<Sink: TokenSink, E: ErrorSink> {
+    pub sink: Sink,
+    pub errors: E,
+    reader: Reader,
+    spot: Spot,
+    alloc: Global,
+}
+
+impl<Sink: TokenSink, E: ErrorSink> TellingTokenizer<Sink, E> {
+    /// A reader that has read nothing. The first byte stands in line 1 and column 1. It takes no memory.
+    pub fn new(
+        alloc: Global,
+        sink: Sink,
+        errors: E,
+        opts: TokenizerOpts,
+    ) -> TellingTokenizer<Sink, E>
+        ensures sink { result.sink ≡ sink }
+        ensures errors { result.errors ≡ errors }
+        ensures reader { result.reader ≡ record { at_start = opts.discard_bom; place = first_place opts; stage = Stage.Reading } }
+        ensures spot { result.spot ≡ record { column = 1; offset = 0; is_new = true } }
+    {
+        let made = Tokenizer::new(alloc, sink, opts);
+        TellingTokenizer {
+            sink: made.sink,
+            errors,
+            reader: made.reader,
+            spot: Spot::first(),
+            alloc,
+        }
+    }
+
+    /// Reads what waits in the queue as `Tokenizer::feed` does, and tells the errors of each row that a byte meets, in their
+    /// order, as standing at that byte, and before them those of the input stream at a character whose first byte is new.
+    ///
+    /// A position has the line as tokens have it, the column in code points from 1, and the offset in bytes of all that was
+    /// fed, a byte order mark included. After a fault what was told is not taken back.
+    pub fn feed(
+        &mut self,
+        input: &mut BufferQueue,
+    ) -> Result<TokenizerResult<Sink::Handle>, BuildFault>
+        // After a fault, and after the end, nothing is handed on or told, and nothing changes.
+        ensures failed { self.old.reader.stage ≡ Stage.Failed
+            → (result ≡ Err BuildFault.Failed) × (self.new ≡ self.old) × (input.new ≡ input.old) }
+        ensures after_end { self.old.reader.stage ≡ Stage.Ended
+            → (result ≡ Err BuildFault.AfterEnd) × (self.new ≡ self.old) × (input.new ≡ input.old) }
+        ensures read { self.old.reader.stage ≡ Stage.Reading
+            → Feeds Sink.reply_to Sink.after Sink.is_foreign Sink.node self.old.reader (Sink.meaning self.old.sink) input.old
+            self.new.reader (Sink.meaning self.new.sink) input.new result }
+        ensures tells { self.old.reader.stage ≡ Stage.Reading
+            → FeedsTelling Sink.reply_to Sink.after Sink.is_foreign E.Told
+            (at_first self.old.reader.place (spot_behind_mark self.old.reader.at_start input.old self.old.spot) (Sink.meaning self.old.sink) (behind_mark self.old.reader.at_start input.old))
+            self.old.errors Sink.node self.new.reader.place self.new.spot (Sink.meaning self.new.sink) input.new self.new.errors result }
+    {
+        match self.reader.stage() {
+            Stage::Failed => Err(BuildFault::Failed),
+            Stage::Ended => Err(BuildFault::AfterEnd),
+            Stage::Reading => read_with_errors(
+                &mut self.sink,
+                &mut self.reader,
+                &mut self.spot,
+                &mut self.errors,
+                self.alloc,
+                input,
+            ),
+        }
+    }
+
+    /// Tells the errors of the end, as standing behind all that was fed, and then does what `Tokenizer::end` does.
+    pub fn end(&mut self) -> Result<(), BuildFault>
+        ensures failed { self.old.reader.stage ≡ Stage.Failed → (result ≡ Err BuildFault.Failed) × (self.new ≡ self.old) }
+        ensures after_end { self.old.reader.stage ≡ Stage.Ended → (result ≡ Err BuildFault.AfterEnd) × (self.new ≡ self.old) }
+        ensures closed { self.old.reader.stage ≡ Stage.Reading
+            → Closes Sink.reply_to Sink.after Sink.ended references self.old.reader.place (Sink.meaning self.old.sink) (Sink.meaning self.new.sink) result }
+        ensures tells { self.old.reader.stage ≡ Stage.Reading
+            → Tells E.Told self.old.errors self.new.errors (told_at (position self.old.reader.place.line self.old.spot) (end_errors references self.old.reader.place)) }
+        ensures stage { self.old.reader.stage ≡ Stage.Reading → ClosedAs self.new.reader result }
+    {
+        match self.reader.stage() {
+            Stage::Failed => Err(BuildFault::Failed),
+            Stage::Ended => Err(BuildFault::AfterEnd),
+            Stage::Reading => {
+                self.reader.stage = Stage::Failed;
+                let at = self.spot.position(self.reader.machine.line());
+                self.reader.machine.tell_errors_at_end(at, &mut self.errors);
+                close(&mut self.sink, &mut self.reader.machine, self.alloc)?;
+                self.reader.stage = Stage::Ended;
+                Ok(())
+            }
+        }
+    }
+}
