@@ -61,40 +61,49 @@ module _ (table : List Reference) {M : Type 0} (reply_to : M → TokenText → R
   reaches_read begins = inr (record { tokens = []; read = nothing_read; none = refl; began = refl })
   reaches_read (drops {r} {xs = ys} so on front d) =
       let h = held r (reaches_read so) on in
-      inl (refl, record {
-        tokens = h.tokens;
-        reply = h.reply;
-        place = h.place;
-        rest = h.rest;
-        read = h.read;
-        goes_on = h.goes_on;
-        began = h.began;
-        passes = subst (λ t. Passes table h.place h.rest t (behind_newline r.place) ys) (append-nil r.text) (passes_join table h.passes (drop_passes table front d));
-      })
+      inl (
+        refl,
+        record {
+          tokens = h.tokens;
+          reply = h.reply;
+          place = h.place;
+          rest = h.rest;
+          read = h.read;
+          goes_on = h.goes_on;
+          began = h.began;
+          passes = subst (λ t. Passes table h.place h.rest t (behind_newline r.place) ys) (append-nil r.text) (passes_join table h.passes (drop_passes table front d));
+        },
+      )
   reaches_read (goes {r} text state so here) =
       let h = held r (reaches_read so) here.goes_on in
-      inl (refl, record {
-        tokens = h.tokens;
-        reply = h.reply;
-        place = h.place;
-        rest = h.rest;
-        read = h.read;
-        goes_on = h.goes_on;
-        began = h.began;
-        passes = passes_join table h.passes (go_passes table text state here.front here.not_dropped here.outcome);
-      })
+      inl (
+        refl,
+        record {
+          tokens = h.tokens;
+          reply = h.reply;
+          place = h.place;
+          rest = h.rest;
+          read = h.read;
+          goes_on = h.goes_on;
+          began = h.began;
+          passes = passes_join table h.passes (go_passes table text state here.front here.not_dropped here.outcome);
+        },
+      )
   reaches_read (again {r} text state so here) =
       let h = held r (reaches_read so) here.goes_on in
-      inl (refl, record {
-        tokens = h.tokens;
-        reply = h.reply;
-        place = h.place;
-        rest = h.rest;
-        read = h.read;
-        goes_on = h.goes_on;
-        began = h.began;
-        passes = passes_join table h.passes (again_passes table text state here.front here.not_dropped here.outcome);
-      })
+      inl (
+        refl,
+        record {
+          tokens = h.tokens;
+          reply = h.reply;
+          place = h.place;
+          rest = h.rest;
+          read = h.read;
+          goes_on = h.goes_on;
+          began = h.began;
+          passes = passes_join table h.passes (again_passes table text state here.front here.not_dropped here.outcome);
+        },
+      )
   reaches_read (hands_text {r} {x} {text} so on e) =
       let h = held r (reaches_read so) on in
       let done = text_read x r.line text r.text e h.began h.read h.goes_on h.passes in
