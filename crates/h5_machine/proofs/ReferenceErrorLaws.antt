@@ -3,10 +3,13 @@ use Rattle.std.proofs.Common.{◌≡◌, ℕ, Bool, true, false, List, [], ◌�
 use Rattle.std.specs.Prelude.{Option, Some, None, codes, not}
 use Rattle.h5_states.specs.declared.errors.ParseError.{ParseError}
 use Rattle.h5_states.specs.declared.errors.ParseError.TheVariants.{MissingSemicolonAfterCharacterReference}
+use Rattle.h5_states.specs.AtEnd.{flushed, named_at_end, wrongly_unless}
 use Rattle.h5_states.specs.References.{Longest, ends_in, is_closed, is_historical, longest, named, unnamed}
 use Rattle.h5_states.specs.ReferenceTable.{references}
+use Rattle.h5_states.specs.Signs.{null}
 use Rattle.h5_states.specs.States.{Return, ToData, ToRcdata, ToValue}
-use Rattle.h5_states.specs.Turn.{flush, flush_again, wrong_if}
+use Rattle.h5_states.specs.Told.{if_any}
+use Rattle.h5_states.specs.Turn.{flush_again, wrong_if}
 
 unnamed_quiet : (return : Return) (text : List ℕ) → (unnamed return text).errors ≡ []
 unnamed_quiet ToData text = refl
@@ -55,3 +58,36 @@ found_missing return seen x text name rest name_now rest_now closed errors e f h
     ∙ ap (λ b. if not b then MissingSemicolonAfterCharacterReference ∷ [] else []) (c ∙ ap (ends_in 59) e)
     ∙ ap (λ b. if b then [] else (if not (ends_in 59 name) then MissingSemicolonAfterCharacterReference ∷ [] else [])) same
     ∙ sym (found_errors return seen x (found_as name text rest))
+
+-- ---- at the end
+
+closed_at_end : (historical closed : Bool) (return : Return) (text other : List ℕ)
+    → (if historical then flushed return text else wrongly_unless closed MissingSemicolonAfterCharacterReference (flushed return other)).errors
+    ≡ (if historical then [] else (if not closed then MissingSemicolonAfterCharacterReference ∷ [] else [])) ++ (flushed return []).errors
+closed_at_end true closed ToData text other = refl
+closed_at_end true closed ToRcdata text other = refl
+closed_at_end true closed (ToValue value tag) text other = refl
+closed_at_end false true ToData text other = refl
+closed_at_end false true ToRcdata text other = refl
+closed_at_end false true (ToValue value tag) text other = refl
+closed_at_end false false ToData text other = refl
+closed_at_end false false ToRcdata text other = refl
+closed_at_end false false (ToValue value tag) text other = refl
+
+unnamed_at_end : (return : Return) (text : List ℕ) → (flushed return text).errors ≡ (unnamed return text).errors ++ (flushed return []).errors
+unnamed_at_end ToData text = refl
+unnamed_at_end ToRcdata text = refl
+unnamed_at_end (ToValue value tag) text = refl
+
+-- the errors of what was seen, as if null followed, and then that of its tag
+named_ends : (return : Return) (seen : List ℕ) (found : Option Longest) → (named_at_end return seen found).errors ≡ (named return seen null found).errors ++ (flushed return []).errors
+named_ends return seen None = unnamed_at_end return (codes "&" ++ seen)
+named_ends return seen (Some found) =
+    closed_at_end (is_historical return found null) (is_closed found) return (codes "&" ++ seen) (found.text ++ found.rest)
+    ∙ ap (λ l. l ++ (flushed return []).errors) (sym (found_errors return seen null found))
+
+pub named_at_end_errors : (return : Return) (seen seen_now : List ℕ) (error : Option ParseError) (errors : List ParseError) → seen_now ≡ seen
+    → if_any error ≡ (named return seen_now null (longest references seen_now)).errors → errors ≡ if_any error ++ (flushed return []).errors
+    → errors ≡ (named_at_end return seen (longest references seen)).errors
+named_at_end_errors return seen seen_now error errors same is all =
+    all ∙ ap (λ l. l ++ (flushed return []).errors) (is ∙ (λ i. (named return (same i) null (longest references (same i))).errors)) ∙ sym (named_ends return seen (longest references seen))

@@ -1,8 +1,10 @@
 -- The errors of a tag that is handed on.
-use Rattle.std.proofs.Common.{◌≡◌, ℕ, Bool, true, false, List, [], ◌∷◌, ◌++◌, refl, sym, ap, ◌∙◌, length, nat_lt, if◌then◌else◌}
+use Rattle.std.proofs.Common.{◌≡◌, ℕ, Bool, true, false, List, [], ◌∷◌, ◌++◌, refl, sym, ap, ◌∙◌, subst, arith, length, nat_lt, if◌then◌else◌}
 use Rattle.std.proofs.lemmas.Bool.{false≢true}
-use Rattle.std.specs.Prelude.{◌&&◌, Option, Some, None}
-use Rattle.h5_names.specs.AttributeText.{AttributeText}
+use Rattle.std.proofs.lemmas.Bool.Decides.{nat_tests}
+use Rattle.std.specs.Prelude.{◌&&◌, ◌==◌, not, Option, Some, None}
+use Rattle.h5_names.specs.AttributeText.{AttributeText, attribute_texts}
+use Rattle.h5_names.specs.declared.qualified.Attribute.{Attribute as NameAttribute}
 use Rattle.h5_markup.specs.Attributes.{attribute_named, is_named_in}
 use Rattle.h5_states.specs.declared.errors.ParseError.{ParseError}
 use Rattle.h5_states.specs.declared.errors.ParseError.TheVariants.{EndTagWithAttributes, EndTagWithTrailingSolidus}
@@ -41,11 +43,11 @@ handed_as first second third t closes e has is_end_so has_so two three =
 -- with a tag attributes stay, whether its current one is complete or not
 has_some : (xs : List AttributeText) (a : AttributeText) → nat_lt 0 (length (xs ++ a ∷ [])) ≡ true
 has_some [] a = refl
-has_some (x ∷ xs) a = refl
+has_some (x ∷ xs) a = grind (arith, nat_tests)
 
 named_some : (xs : List AttributeText) (name : List ℕ) → is_named_in name xs ≡ true → nat_lt 0 (length xs) ≡ true
 named_some [] name e = absurd (false≢true e)
-named_some (x ∷ xs) name e = refl
+named_some (x ∷ xs) name e = grind (arith, nat_tests)
 
 some_by : (b : Bool) (t : Tag) (a : Attribute) → is_named_in a.name t.attrs ≡ b
     → true ≡ nat_lt 0 (length (if b then record t { duplicates = true; current = None } else record t { attrs = t.attrs ++ attribute_named a.name a.value ∷ []; current = None }).attrs)
@@ -53,5 +55,17 @@ some_by true t a e = sym (named_some t.attrs a.name e)
 some_by false t a e = sym (has_some t.attrs (attribute_named a.name a.value))
 
 -- one that is under construction is there, or its name was
-pub some_current : (t : Tag) (a : Attribute) → true ≡ nat_lt 0 (length (with_complete t (Some a)).attrs)
-some_current t a = some_by (is_named_in a.name t.attrs) t a refl
+some_by_one : (t : Tag) (a : Attribute) → true ≡ nat_lt 0 (length (with_complete t (Some a)).attrs)
+some_by_one t a = some_by (is_named_in a.name t.attrs) t a refl
+
+pub some_current : (t : Tag) (a : Attribute) → t.current ≡ Some a → true ≡ nat_lt 0 (length (completed t).attrs)
+some_current t a e = subst (λ current. true ≡ nat_lt 0 (length (with_complete t current).attrs)) (sym e) (some_by_one t a)
+
+-- none is
+is_some : (xs : List NameAttribute) → not (length xs == 0) ≡ nat_lt 0 (length (attribute_texts xs))
+is_some [] = refl
+is_some (x ∷ xs) = grind (arith, nat_tests)
+
+pub no_current : (t : Tag) (kept : List NameAttribute) (empty : Bool) → t.current ≡ None → t.attrs ≡ attribute_texts kept → empty ≡ (length kept == 0) → not empty ≡ nat_lt 0 (length (completed t).attrs)
+no_current t kept empty e attrs is =
+    ap not is ∙ is_some kept ∙ ap (λ l. nat_lt 0 (length l)) (sym attrs) ∙ ap (λ current. nat_lt 0 (length (with_complete t current).attrs)) (sym e)

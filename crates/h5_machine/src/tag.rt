@@ -69,14 +69,13 @@ impl OpenTag {
     }
 
     /// Whether it has attributes, once its current one is complete.
-    #[tactic(auto, using(crate::proofs::TagErrorLaws::some_current))]
     pub fn has_attributes(&self) -> bool
         ensures { result ≡ nat_lt 0 (length (completed self.now).attrs) }
     {
         if self.in_attribute {
             return true;
         }
-        !self.kept.attributes.is_empty()
+        !self.kept.attributes.as_slice().is_empty()
     }
 
     /// Whether its current attribute's name stands in it already.
