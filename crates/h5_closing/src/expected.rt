@@ -4,6 +4,7 @@ ghost use Rattle.h5_state.specs.Steps.{TellsErrors, errors_of};
 
 use h5_interface::TreeSink;
 use h5_state::{State, tell_error};
+use h5_tables::TreeError;
 
 /// An element that was closed is expected to have been the current node: where it wasn't, this is a parse error.
 pub fn expect_to_close<S: TreeSink>(sink: &mut S, state: &State<S::Handle>, expected: bool)
@@ -12,6 +13,6 @@ pub fn expect_to_close<S: TreeSink>(sink: &mut S, state: &State<S::Handle>, expe
     ensures quiet { expected ≡ true → errors_of S.TreeSink sink.new ≡ errors_of S.TreeSink sink.old }
 {
     if !expected {
-        tell_error(sink, state, "unexpected open element");
+        tell_error(sink, state, TreeError::UnexpectedOpenElement);
     }
 }

@@ -19,7 +19,7 @@ use h5_state::{
     State, Turn, has_p_in_button_scope, is_current_html, pop_until_named, set_frameset_not_ok,
     set_ignore_lf, tell_error, unexpected_tag,
 };
-use h5_tables::ProcessResult;
+use h5_tables::{ProcessResult, TreeError};
 use h5_token::Tag;
 
 // A start tag `address`, `article`, .., `ul`: a block, after which no `p` is in button scope.
@@ -64,7 +64,7 @@ fn check_heading<S: TreeSink>(sink: &mut S, state: &State<S::Handle>)
     ensures quiet { first_passes is_heading (names_of (world_of S.TreeSink sink.old state.now)) ≡ false → errors_of S.TreeSink sink.new ≡ errors_of S.TreeSink sink.old }
 {
     if is_current_heading(sink, state) {
-        tell_error(sink, state, "a heading in a heading");
+        tell_error(sink, state, TreeError::NestedHeadings);
     }
 }
 
@@ -129,7 +129,7 @@ pub(crate) fn in_body_end_p<S: TreeSink>(
         expect_to_close(sink, state, expected);
         Ok(ProcessResult::Done)
     } else {
-        tell_error(sink, state, "no <p> to close");
+        tell_error(sink, state, TreeError::NoParagraphToClose);
         insert_phantom(sink, state, KnownName::P)?;
         close_p_element(sink, state);
         Ok(ProcessResult::Done)
@@ -156,7 +156,7 @@ pub(crate) fn in_body_end_heading<S: TreeSink>(
             Ok(ProcessResult::Done)
         }
         None => {
-            tell_error(sink, state, "no heading to close");
+            tell_error(sink, state, TreeError::NoHeadingToClose);
             Ok(ProcessResult::Done)
         }
     }

@@ -19,7 +19,7 @@ use h5_insertion::insert_and_pop_element;
 use h5_interface::TreeSink;
 use h5_names::{Attribute, KnownName, LocalName};
 use h5_state::{State, Turn, in_scope_named, set_frameset_not_ok, tell_error, unexpected_tag};
-use h5_tables::ProcessResult;
+use h5_tables::{ProcessResult, TreeError};
 use h5_token::Tag;
 use std::alloc::AllocError;
 
@@ -67,7 +67,7 @@ fn handle_misnested_nobr_tags<S: TreeSink>(
     ensures sound { IsSound S.TreeSink sink.new state.new }
 {
     if in_scope_named(sink, state, KnownName::Nobr) {
-        tell_error(sink, state, "a <nobr> in a <nobr>");
+        tell_error(sink, state, TreeError::NestedNobr);
         let nobr = LocalName::from_known(KnownName::Nobr);
         adoption_agency(sink, state, &nobr)?;
         reconstruct_active_formatting_elements(sink, state)

@@ -51,7 +51,7 @@ use h5_state::{
     is_in_quirks, pop_until_named, set_again, set_frameset_not_ok, set_mode, tell_error,
     unexpected, unexpected_tag,
 };
-use h5_tables::{InsertionMode, ProcessResult, Token};
+use h5_tables::{InsertionMode, ProcessResult, Token, TreeError};
 use h5_token::{Tag, TagKind};
 
 // A start tag `body`: the body gets the attributes that it lacks.
@@ -103,7 +103,7 @@ fn in_body_end_body<S: TreeSink>(sink: &mut S, state: &mut State<S::Handle>, tag
         set_mode(sink, state, InsertionMode::AfterBody);
         Ok(ProcessResult::Done)
     } else {
-        tell_error(sink, state, "</body> with no <body> in scope");
+        tell_error(sink, state, TreeError::BodyEndTagWithoutBody);
         Ok(ProcessResult::Done)
     }
 }
@@ -120,7 +120,7 @@ fn in_body_end_html<S: TreeSink>(sink: &mut S, state: &mut State<S::Handle>, tag
         set_again(sink, state, Token::Tag(tag));
         Ok(ProcessResult::Reprocess(InsertionMode::AfterBody))
     } else {
-        tell_error(sink, state, "</html> with no <body> in scope");
+        tell_error(sink, state, TreeError::HtmlEndTagWithoutBody);
         Ok(ProcessResult::Done)
     }
 }
@@ -152,7 +152,7 @@ fn in_body_end_other<S: TreeSink>(sink: &mut S, state: &mut State<S::Handle>, ta
             Ok(ProcessResult::Done)
         }
         None => {
-            tell_error(sink, state, "special element before the one to close");
+            tell_error(sink, state, TreeError::SpecialElementBeforeTheOneToClose);
             Ok(ProcessResult::Done)
         }
     }

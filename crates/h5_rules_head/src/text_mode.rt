@@ -12,7 +12,7 @@ use h5_state::{
     State, Turn, current_node, is_current_html, mark_started, pop, saved_mode, set_again,
     set_answer, set_mode, tell_error, unexpected,
 };
-use h5_tables::{ProcessResult, Token};
+use h5_tables::{ProcessResult, Token, TreeError};
 use h5_token::{Tag, TagKind, TokenSinkResult};
 
 // An end tag: the text's element is closed, and where it is a script's the reader is told of the element.
@@ -39,7 +39,7 @@ fn text_eof<S: TreeSink>(sink: &mut S, state: &mut State<S::Handle>) -> Turn
     requires { IsOpen S.TreeSink sink.old state.old }
     ensures { FollowsRule S.TreeSink (text_mode EofTurn) EofTurn sink.old state.old sink.new state.new result }
 {
-    tell_error(sink, state, "unexpected end of input in a text");
+    tell_error(sink, state, TreeError::EofInText);
     if is_current_html(sink, state, &LocalName::from_known(KnownName::Script)) {
         mark_started(sink, state);
     }

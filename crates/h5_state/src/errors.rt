@@ -4,17 +4,25 @@ ghost use Rattle.h5_state.specs.Steps.{TellsErrors, errors_of};
 
 use super::state::State;
 use h5_interface::TreeSink;
-use h5_tables::Token;
+use h5_tables::{Token, TreeError};
 use h5_token::{Tag, TagKind};
 use std::alloc::AllocError;
 
-/// Tells the sink of a parse error. Nothing else changes.
+/// Tells the sink of a parse error, by a text of its own. Nothing else changes.
 #[tactic(auto, unfolding(crate::specs::View::world))]
-pub fn tell_error<S: TreeSink>(sink: &mut S, state: &State<S::Handle>, message: &str)
+pub fn tell_message<S: TreeSink>(sink: &mut S, state: &State<S::Handle>, message: &str)
     ensures told { TellsErrors S.TreeSink sink.old sink.new state.now }
     ensures noted { 0 < errors_of S.TreeSink sink.new }
 {
     sink.parse_error(message);
+}
+
+/// Tells the sink of a parse error. Nothing else changes.
+pub fn tell_error<S: TreeSink>(sink: &mut S, state: &State<S::Handle>, error: TreeError)
+    ensures told { TellsErrors S.TreeSink sink.old sink.new state.now }
+    ensures noted { 0 < errors_of S.TreeSink sink.new }
+{
+    tell_message(sink, state, error.message());
 }
 
 fn write_tag(out: &mut String, tag: &Tag) -> Result<(), AllocError> {
@@ -72,8 +80,8 @@ pub fn unexpected_tag<S: TreeSink>(sink: &mut S, state: &State<S::Handle>, tag: 
     ensures noted { 0 < errors_of S.TreeSink sink.new }
 {
     match exact_tag(state, tag) {
-        Some(message) => tell_error(sink, state, message.as_str()),
-        None => tell_error(sink, state, "Unexpected token"),
+        Some(message) => tell_message(sink, state, message.as_str()),
+        None => tell_error(sink, state, TreeError::UnexpectedToken),
     }
 }
 
@@ -83,7 +91,7 @@ pub fn unexpected<S: TreeSink>(sink: &mut S, state: &State<S::Handle>, token: &T
     ensures noted { 0 < errors_of S.TreeSink sink.new }
 {
     match exact_token(state, token) {
-        Some(message) => tell_error(sink, state, message.as_str()),
-        None => tell_error(sink, state, "Unexpected token"),
+        Some(message) => tell_message(sink, state, message.as_str()),
+        None => tell_error(sink, state, TreeError::UnexpectedToken),
     }
 }

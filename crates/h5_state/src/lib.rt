@@ -32,7 +32,7 @@ mod steps;
 mod turn;
 
 pub use blanks::{first_run, is_blank_text, set_frameset_ok_by_text};
-pub use errors::{tell_error, unexpected, unexpected_tag};
+pub use errors::{tell_error, tell_message, unexpected, unexpected_tag};
 pub use find::{find_listed, find_open, handle_at, is_node_in_scope};
 pub use name_numbers::NameNumbers;
 pub use name_test::{FosterParent, Known, Local, NameTest, NewestTest, Nothing};

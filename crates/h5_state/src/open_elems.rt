@@ -25,7 +25,7 @@ use super::state::State;
 use super::steps::pop;
 use h5_interface::TreeSink;
 use h5_names::{KnownName, LocalName, QualName};
-use h5_tables::{is_html_known, is_html_local};
+use h5_tables::{TreeError, is_html_known, is_html_local};
 
 /// How many elements are open.
 #[tactic(auto, unfolding(crate::specs::View::world, crate::specs::View::names_under, crate::specs::View::stack_under, h5_rules::specs::World::names_of))]
@@ -186,7 +186,7 @@ pub fn check_body_end<S: TreeSink>(sink: &mut S, state: &State<S::Handle>)
     ensures quiet { has_unclosed (names_of (world_of S.TreeSink sink.old state.now)) ≡ false → errors_of S.TreeSink sink.new ≡ errors_of S.TreeSink sink.old }
 {
     if has_unclosed(sink, state) {
-        tell_error(sink, state, "unexpected open tag at the end of the body");
+        tell_error(sink, state, TreeError::OpenElementAtEndOfBody);
     }
 }
 

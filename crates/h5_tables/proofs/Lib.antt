@@ -5,3 +5,4 @@ pub mod Charset
 pub mod DoctypeLaws
 pub mod MetaParts
 pub mod TableLaws
+pub mod TreeErrorLaws

@@ -8,3 +8,4 @@ pub mod AdjustedNames
 pub mod Doctypes
 pub mod MetaEncoding
 pub mod Tables
+pub mod TreeErrors

@@ -11,13 +11,14 @@
 //! Tables: the names that change inside SVG and MathML (section 13.2.6.1), the doctypes that are errors or mean quirks
 //! (section 13.2.6.4.1), and the encoding that a `meta` element names (section 13.2.3.2). `svg_tags`, `attribute_names` and
 //! `attributes` have the adjusted names; `table` looks one up, and `place` tells the prefix and the namespace of an
-//! attribute. `identifiers` and `doctypes` judge a doctype, and `meta_encoding` reads the `content` of a `meta`.
+//! attribute. `identifiers` and `doctypes` judge a doctype, and `meta_encoding` reads the `content` of a `meta`. `tree_errors`
+//! has the parse errors that the rules tell, with their messages and names.
 //!
 //! It stands on names, tokens, attributes as sinks see them, and on `h5_markup`, which cuts the text of a `meta`. The
 //! serializer, `h5_rules`, the code of the rules and the builder stand on it. Begin with `specs/TagSets.antt`, which has each
 //! set as the standard has it, with its section; `specs/AdjustedNames.antt`, `specs/Doctypes.antt` and
-//! `specs/MetaEncoding.antt` have each table; `specs/TurnText.antt` has a token that takes turns, without where its texts lie
-//! in memory.
+//! `specs/MetaEncoding.antt` have each table; `specs/TreeErrors.antt` has the messages and names of errors;
+//! `specs/TurnText.antt` has a token that takes turns, without where its texts lie in memory.
 #![tactic(auto)]
 
 mod attribute_names;
@@ -34,6 +35,7 @@ mod place;
 mod sets;
 mod svg_tags;
 mod table;
+mod tree_errors;
 mod turns;
 
 pub use attributes::{adjust_foreign_attributes, adjust_mathml_attributes, adjust_svg_attributes};
@@ -51,4 +53,5 @@ pub use sets::{
     table_body_context, table_outer, table_row_context, table_scope, td_th, thorough_implied_end,
 };
 pub use svg_tags::adjust_svg_tag_name;
+pub use tree_errors::TreeError;
 pub use turns::{ProcessResult, Token};

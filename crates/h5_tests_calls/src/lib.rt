@@ -34,3 +34,5 @@ mod stack;
 mod tag_sets;
 #[cfg(test)]
 mod token;
+#[cfg(test)]
+mod tree_errors;

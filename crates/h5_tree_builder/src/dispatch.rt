@@ -28,7 +28,7 @@ use h5_rules_tables::{
 use h5_state::{
     State, Turn, current_mode, set_mode, take_again, take_answer, tell_error, unexpected,
 };
-use h5_tables::{InsertionMode, ProcessResult, Token};
+use h5_tables::{InsertionMode, ProcessResult, Token, TreeError};
 use h5_token::{TagKind, TokenSinkResult};
 use std::alloc::AllocError;
 
@@ -109,11 +109,7 @@ fn error_if_self_closing<S: TreeSink>(sink: &mut S, state: &State<S::Handle>, se
     ensures noted { self_closing ≡ true → 0 < errors_of S.TreeSink sink.new }
 {
     if self_closing {
-        tell_error(
-            sink,
-            state,
-            "self-closing start tag of an element that has content",
-        );
+        tell_error(sink, state, TreeError::SelfClosingTagWithContent);
     }
 }
 

@@ -8,8 +8,8 @@ ghost use Rattle.h5_tree_builder.specs.Chains.{IsReady, Settles};
 
 use super::turns_taken::Taken;
 use h5_interface::TreeSink;
-use h5_state::{State, current_mode, set_mode, set_quirks_mode, tell_error};
-use h5_tables::{InsertionMode, doctype_error_and_quirks};
+use h5_state::{State, current_mode, set_mode, set_quirks_mode, tell_error, tell_message};
+use h5_tables::{InsertionMode, TreeError, doctype_error_and_quirks};
 use h5_token::{Doctype, TokenSinkResult};
 use std::alloc::{AllocError, Global};
 
@@ -64,8 +64,8 @@ fn tell_bad<S: TreeSink>(sink: &mut S, state: &State<S::Handle>, doctype: &Docty
     ensures noted { 0 < errors_of S.TreeSink sink.new }
 {
     match exact_bad(state, doctype) {
-        Some(message) => tell_error(sink, state, message.as_str()),
-        None => tell_error(sink, state, "Bad DOCTYPE"),
+        Some(message) => tell_message(sink, state, message.as_str()),
+        None => tell_error(sink, state, TreeError::BadDoctype),
     }
 }
 
@@ -83,8 +83,8 @@ fn tell_late<S: TreeSink>(sink: &mut S, state: &State<S::Handle>)
     ensures noted { 0 < errors_of S.TreeSink sink.new }
 {
     match exact_late(state) {
-        Some(message) => tell_error(sink, state, message.as_str()),
-        None => tell_error(sink, state, "DOCTYPE in body"),
+        Some(message) => tell_message(sink, state, message.as_str()),
+        None => tell_error(sink, state, TreeError::LateDoctype),
     }
 }
 

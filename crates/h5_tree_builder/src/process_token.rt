@@ -10,7 +10,7 @@ use super::doctype::take_doctype;
 use super::text::take_text;
 use super::turns_taken::Taken;
 use h5_interface::TreeSink;
-use h5_state::{State, tell_error};
+use h5_state::{State, tell_message};
 use h5_tables::Token;
 use h5_token::{Token as Input, TokenSinkResult};
 use std::alloc::AllocError;
@@ -62,7 +62,7 @@ pub fn take_token<S: TreeSink>(
         Input::NullCharacterToken => process_to_completion(sink, state, Token::NullCharacter),
         Input::EOFToken => process_to_completion(sink, state, Token::Eof),
         Input::ParseError(message) => {
-            tell_error(sink, state, message.as_str());
+            tell_message(sink, state, message.as_str());
             Ok(Taken {
                 turns: 0,
                 answer: TokenSinkResult::Continue,

@@ -69,9 +69,9 @@ returns-in-ParseError-clause-settles g c =
     let law = g.S.TreeSink in
     let w = world_of law c.args.sink.now c.args.state.now in
     let ready : IsReady law c.args.sink.now c.take_lf-ignore_lf.new.state = c.take_lf-ignore_lf.ensures.ready c.requires in
-    subst (λ x. Settles law (step law.choices (token_text x)) (is_counted (token_text x) w) c.args.sink.now c.args.state.now c.tell_error.new.sink c.take_lf-ignore_lf.new.state _) (sym c.in-ParseError.is)
+    subst (λ x. Settles law (step law.choices (token_text x)) (is_counted (token_text x) w) c.args.sink.now c.args.state.now c.tell_message.new.sink c.take_lf-ignore_lf.new.state _) (sym c.in-ParseError.is)
     (record {
-      came = record { world = c.tell_error.ensures.told.world ∙ c.take_lf-ignore_lf.ensures.done; turns = λ h. refl; reply = refl; quiet = λ h. absurd (cc); noted = λ h k. c.tell_error.ensures.noted };
-      sound = c.tell_error.ensures.told.sound ready.sound;
-      fits = subst Fits (sym c.tell_error.ensures.told.world) ready.fits;
+      came = record { world = c.tell_message.ensures.told.world ∙ c.take_lf-ignore_lf.ensures.done; turns = λ h. refl; reply = refl; quiet = λ h. absurd (cc); noted = λ h k. c.tell_message.ensures.noted };
+      sound = c.tell_message.ensures.told.sound ready.sound;
+      fits = subst Fits (sym c.tell_message.ensures.told.world) ready.fits;
     })
