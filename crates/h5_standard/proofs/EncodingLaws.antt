@@ -1,10 +1,10 @@
 -- The bytes of a character past ASCII.
-use Rattle.std.proofs.Common.{◌≡◌, ℕ, ◌+◌, ◌/◌, ◌%◌, ◌<◌, ◌≤◌, Bool, true, false, List, [], ◌∷◌, ◌++◌, refl, ap, arith, cond, drop, length, ltb, sym, take, ◌&&◌, ◌∙◌}
+use Rattle.std.proofs.Common.{◌≡◌, ℕ, ◌+◌, ◌/◌, ◌%◌, ◌<◌, ◌≤◌, Bool, true, false, List, [], ◌∷◌, ◌++◌, refl, ap, arith, cond, drop, length, length-append, ltb, sym, take, ◌&&◌, ◌∙◌}
 use Rattle.std.proofs.lemmas.Bool.{and_from, le-leb, ltb-true}
 use Rattle.std.proofs.lemmas.Grind.{common_steps}
 use Rattle.std.proofs.lemmas.Str.{length-encode}
-use Rattle.std.specs.Char.{len_utf8}
-use Rattle.std.specs.Prelude.{encode_utf8, nat_le}
+use Rattle.std.specs.Char.{encode_utf8, len_utf8}
+use Rattle.std.specs.Prelude.{nat_le}
 use Rattle.std.specs.List.{list_all}
 use Rattle.h5_states.specs.Spots.{is_inside}
 
@@ -61,3 +61,10 @@ first_taken c n rest behind e f = (λ i. take ((f ∙ sym (length-encode c)) i) 
 
 pub first_dropped : (c n : ℕ) (rest behind : List ℕ) → rest ≡ encode_utf8 c ++ behind → n ≡ len_utf8 c → drop n rest ≡ behind
 first_dropped c n rest behind e f = (λ i. drop ((f ∙ sym (length-encode c)) i) (e i)) ∙ back_of (encode_utf8 c) behind
+
+-- what follows a character is shorter
+pub behind_is_shorter : (xs front behind others : List ℕ) (x : ℕ) → xs ≡ front ++ behind → front ≡ x ∷ others → length behind < length xs
+behind_is_shorter xs front behind others x whole split =
+    let all : length xs ≡ length (front ++ behind) = ap length whole in
+    let some : length front ≡ length (x ∷ others) = ap length split in
+    omega (arith, all, some, length-append front behind)

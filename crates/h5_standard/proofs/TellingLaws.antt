@@ -242,7 +242,7 @@ module _ {M : Type 0} (reply_to : M → TokenText → Reply) (after : M → Toke
       (subst (λ r. CameTo reply_to after foreign told start first other r s l xs now) (sym f)
       (subst (λ a. CameTo reply_to after foreign told start first a p s l xs now) e h))
 
-  refused_so : {p q : ReaderPlace} {s : Spot} {k l : M} {xs : List ℕ} {reply : Reply} {now : E} (f : BuildFault) → (reply ≡ Refuses f) × (k ≡ l)
+  refused_so : {p : ReaderPlace} {s : Spot} {k l : M} {xs : List ℕ} {reply : Reply} {now : E} (f : BuildFault) → (reply ≡ Refuses f) × (k ≡ l)
       → CameTo reply_to after foreign told start first reply p s l xs now → CameRefused reply_to after foreign told start first k now f
   refused_so {p = p} {s = s} {xs = xs} f e h = record { place = p; spot = s; rest = xs; came = answered_so e.0 refl e.1 h }
 

@@ -1,10 +1,12 @@
 -- What tells errors reads, as any reader does.
-use Rattle.std.proofs.Common.{◌≡◌, ◌⊎◌, inl, inr, ℕ, Bool, true, List, [], refl, Result, Ok, Err}
+use Rattle.std.proofs.Common.{◌≡◌, ◌⊎◌, inl, inr, ℕ, ◌+◌, ◌-◌, Bool, true, List, [], length, refl, sym, ap, ◌∙◌, subst, Result, Ok, Err}
+use Rattle.std.specs.Io.Iter.{u64_saturate}
 use Rattle.h5_token.specs.TokenText.{TokenText}
 use Rattle.h5_token.specs.Reply.{Reply, Continues, RunsScript, Indicates, Refuses}
 use Rattle.h5_token.specs.declared.fault.BuildFault.{BuildFault}
 use Rattle.h5_token.specs.declared.fault.BuildFault.TheVariants as fault
-use Rattle.h5_reading.specs.Stops.{stops_as}
+use Rattle.h5_reading.specs.Stops.{result_of, stops_as}
+use Rattle.h5_reading.specs.declared.stage.Stage.{Stage}
 use Rattle.h5_reading.specs.declared.stop.Stop.{Stop}
 use Rattle.h5_reading.specs.declared.stop.Stop.TheVariants as stop
 use Rattle.h5_states.specs.declared.position.Spot.{Spot}
@@ -14,7 +16,9 @@ use Rattle.h5_states.specs.Reading.{ReaderPlace}
 use Rattle.h5_states.specs.Telling.{Reached, at_first, IsHeld, IsHanded}
 use Rattle.h5_states.proofs.TellingLaws.{held, none_read, reaches_read}
 use Rattle.h5_standard.specs.Steps.{ReadsOn, RefusedAt, Runs, Stopped}
-use Rattle.h5_standard.specs.Telling.{CameOn, CameRefused, CameTo, RunsTelling}
+use Rattle.h5_standard.specs.Mark.{behind_mark}
+use Rattle.h5_standard.specs.ReaderText.{ReaderText}
+use Rattle.h5_standard.specs.Telling.{CameOn, CameRefused, CameTo, FeedsTelling, RunsTelling, spot_behind_mark}
 use Rattle.h5_standard.specs.declared.steps.Halt.{Halt}
 use Rattle.h5_standard.specs.declared.steps.Halt.TheVariants as halt
 
@@ -58,3 +62,21 @@ module _ {M : Type 0} (reply_to : M → TokenText → Reply) (after : M → Toke
     runs_telling node p s m xs first q t n now (Err fault.AfterEnd) h = refused_reads p s m xs first n now fault.AfterEnd h
     runs_telling node p s m xs first q t n now (Err fault.NotInText) h = refused_reads p s m xs first n now fault.NotInText h
     runs_telling node p s m xs first q t n now (Err fault.Failed) h = refused_reads p s m xs first n now fault.Failed h
+
+    -- what stopped reading, as an answer of the reader
+    pub tells_stop : {H : Type 0} (node : H → ℕ) (start : Reached M) (first : E) (p : ReaderPlace) (s : Spot) (m : M) (queue rest : List ℕ) (now : E) (reason : Stop H) → queue ≡ rest
+        → CameTo reply_to after foreign told start first (stops_as node reason) p s m rest now → FeedsTelling reply_to after foreign told start first node p s m queue now (Ok (result_of reason))
+    tells_stop node start first p s m queue rest now (stop.Script handle) e h = subst (λ l. CameTo reply_to after foreign told start first (RunsScript (node handle)) p s m l now) (sym e) h
+    tells_stop node start first p s m queue rest now (stop.EncodingIndicator encoding) e h =
+        subst (λ l. CameTo reply_to after foreign told start first (stops_as node (stop.EncodingIndicator encoding)) p s m l now) (sym e) h
+
+-- where reading began, by what was in the reader and in the queue
+pub begins_behind_mark : {M : Type 0} (old : ReaderText) (at_start : Bool) (p : ReaderPlace) (stage : Stage) (m : M) (xs buffer text piece : List ℕ) (s : Spot) (offset : ℕ)
+    → record { at_start = at_start; place = p; stage = stage } ≡ old → buffer ≡ xs → text ≡ buffer → piece ≡ behind_mark at_start text → offset ≡ u64_saturate (s.offset + (length text - length piece))
+    → at_first p (record s { offset = offset }) m piece ≡ at_first old.place (spot_behind_mark old.at_start xs s) m (behind_mark old.at_start xs)
+begins_behind_mark old at_start p stage m xs buffer text piece s offset a b e f g =
+    let whole : text ≡ xs = e ∙ b in
+    let same : piece ≡ behind_mark at_start xs = f ∙ ap (behind_mark at_start) whole in
+    let there : offset ≡ u64_saturate (s.offset + (length xs - length (behind_mark at_start xs))) = g ∙ (λ i. u64_saturate (s.offset + (length (whole i) - length (same i)))) in
+    subst (λ (o : ReaderText). at_first p (record s { offset = offset }) m piece ≡ at_first o.place (spot_behind_mark o.at_start xs s) m (behind_mark o.at_start xs)) a
+    (λ i. at_first p (record s { offset = there i }) m (same i))

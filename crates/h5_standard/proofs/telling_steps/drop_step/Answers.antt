@@ -10,4 +10,4 @@ pub take-requires : goal.take-requires
 take-requires c = λ wide. dropped_is_ascii c.args.machine.now c.args.b c.requires.dropped
 
 pub returns-clause-drops : goal.returns-clause-drops
-returns-clause-drops c = drops_only c.args.machine.now c.take.new.self c.args.b (string_bytes c.args.out.now) (string_bytes c.take.new.out) c.in_ok-step.step c.requires.dropped c.in_ok-step.ensures
+returns-clause-drops c = drops_only c.args.machine.now c.take.new.self c.args.b (string_bytes c.args.out.now) (string_bytes c.take.new.out) c.in_ok-_step._step c.requires.dropped c.in_ok-_step.ensures

@@ -1,7 +1,8 @@
-use Rattle.std.proofs.Common.{string_bytes, drop, ap, sym, ◌∙◌, ◌++◌}
+use Rattle.std.proofs.Common.{string_bytes, drop, ap, sym, ◌∙◌, ◌++◌, encode_utf8}
 use Rattle.h5_machine.specs.MachineText.{place_of}
-use Rattle.h5_standard.proofs.EncodingLaws.{encoded_wide}
+use Rattle.h5_standard.proofs.EncodingLaws.{behind_is_shorter, encoded_wide}
 use Rattle.h5_standard.proofs.TellingLaws.{wide_tells}
+use Rattle.h5_standard.proofs.WeightLaws.{shorter_is_less}
 use Rattle.h5_standard.proofs.telling_steps.front_step.Goals as goal
 
 pub wide_step-requires-clause-character : goal.wide_step-requires-clause-character
@@ -24,3 +25,10 @@ pub returns-clause-makes : goal.returns-clause-makes
 returns-clause-makes g c = λ start first h.
     c.telling_byte_step.ensures.makes start first
     (record { old = c.args.errors.now; on = h; row = c.tell_front.ensures c.args.rest.now c.in-Some.behind.now c.in-Some.ensures.rest })
+
+pub returns-then-is_taken_wide-clause-less : goal.returns-then-is_taken_wide-clause-less
+returns-then-is_taken_wide-clause-less g c =
+    let wide = c.is_taken_wide.ensures.wide c.if-is_taken_wide.true in
+    let w = encoded_wide c.in-Some.c c.args.b c.in-Some.behind.now (drop 1 c.args.rest.now) (sym c.in-Some.ensures.rest ∙ c.requires.front) wide.0 in
+    shorter_is_less (place_of c.args.machine.now) (place_of c.wide_step.new.machine) c.args.rest.now c.in-Some.behind.now
+    (behind_is_shorter c.args.rest.now (encode_utf8 c.in-Some.c) c.in-Some.behind.now w.others c.args.b c.in-Some.ensures.rest w.split)
