@@ -19,10 +19,13 @@ pub record NameByte (x : ℕ) : Type 0 where
   pub greater : eqb x 62 ≡ false
   pub equals : eqb x 61 ≡ false
   pub nul : eqb x 0 ≡ false
+  pub double : eqb x 34 ≡ false
+  pub single : eqb x 39 ≡ false
+  pub less : eqb x 60 ≡ false
   pub cr : eqb x 13 ≡ false
   pub lower : to_ascii_lowercase x ≡ x
 
-parts : (a b c d e f g h i : Bool) → not (a || (b || (c || (d || (e || (f || (g || (h || i)))))))) ≡ true → (a ≡ false) × (b ≡ false) × (c ≡ false) × (d ≡ false) × (e ≡ false) × (i ≡ false)
+parts : (a b c d e f g h i : Bool) → not (a || (b || (c || (d || (e || (f || (g || (h || i)))))))) ≡ true → (a ≡ false) × (b ≡ false) × (c ≡ false) × (d ≡ false) × (e ≡ false) × (f ≡ false) × (g ≡ false) × (h ≡ false) × (i ≡ false)
 parts true b c d e f g h i n = absurd (false≢true n)
 parts false true c d e f g h i n = absurd (false≢true n)
 parts false false true d e f g h i n = absurd (false≢true n)
@@ -32,7 +35,7 @@ parts false false false false false true g h i n = absurd (false≢true n)
 parts false false false false false false true h i n = absurd (false≢true n)
 parts false false false false false false false true i n = absurd (false≢true n)
 parts false false false false false false false false true n = absurd (false≢true n)
-parts false false false false false false false false false n = (refl, refl, refl, refl, refl, refl)
+parts false false false false false false false false false n = (refl, refl, refl, refl, refl, refl, refl, refl, refl)
 
 no_cr : (x : ℕ) → is_ascii_whitespace x ≡ false → eqb x 13 ≡ false
 no_cr x h = grind (arith, nat_tests)
@@ -43,7 +46,7 @@ stays_low x h = grind (arith, nat_tests)
 pub name_byte : (x : ℕ) → is_name_byte x ≡ true → NameByte x
 name_byte x h =
     let p = parts (is_ascii_uppercase x) (is_ascii_whitespace x) (eqb x 47) (eqb x 62) (eqb x 61) (eqb x 34) (eqb x 39) (eqb x 60) (eqb x 0) h in
-    record { blank = p.1; slash = p.2; greater = p.3; equals = p.4; nul = p.5; cr = no_cr x p.1; lower = stays_low x p.0 }
+    record { blank = p.1; slash = p.2; greater = p.3; equals = p.4; double = p.5; single = p.6; less = p.7; nul = p.8; cr = no_cr x p.1; lower = stays_low x p.0 }
 
 text_byte : (x : ℕ) (xs : List ℕ) → NameByte x → text_of false (x ∷ xs) ≡ x ∷ text_of false xs
 text_byte x xs p =

@@ -1,4 +1,5 @@
 -- Plain documents, read by the standard's tokenization.
+pub mod QuietLaws
 pub mod RunLaws
 pub mod ReferenceLaws
 pub mod TextLaws

@@ -24,7 +24,9 @@ pub use h5_laws::laws::{
     runs_join, turns_are_few, what_is_kept_stays,
 };
 pub use h5_plain::laws::documents_are_rebuilt;
-pub use h5_round_trip::laws::standard::{documents_are_read, markup_is_read_alike};
+pub use h5_round_trip::laws::standard::{
+    documents_are_read, documents_are_read_without_errors, markup_is_read_alike,
+};
 pub use h5_round_trip::laws::{
     different_documents_have_different_texts,
     documents_are_read as documents_are_read_by_the_plain_reader, documents_are_written,

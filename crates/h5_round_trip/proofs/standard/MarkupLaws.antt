@@ -17,6 +17,7 @@ use Rattle.h5_plain.specs.Plain.{end_tag}
 use Rattle.h5_round_trip.specs.Answers.{Answers}
 use Rattle.h5_round_trip.proofs.TagLaws.{IsTagName}
 use Rattle.h5_round_trip.specs.Markup.{AreCommentBytes, AreMarks, Comment, Ending, IsCommentText, IsMark, IsTagText, Mark, Start, Title, Words, marks_tokens, is_comment_byte, page_tokens, written_mark, written_marks, written_page}
+use Rattle.h5_round_trip.proofs.standard.QuietLaws.{begins_quietly, quiet}
 use Rattle.h5_round_trip.proofs.standard.ReadingLaws.{In, IsSome, Reached, behind_token, doctype_taken, end_taken, ends, some_behind, start_taken, text_taken, title_end_taken, title_taken, token_taken}
 use Rattle.h5_round_trip.proofs.standard.RunLaws.{IsIn, Moves, again_by, goes_by, moves_then, rows_move, stays}
 use Rattle.h5_round_trip.proofs.standard.TagLaws.{HandsToken, handed}
@@ -43,7 +44,7 @@ comment_byte x h = by (eqb x 45) (eqb x 60) (eqb x 0) (eqb x 13) refl refl refl 
     by false false true d p q r s h = cc
     by false false false true p q r s h = cc
 
-comment_row : (last comment : List ℕ) (x : ℕ) → CommentByte x → (turn references last (state.Comment comment) x).outcome ≡ Consumed [] (state.Comment (comment ++ x ∷ []))
+comment_row : (last comment : List ℕ) (x : ℕ) → CommentByte x → turn references last (state.Comment comment) x ≡ quiet (Consumed [] (state.Comment (comment ++ x ∷ [])))
 comment_row last comment x c = rw (c.less, c.dash, c.nul) refl
 
 comment_moves : (p : ReaderPlace) (comment xs ys : List ℕ) → AreCommentBytes xs → IsIn p (state.Comment comment) → Moves p (xs ++ ys) [] (state.Comment (comment ++ xs)) ys
@@ -54,7 +55,7 @@ comment_moves p comment (x ∷ xs) ys h i =
     (moves_then (goes_by p (state.Comment comment) (state.Comment (comment ++ x ∷ [])) x [] (xs ++ ys) i c.cr (comment_row p.last comment x c))
     (λ q j l. comment_moves q (comment ++ x ∷ []) xs ys h.1 j))
 
-begin_row : (last : List ℕ) (x : ℕ) → eqb x 62 ≡ false → CommentByte x → (turn references last CommentStart x).outcome ≡ Reconsumed [] (state.Comment [])
+begin_row : (last : List ℕ) (x : ℕ) → eqb x 62 ≡ false → CommentByte x → turn references last CommentStart x ≡ quiet (Reconsumed [] (state.Comment []))
 begin_row last x g c = rw (c.dash, g) refl
 
 inside_moves : (p : ReaderPlace) (text ys : List ℕ) → IsCommentText text → IsIn p CommentStart → Moves p (text ++ 45 ∷ 45 ∷ ys) [] (CommentEnd text) ys
@@ -134,6 +135,7 @@ module _ {M : Type 0} (reply_to : M → TokenText → Reply) (after : M → Toke
         is_in = record { at = refl; after_return = refl };
         answers = answers;
         whole = refl;
+        quietly = λ s none. begins_quietly reply_to after foreign p s m xs none;
       } in
       ends reply_to after foreign ended p m xs all
       (marks_taken p m xs all marks h

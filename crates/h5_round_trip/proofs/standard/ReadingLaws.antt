@@ -16,6 +16,9 @@ use Rattle.h5_states.specs.Reading.{Passes, ReaderPlace, Read, after_token, behi
 use Rattle.h5_states.specs.ReferenceTable.{references}
 use Rattle.h5_states.specs.States.{Text as TextState}
 use Rattle.h5_states.specs.Whole.{ReadsToEnd, more_reading, no_reading}
+use Rattle.h5_states.specs.WithoutErrors.{HasNoInputErrors, ReadsWithoutErrors}
+use Rattle.h5_states.specs.Telling.{at_first}
+use Rattle.h5_states.specs.declared.position.Spot.{Spot}
 use Rattle.h5_standard.specs.Options.{first_place}
 use Rattle.h5_plain.specs.Plain.{ArePlain, ElementThen, End, Nodes, PlainDocument, TextThen, as_written, document_tokens, end_tag, fragment_tokens, has_end_tag, is_start_of_title, plain_doctype, plain_reply, root_of, start_tag, tokens_before}
 use Rattle.h5_round_trip.specs.Answers.{Answers}
@@ -24,6 +27,7 @@ use Rattle.h5_round_trip.specs.Written.{tag_written, written_before, written_fra
 use Rattle.h5_round_trip.proofs.DoubledLaws.{read_written, shape_written}
 use Rattle.h5_round_trip.proofs.ShapeLaws.{Element, None, Shape, Text, Title, Void, document_shape, is_title}
 use Rattle.h5_round_trip.proofs.TagLaws.{IsTagName}
+use Rattle.h5_round_trip.proofs.standard.QuietLaws.{ComesQuietly, begins_quietly, outcome_of, passes_of, quietly_on, text_quietly, token_quietly}
 use Rattle.h5_round_trip.proofs.standard.ReferenceLaws.{InData, InTitle, Where, state_of}
 use Rattle.h5_round_trip.proofs.standard.RunLaws.{IsIn, Moves}
 use Rattle.h5_round_trip.specs.Fragment.{AnswersCuts}
@@ -174,7 +178,8 @@ ending (ElementThen name attrs inner rest) (Element o p i h) = past_element name
 ending (ElementThen name attrs inner rest) (Title p h) = past_element name attrs inner rest (ending rest h)
 
 module _ {M : Type 0} (reply_to : M → TokenText → Reply) (after : M → TokenText → ℕ → M) (foreign : M → Bool) (ended : M → M) where
-  -- from a place on some of all tokens were read; more of them, and this text, are left
+  -- from a place on some of all tokens were read; more of them, and this text, are left. No error was told of what
+  -- was read, if no character of the input is one.
   pub record Reached (p : ReaderPlace) (m : M) (xs : List ℕ) (all : List TokenText) (title : Bool) (more : List TokenText) (rest : List ℕ) : Type 0 where
     pub place : ReaderPlace
     pub meaning : M
@@ -185,6 +190,7 @@ module _ {M : Type 0} (reply_to : M → TokenText → Reply) (after : M → Toke
     pub is_in : In title place
     pub answers : Answers reply_to after meaning more
     pub whole : handed ++ more ≡ all
+    pub quietly : (s : Spot) → HasNoInputErrors xs → ComesQuietly reply_to after foreign (at_first p s m xs) [] place.began place meaning rest
 
   module _ (p : ReaderPlace) (m : M) (xs : List ℕ) (all : List TokenText) where
     pub token_taken : (title next : Bool) (t : TokenText) (more : List TokenText) (written rest : List ℕ)
@@ -199,10 +205,13 @@ module _ {M : Type 0} (reply_to : M → TokenText → Reply) (after : M → Toke
           handed = (r.handed ++ []) ++ t ∷ [];
           reply = reply_to r.meaning t;
           goes = ap goes_on r.answers.0 ∙ plain_goes t;
-          read = read_on (read_on r.read r.goes (quiet_step h.passes)) refl (token_step t (TextState text.Data) h.kept h.outcome);
+          read = read_on (read_on r.read r.goes (quiet_step (passes_of h.passes))) refl (token_step t (TextState text.Data) h.kept (outcome_of h.row));
           is_in = leads h.place h.byte (reply_to r.meaning t) h.no_return r.answers.0;
           answers = r.answers.1 h.place.began;
           whole = ap (λ l. (l ++ t ∷ []) ++ more) (append-nil r.handed) ∙ append_assoc r.handed (t ∷ []) more ∙ r.whole;
+          quietly = λ s none.
+              token_quietly reply_to after foreign (at_first p s m xs) r.place.began h.byte h.place r.meaning rest t (TextState text.Data) h.kept h.row (ap goes_on r.answers.0 ∙ plain_goes t)
+              (quietly_on reply_to after foreign (at_first p s m xs) [] r.place.began r.meaning h.passes (r.quietly s none));
         }
 
     in_text : (title : Bool) (q : ReaderPlace) → In title q → IsIn q (state_of (where_in title))
@@ -229,10 +238,13 @@ module _ {M : Type 0} (reply_to : M → TokenText → Reply) (after : M → Toke
           handed = r.handed ++ Characters (x ∷ words) ∷ [];
           reply = reply_to r.meaning (Characters (x ∷ words));
           goes = ap goes_on r.answers.0;
-          read = read_on r.read r.goes (text_step moves.passes);
+          read = read_on r.read r.goes (text_step (passes_of moves.passes));
           is_in = in_behind title r.place moves.place r.is_in moves.is_in moves.last;
           answers = r.answers.1 r.place.began;
           whole = append_assoc r.handed (Characters (x ∷ words) ∷ []) more ∙ r.whole;
+          quietly = λ s none.
+              text_quietly reply_to after foreign (at_first p s m xs) x r.place.began words moves.place r.meaning rest (ap goes_on r.answers.0)
+              (quietly_on reply_to after foreign (at_first p s m xs) [] r.place.began r.meaning moves.passes (r.quietly s none));
         }
 
     pub start_taken : (name : List ℕ) (attrs : List AttributeText) (more : List TokenText) (rest : List ℕ) → IsTagName name → is_same_text name (codes "title") ≡ false → ArePlain attrs → AreReadable attrs
@@ -326,9 +338,22 @@ module _ {M : Type 0} (reply_to : M → TokenText → Reply) (after : M → Toke
         },
       )
 
-  -- a document's text is read to its end, as the tokens of the document
-  pub document_read : (d : PlainDocument) (m : M) → IsReadableDocument d → Answers reply_to after m (document_tokens d) → (n : M) × ReadsToEnd references reply_to after foreign ended (first_place default_options) m (written_of d) (document_tokens d) n
-  document_read d m readable answers =
+  -- and no error was told, nor is there one at the end
+  ends_quietly : (p : ReaderPlace) (m : M) (xs : List ℕ) (all : List TokenText) (s : Spot) → HasNoInputErrors xs → Reached p m xs all false (EndOfFile ∷ []) []
+      → ReadsWithoutErrors references reply_to after foreign p s m xs
+  ends_quietly p m xs all s none r =
+      let c = r.quietly s none in
+      record {
+        reached = record { text = []; line = r.place.began; reply = Continues; place = r.place; spot = c.spot; meaning = r.meaning; rest = [] };
+        reaches = c.reaches;
+        all = refl;
+        goes_on = refl;
+        none_at_end = ap (λ s. (at_end references s).errors) r.is_in.at;
+      }
+
+  -- all of a document's text was read
+  document_reached : (d : PlainDocument) (m : M) → IsReadableDocument d → Answers reply_to after m (document_tokens d) → Reached (first_place default_options) m (written_of d) (document_tokens d) false (EndOfFile ∷ []) []
+  document_reached d m readable answers =
       let p = first_place default_options in
       let xs = written_of d in
       let all = document_tokens d in
@@ -342,10 +367,19 @@ module _ {M : Type 0} (reply_to : M → TokenText → Reply) (after : M → Toke
         is_in = record { at = refl; after_return = refl };
         answers = answers;
         whole = refl;
+        quietly = λ s none. begins_quietly reply_to after foreign p s m xs none;
       } in
-      ends p m xs all
-      (nodes_taken p m xs all (as_written (root_of d)) (EndOfFile ∷ []) [] (shape_written (document_shape d)) (read_written (root_of d) readable) tt
-      (doctype_taken p m xs all (tokens_before (as_written (root_of d)) (EndOfFile ∷ [])) (written_fragment (root_of d)) first))
+      nodes_taken p m xs all (as_written (root_of d)) (EndOfFile ∷ []) [] (shape_written (document_shape d)) (read_written (root_of d) readable) tt
+      (doctype_taken p m xs all (tokens_before (as_written (root_of d)) (EndOfFile ∷ [])) (written_fragment (root_of d)) first)
+
+  -- a document's text is read to its end, as the tokens of the document
+  pub document_read : (d : PlainDocument) (m : M) → IsReadableDocument d → Answers reply_to after m (document_tokens d) → (n : M) × ReadsToEnd references reply_to after foreign ended (first_place default_options) m (written_of d) (document_tokens d) n
+  document_read d m readable answers = ends (first_place default_options) m (written_of d) (document_tokens d) (document_reached d m readable answers)
+
+  -- and without errors, if the text itself has none
+  pub document_quietly : (d : PlainDocument) (m : M) (s : Spot) → IsReadableDocument d → Answers reply_to after m (document_tokens d) → HasNoInputErrors (written_of d)
+      → ReadsWithoutErrors references reply_to after foreign (first_place default_options) s m (written_of d)
+  document_quietly d m s readable answers none = ends_quietly (first_place default_options) m (written_of d) (document_tokens d) s none (document_reached d m readable answers)
 
   -- read to the end, by all tokens but that the last text may come in two parts
   pub record ReadsCut (p : ReaderPlace) (m : M) (xs : List ℕ) (all : List TokenText) : Type 0 where
@@ -408,6 +442,7 @@ module _ {M : Type 0} (reply_to : M → TokenText → Reply) (after : M → Toke
         is_in = record { at = refl; after_return = refl };
         answers = answers;
         whole = refl;
+        quietly = λ s none. begins_quietly reply_to after foreign (first_place default_options) s m (written_before ns []) none;
       }
 
       by_text : (front : Nodes) (t : List ℕ) (x : ℕ) (words : List ℕ) → t ≡ x ∷ words → Splits ns front t → ReadsCut (first_place default_options) m (written_before ns []) (tokens_before ns (EndOfFile ∷ []))

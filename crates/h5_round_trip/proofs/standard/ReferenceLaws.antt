@@ -9,6 +9,7 @@ use Rattle.h5_states.specs.Reading.{ReaderPlace}
 use Rattle.h5_states.specs.ReferenceTable.{references}
 use Rattle.h5_states.specs.States.{AttributeValue, NamedCharacterReference, Quoted, Return, State, Text, ToData, ToRcdata, ToValue}
 use Rattle.h5_states.specs.Turn.{Reconsumed}
+use Rattle.h5_round_trip.proofs.standard.QuietLaws.{quiet}
 use Rattle.h5_round_trip.proofs.standard.RunLaws.{IsIn, Moves, again_at, moves_then, rows, rows_move}
 
 -- where a text stands: in data, in the text of a title, or in a value in double quotes, of a tag so far
@@ -39,7 +40,7 @@ further w text = w
 -- a name of the table, which ends in ';', and what it stands for
 pub record IsNamed (name text : List ℕ) : Type 0 where
   pub begins : (last : List ℕ) (w : Where) → rows last (38 ∷ name) (Some (state_of w)) ≡ Some (NamedCharacterReference (return_of w) name)
-  pub ends : (last : List ℕ) (w : Where) (y : ℕ) → (turn references last (NamedCharacterReference (return_of w) name) y).outcome ≡ Reconsumed (emitted w text) (state_of (further w text))
+  pub ends : (last : List ℕ) (w : Where) (y : ℕ) → turn references last (NamedCharacterReference (return_of w) name) y ≡ quiet (Reconsumed (emitted w text) (state_of (further w text)))
 
 amp_begins : (last : List ℕ) (w : Where) → rows last (codes "&amp;") (Some (state_of w)) ≡ Some (NamedCharacterReference (return_of w) (codes "amp;"))
 unfolding references
@@ -47,7 +48,7 @@ amp_begins last InData = refl
 amp_begins last InTitle = refl
 amp_begins last (InValue tag) = refl
 
-amp_ends : (last : List ℕ) (w : Where) (y : ℕ) → (turn references last (NamedCharacterReference (return_of w) (codes "amp;")) y).outcome ≡ Reconsumed (emitted w (38 ∷ [])) (state_of (further w (38 ∷ [])))
+amp_ends : (last : List ℕ) (w : Where) (y : ℕ) → turn references last (NamedCharacterReference (return_of w) (codes "amp;")) y ≡ quiet (Reconsumed (emitted w (38 ∷ [])) (state_of (further w (38 ∷ []))))
 unfolding references
 amp_ends last InData y = refl
 amp_ends last InTitle y = refl
@@ -62,7 +63,7 @@ nbsp_begins last InData = refl
 nbsp_begins last InTitle = refl
 nbsp_begins last (InValue tag) = refl
 
-nbsp_ends : (last : List ℕ) (w : Where) (y : ℕ) → (turn references last (NamedCharacterReference (return_of w) (codes "nbsp;")) y).outcome ≡ Reconsumed (emitted w (0xc2 ∷ 0xa0 ∷ [])) (state_of (further w (0xc2 ∷ 0xa0 ∷ [])))
+nbsp_ends : (last : List ℕ) (w : Where) (y : ℕ) → turn references last (NamedCharacterReference (return_of w) (codes "nbsp;")) y ≡ quiet (Reconsumed (emitted w (0xc2 ∷ 0xa0 ∷ [])) (state_of (further w (0xc2 ∷ 0xa0 ∷ []))))
 unfolding references
 nbsp_ends last InData y = refl
 nbsp_ends last InTitle y = refl
@@ -77,7 +78,7 @@ less_begins last InData = refl
 less_begins last InTitle = refl
 less_begins last (InValue tag) = refl
 
-less_ends : (last : List ℕ) (w : Where) (y : ℕ) → (turn references last (NamedCharacterReference (return_of w) (codes "lt;")) y).outcome ≡ Reconsumed (emitted w (60 ∷ [])) (state_of (further w (60 ∷ [])))
+less_ends : (last : List ℕ) (w : Where) (y : ℕ) → turn references last (NamedCharacterReference (return_of w) (codes "lt;")) y ≡ quiet (Reconsumed (emitted w (60 ∷ [])) (state_of (further w (60 ∷ []))))
 unfolding references
 less_ends last InData y = refl
 less_ends last InTitle y = refl
@@ -92,7 +93,7 @@ greater_begins last InData = refl
 greater_begins last InTitle = refl
 greater_begins last (InValue tag) = refl
 
-greater_ends : (last : List ℕ) (w : Where) (y : ℕ) → (turn references last (NamedCharacterReference (return_of w) (codes "gt;")) y).outcome ≡ Reconsumed (emitted w (62 ∷ [])) (state_of (further w (62 ∷ [])))
+greater_ends : (last : List ℕ) (w : Where) (y : ℕ) → turn references last (NamedCharacterReference (return_of w) (codes "gt;")) y ≡ quiet (Reconsumed (emitted w (62 ∷ [])) (state_of (further w (62 ∷ []))))
 unfolding references
 greater_ends last InData y = refl
 greater_ends last InTitle y = refl
@@ -107,7 +108,7 @@ quote_begins last InData = refl
 quote_begins last InTitle = refl
 quote_begins last (InValue tag) = refl
 
-quote_ends : (last : List ℕ) (w : Where) (y : ℕ) → (turn references last (NamedCharacterReference (return_of w) (codes "quot;")) y).outcome ≡ Reconsumed (emitted w (34 ∷ [])) (state_of (further w (34 ∷ [])))
+quote_ends : (last : List ℕ) (w : Where) (y : ℕ) → turn references last (NamedCharacterReference (return_of w) (codes "quot;")) y ≡ quiet (Reconsumed (emitted w (34 ∷ [])) (state_of (further w (34 ∷ []))))
 unfolding references
 quote_ends last InData y = refl
 quote_ends last InTitle y = refl

@@ -14,13 +14,13 @@ use Rattle.h5_serialize.specs.Writing.{attribute_written}
 use Rattle.h5_states.specs.declared.kinds.Quote.TheVariants.{Double}
 use Rattle.h5_states.specs.declared.kinds.TextKind.TheVariants.{Data, Rcdata}
 use Rattle.h5_states.specs.declared.kinds.RawTextKind.TheVariants as raw
-use Rattle.h5_states.specs.Construction.{Attribute, Tag, completed, new_doctype, token_of, with_attribute}
+use Rattle.h5_states.specs.Construction.{Attribute, Tag, completed, new_doctype, with_attribute}
 use Rattle.h5_states.specs.Machine.{turn}
-use Rattle.h5_states.specs.Reading.{Passes, ReaderPlace, outcome, is_dropped}
+use Rattle.h5_states.specs.Reading.{ReaderPlace, is_dropped}
 use Rattle.h5_states.specs.ReferenceTable.{references}
 use Rattle.h5_states.specs.Signs.{is_blank}
 use Rattle.h5_states.specs.States.{AfterAttributeValueQuoted, AttributeName, AttributeValue, BeforeAttributeName, DoctypeName, EndTagOpen, Quoted, RawEndTagName, State, TagName, TagOpen, Text}
-use Rattle.h5_states.specs.Turn.{Reconsumed, Consumed, Emitted}
+use Rattle.h5_states.specs.Turn.{Reconsumed, Consumed, Emitted, hand_complete}
 use Rattle.h5_plain.specs.Plain.{ArePlain, end_tag, plain_doctype, start_tag}
 use Rattle.h5_round_trip.specs.Readable.{AreNameBytes, AreReadable, IsName, IsReadable}
 use Rattle.h5_round_trip.specs.Written.{tag_written}
@@ -28,8 +28,8 @@ use Rattle.h5_round_trip.proofs.AttributeLaws.{no_duplicates, written_plain}
 use Rattle.h5_round_trip.proofs.NameLaws.{NameByte, name_byte}
 use Rattle.h5_round_trip.proofs.TagLaws.{IsTagName}
 use Rattle.h5_round_trip.proofs.standard.ReferenceLaws.{InValue}
-use Rattle.h5_machine.proofs.MoreLaws.{passes_more}
-use Rattle.h5_round_trip.proofs.standard.RunLaws.{IsIn, Moves, again_by, outcome_at, goes_by, kept, moves_then, rows, rows_move, stays}
+use Rattle.h5_round_trip.proofs.standard.QuietLaws.{PassesQuietly, quiet, quietly_more, row_at}
+use Rattle.h5_round_trip.proofs.standard.RunLaws.{IsIn, Moves, again_by, row_there, goes_by, kept, moves_then, rows, rows_move, stays}
 use Rattle.h5_round_trip.proofs.standard.TextLaws.{text_reads}
 
 -- ---- names
@@ -44,7 +44,7 @@ tag_at kind name attrs current = record { kind = kind; name = name; self_closing
 abbrev attribute_at : List ℕ → List ℕ → Option Attribute
 attribute_at name value = Some (record { name = name; value = value })
 
-tag_name_row : (last : List ℕ) (kind : TagKind) (done : List ℕ) (x : ℕ) → NameByte x → (turn references last (TagName (tag_at kind done [] Nothing)) x).outcome ≡ Consumed [] (TagName (tag_at kind (done ++ x ∷ []) [] Nothing))
+tag_name_row : (last : List ℕ) (kind : TagKind) (done : List ℕ) (x : ℕ) → NameByte x → turn references last (TagName (tag_at kind done [] Nothing)) x ≡ quiet (Consumed [] (TagName (tag_at kind (done ++ x ∷ []) [] Nothing)))
 tag_name_row last kind done x n = rw (no_blank x n.blank, n.slash, n.greater, n.nul, n.lower) refl
 
 tag_name_moves : (p : ReaderPlace) (kind : TagKind) (done xs ys : List ℕ) → AreNameBytes xs → IsIn p (TagName (tag_at kind done [] Nothing)) → Moves p (xs ++ ys) [] (TagName (tag_at kind (done ++ xs) [] Nothing)) ys
@@ -58,7 +58,7 @@ tag_name_moves p kind done (x ∷ xs) ys names h =
 abbrev pub after_name : TagKind → List ℕ → State
 after_name kind name = TagName (tag_at kind name [] Nothing)
 
-letter_begins : (last : List ℕ) (x : ℕ) → is_ascii_alphabetic x ≡ true → (turn references last TagOpen x).outcome ≡ Reconsumed [] (TagName (tag_at StartTag [] [] Nothing))
+letter_begins : (last : List ℕ) (x : ℕ) → is_ascii_alphabetic x ≡ true → turn references last TagOpen x ≡ quiet (Reconsumed [] (TagName (tag_at StartTag [] [] Nothing)))
 letter_begins last x letter =
     let mark : eqb x 33 ≡ false = grind (arith, nat_tests) in
     let slash : eqb x 47 ≡ false = grind (arith, nat_tests) in
@@ -77,7 +77,7 @@ opened p name ys t h =
     (again_by q TagOpen (TagName (tag_at StartTag [] [] Nothing)) t.first [] (t.more ++ ys) i (letter_no_return t.first t.letter) (letter_begins q.last t.first t.letter)))
     (λ r j k. tag_name_moves r StartTag [] name ys t.bytes j))
 
-end_letter_begins : (last : List ℕ) (x : ℕ) → is_ascii_alphabetic x ≡ true → (turn references last EndTagOpen x).outcome ≡ Reconsumed [] (TagName (tag_at EndTag [] [] Nothing))
+end_letter_begins : (last : List ℕ) (x : ℕ) → is_ascii_alphabetic x ≡ true → turn references last EndTagOpen x ≡ quiet (Reconsumed [] (TagName (tag_at EndTag [] [] Nothing)))
 end_letter_begins last x letter = rw letter refl
 
 pub end_opened : (p : ReaderPlace) (name ys : List ℕ) → IsTagName name → IsIn p (Text Data) → Moves p (60 ∷ 47 ∷ (name ++ ys)) [] (after_name EndTag name) ys
@@ -100,16 +100,16 @@ abbrev state_before : Before → Tag → State
 state_before AfterName tag = TagName tag
 state_before AfterValue tag = AfterAttributeValueQuoted tag
 
-blank_row : (last : List ℕ) (b : Before) (tag : Tag) → (turn references last (state_before b tag) 32).outcome ≡ Consumed [] (BeforeAttributeName tag)
+blank_row : (last : List ℕ) (b : Before) (tag : Tag) → turn references last (state_before b tag) 32 ≡ quiet (Consumed [] (BeforeAttributeName tag))
 blank_row last AfterName tag = refl
 blank_row last AfterValue tag = refl
 
-first_row : (last : List ℕ) (tag : Tag) (x : ℕ) → NameByte x → (turn references last (BeforeAttributeName tag) x).outcome ≡ Reconsumed [] (AttributeName (with_attribute [] tag))
+first_row : (last : List ℕ) (tag : Tag) (x : ℕ) → NameByte x → turn references last (BeforeAttributeName tag) x ≡ quiet (Reconsumed [] (AttributeName (with_attribute [] tag)))
 first_row last tag x n = rw (no_blank x n.blank, n.slash, n.greater, n.equals) refl
 
 attribute_row : (last : List ℕ) (name : List ℕ) (done : List AttributeText) (so_far : List ℕ) (x : ℕ) → NameByte x
-    → (turn references last (AttributeName (tag_at StartTag name done (attribute_at so_far []))) x).outcome ≡ Consumed [] (AttributeName (tag_at StartTag name done (attribute_at (so_far ++ x ∷ []) [])))
-attribute_row last name done so_far x n = rw (no_blank x n.blank, n.slash, n.greater, n.equals, n.nul, n.lower) refl
+    → turn references last (AttributeName (tag_at StartTag name done (attribute_at so_far []))) x ≡ quiet (Consumed [] (AttributeName (tag_at StartTag name done (attribute_at (so_far ++ x ∷ []) []))))
+attribute_row last name done so_far x n = rw (no_blank x n.blank, n.slash, n.greater, n.equals, n.nul, n.lower, n.double, n.single, n.less) refl
 
 attribute_name_moves : (p : ReaderPlace) (name : List ℕ) (done : List AttributeText) (so_far xs ys : List ℕ) → AreNameBytes xs → IsIn p (AttributeName (tag_at StartTag name done (attribute_at so_far [])))
     → Moves p (xs ++ ys) [] (AttributeName (tag_at StartTag name done (attribute_at (so_far ++ xs) []))) ys
@@ -120,23 +120,28 @@ attribute_name_moves p name done so_far (x ∷ xs) ys names h =
     (moves_then (goes_by p (AttributeName (tag_at StartTag name done (attribute_at so_far []))) (AttributeName (tag_at StartTag name done (attribute_at (so_far ++ x ∷ []) []))) x [] (xs ++ ys) h n.cr (attribute_row p.last name done so_far x n))
     (λ q i l. attribute_name_moves q name done (so_far ++ x ∷ []) xs ys names.1 i))
 
+-- the '=' behind a name that is new, and the quote
+equals_rows : (last name : List ℕ) (done : List AttributeText) (local : List ℕ) → is_named_in local done ≡ false
+    → rows last (61 ∷ 34 ∷ []) (Some (AttributeName (tag_at StartTag name done (attribute_at local [])))) ≡ Some (AttributeValue (Quoted Double) (tag_at StartTag name done (attribute_at local [])))
+equals_rows last name done local new = rw new refl
+
 abbrev written_so : List ℕ → List ℕ → List ℕ → List ℕ
 written_so local value ys = 32 ∷ (local ++ 61 ∷ 34 ∷ (escape true value ++ 34 ∷ ys))
 
 -- one attribute
-attribute_moves : (p : ReaderPlace) (b : Before) (tag : Tag) (name : List ℕ) (done : List AttributeText) (local value ys : List ℕ) → completed tag ≡ tag_at StartTag name done Nothing → IsName local → IsReadable value → IsIn p (state_before b tag)
+attribute_moves : (p : ReaderPlace) (b : Before) (tag : Tag) (name : List ℕ) (done : List AttributeText) (local value ys : List ℕ) → completed tag ≡ tag_at StartTag name done Nothing → is_named_in local done ≡ false → IsName local → IsReadable value → IsIn p (state_before b tag)
     → Moves p (written_so local value ys) [] (state_before AfterValue (tag_at StartTag name done (attribute_at local value))) ys
-attribute_moves p b tag name done [] value ys complete names readable h = absurd names
-attribute_moves p b tag name done (x ∷ local) value ys complete names readable h =
+attribute_moves p b tag name done [] value ys complete new names readable h = absurd names
+attribute_moves p b tag name done (x ∷ local) value ys complete new names readable h =
     let behind = 61 ∷ 34 ∷ (escape true value ++ 34 ∷ ys) in
     let named = tag_at StartTag name done (attribute_at (x ∷ local) []) in
     let begun = tag_at StartTag name done (attribute_at [] []) in
     let n = name_byte x names.0 in
     let begins : AttributeName (with_attribute [] tag) ≡ AttributeName begun = ap (λ (t : Tag). AttributeName (record t { current = attribute_at [] [] })) complete in
     moves_then (goes_by p (state_before b tag) (BeforeAttributeName tag) 32 [] ((x ∷ local) ++ behind) h refl (blank_row p.last b tag))
-    (λ q i l. moves_then (again_by q (BeforeAttributeName tag) (AttributeName begun) x [] (local ++ behind) i n.cr (first_row q.last tag x n ∙ ap (Reconsumed []) begins))
+    (λ q i l. moves_then (again_by q (BeforeAttributeName tag) (AttributeName begun) x [] (local ++ behind) i n.cr (first_row q.last tag x n ∙ ap (λ t. quiet (Reconsumed [] t)) begins))
     (λ r j k. moves_then (attribute_name_moves r name done [] (x ∷ local) behind names j)
-    (λ s u m. moves_then (rows_move s (AttributeName named) (AttributeValue (Quoted Double) named) (61 ∷ 34 ∷ []) (escape true value ++ 34 ∷ ys) u refl)
+    (λ s u m. moves_then (rows_move s (AttributeName named) (AttributeValue (Quoted Double) named) (61 ∷ 34 ∷ []) (escape true value ++ 34 ∷ ys) u (equals_rows s.last name done (x ∷ local) new))
     (λ v w o. moves_then (text_reads v (InValue named) value 34 ys readable w)
     (λ a c d. rows_move a (AttributeValue (Quoted Double) (tag_at StartTag name done (attribute_at (x ∷ local) value))) (AfterAttributeValueQuoted (tag_at StartTag name done (attribute_at (x ∷ local) value))) (34 ∷ []) ys c refl)))))
 
@@ -154,7 +159,7 @@ read_then first more =
       before = m.before;
       tag = m.tag;
       complete = m.complete;
-      moves = record { place = m.moves.place; passes = passes_more first.passes m.moves.passes; is_in = m.moves.is_in; last = m.moves.last ∙ first.last };
+      moves = record { place = m.moves.place; passes = quietly_more first.passes m.moves.passes; is_in = m.moves.is_in; last = m.moves.last ∙ first.last };
     }
 
 no_first : (b c : Bool) → (if b then true else c) ≡ false → (b ≡ false) × (c ≡ false)
@@ -185,35 +190,36 @@ attributes_move p b tag name done (a ∷ attrs) ys complete plain readable new h
     let n = no_first (is_named_in a.name.local done) (repeats (done ++ a ∷ []) attrs) new in
     subst (λ all. AttributesRead p name all ((attribute_written a ++ others) ++ ys) ys) (append_assoc done (a ∷ []) attrs)
     (subst (λ xs. AttributesRead p name ((done ++ a ∷ []) ++ attrs) xs ys) (sym (written_one a others ys plain.1.0))
-    (read_then (attribute_moves p b tag name done a.name.local a.value (others ++ ys) complete readable.0 readable.1.0 h)
+    (read_then (attribute_moves p b tag name done a.name.local a.value (others ++ ys) complete n.0 readable.0 readable.1.0 h)
     (λ q i. attributes_move q AfterValue next name (done ++ a ∷ []) attrs ys (kept_so name done a plain.0 plain.1.0 n.0) plain.1.1.1 readable.1.1 n.1 i)))
 
 -- ---- whole tags
 
--- bytes are passed, and at one behind them this token is handed on
+-- bytes are passed without errors, and at one behind them this token is handed on
 pub record HandsToken (p : ReaderPlace) (xs : List ℕ) (token : TokenText) (ys : List ℕ) : Type 0 where
   pub place : ReaderPlace
   pub byte : ℕ
-  pub passes : Passes references p xs [] place (byte ∷ ys)
+  pub passes : PassesQuietly p xs [] place (byte ∷ ys)
   pub kept : is_dropped place byte ≡ false
-  pub outcome : outcome references place byte ≡ Emitted token (Text Data)
+  pub row : row_at place byte ≡ quiet (Emitted token (Text Data))
   pub no_return : eqb byte 13 ≡ false
   pub last : place.last ≡ p.last
 
-pub handed : (p : ReaderPlace) (xs : List ℕ) (s : State) (byte : ℕ) (token : TokenText) (ys : List ℕ) → eqb byte 13 ≡ false → ((last : List ℕ) → last ≡ p.last → (turn references last s byte).outcome ≡ Emitted token (Text Data)) → Moves p xs [] s (byte ∷ ys) → HandsToken p xs token ys
+pub handed : (p : ReaderPlace) (xs : List ℕ) (s : State) (byte : ℕ) (token : TokenText) (ys : List ℕ) → eqb byte 13 ≡ false → ((last : List ℕ) → last ≡ p.last → turn references last s byte ≡ quiet (Emitted token (Text Data))) → Moves p xs [] s (byte ∷ ys) → HandsToken p xs token ys
 handed p xs s byte token ys c row m = record {
   place = m.place;
   byte = byte;
   passes = m.passes;
   kept = kept m.place s byte m.is_in;
-  outcome = outcome_at m.place s byte (Emitted token (Text Data)) m.is_in c (row m.place.last m.last);
+  row = row_there m.place s byte (quiet (Emitted token (Text Data))) m.is_in c (row m.place.last m.last);
   no_return = c;
   last = m.last;
 }
 
-greater_row : (last : List ℕ) (b : Before) (tag : Tag) → (turn references last (state_before b tag) 62).outcome ≡ Emitted (token_of (completed tag)) (Text Data)
-greater_row last AfterName tag = refl
-greater_row last AfterValue tag = refl
+greater_row : (last : List ℕ) (b : Before) (tag : Tag) (name : List ℕ) (all : List AttributeText) → completed tag ≡ tag_at StartTag name all Nothing
+    → turn references last (state_before b tag) 62 ≡ quiet (Emitted (start_tag name all) (Text Data))
+greater_row last AfterName tag name all complete = ap hand_complete complete
+greater_row last AfterValue tag name all complete = ap hand_complete complete
 
 pub start_handed : (p : ReaderPlace) (name : List ℕ) (attrs : List AttributeText) (ys : List ℕ) → IsTagName name → ArePlain attrs → AreReadable attrs → IsIn p (Text Data) → HandsToken p (60 ∷ (tag_written name attrs ++ 62 ∷ ys)) (start_tag name attrs) ys
 start_handed p name attrs ys t plain readable h =
@@ -223,7 +229,7 @@ start_handed p name attrs ys t plain readable h =
     (λ q i. attributes_move q AfterName (tag_at StartTag name [] Nothing) name [] attrs (62 ∷ ys) refl plain readable (no_duplicates attrs plain) i) in
     subst (λ xs. HandsToken p (60 ∷ xs) (start_tag name attrs) ys) (sym (append_assoc name written (62 ∷ ys)))
     (handed p (60 ∷ (name ++ (written ++ 62 ∷ ys))) (state_before read.before read.tag) 62 (start_tag name attrs) ys refl
-    (λ last e. greater_row last read.before read.tag ∙ ap (λ (u : Tag). Emitted (token_of u) (Text Data)) read.complete) read.moves)
+    (λ last e. greater_row last read.before read.tag name attrs read.complete) read.moves)
 
 pub end_handed : (p : ReaderPlace) (name ys : List ℕ) → IsTagName name → IsIn p (Text Data) → HandsToken p (60 ∷ 47 ∷ (name ++ 62 ∷ ys)) (end_tag name) ys
 end_handed p name ys t h =
@@ -233,14 +239,14 @@ end_handed p name ys t h =
 title_end_rows : rows (codes "title") (codes "</title") (Some (Text Rcdata)) ≡ Some (RawEndTagName raw.Rcdata (codes "title"))
 title_end_rows = refl
 
-title_end_row : (turn references (codes "title") (RawEndTagName raw.Rcdata (codes "title")) 62).outcome ≡ Emitted (end_tag (codes "title")) (Text Data)
+title_end_row : turn references (codes "title") (RawEndTagName raw.Rcdata (codes "title")) 62 ≡ quiet (Emitted (end_tag (codes "title")) (Text Data))
 title_end_row = refl
 
 pub title_end_handed : (p : ReaderPlace) (ys : List ℕ) → IsIn p (Text Rcdata) → p.last ≡ codes "title" → HandsToken p (codes "</title>" ++ ys) (end_tag (codes "title")) ys
 title_end_handed p ys h l =
     let behind_name = RawEndTagName raw.Rcdata (codes "title") in
     handed p (codes "</title>" ++ ys) behind_name 62 (end_tag (codes "title")) ys refl
-    (λ last e. ap (λ k. (turn references k behind_name 62).outcome) (e ∙ l) ∙ title_end_row)
+    (λ last e. ap (λ k. turn references k behind_name 62) (e ∙ l) ∙ title_end_row)
     (rows_move p (Text Rcdata) behind_name (codes "</title") (62 ∷ ys) h (ap (λ k. rows k (codes "</title") (Some (Text Rcdata))) l ∙ title_end_rows))
 
 -- the doctype

@@ -18,6 +18,7 @@ use Rattle.h5_states.specs.ReferenceTable.{references}
 use Rattle.h5_states.specs.Turn.{Consumed}
 use Rattle.h5_round_trip.specs.Readable.{IsReadable}
 use Rattle.h5_round_trip.proofs.CharLaws.{AreFree, AreKept, IsFree, None, byte_some, free_encode, kept, no_quote}
+use Rattle.h5_round_trip.proofs.standard.QuietLaws.{passes_of, quiet}
 use Rattle.h5_round_trip.proofs.standard.ReferenceLaws.{InData, InTitle, InValue, IsNamed, Where, amp_is_named, emitted, further, greater_is_named, less_is_named, nbsp_is_named, quote_is_named, reference_moves, state_of}
 use Rattle.h5_round_trip.proofs.standard.RunLaws.{IsIn, Moves, goes_by, moves_then, rows_move, stays}
 
@@ -87,7 +88,7 @@ no_quote_further InData text xs h = tt
 no_quote_further InTitle text xs h = tt
 no_quote_further (InValue tag) text xs h = h
 
-free_row : (last : List ℕ) (w : Where) (x : ℕ) → IsFree x → NoQuote w (x ∷ []) → (turn references last (state_of w) x).outcome ≡ Consumed (emitted w (x ∷ [])) (state_of (further w (x ∷ [])))
+free_row : (last : List ℕ) (w : Where) (x : ℕ) → IsFree x → NoQuote w (x ∷ []) → turn references last (state_of w) x ≡ quiet (Consumed (emitted w (x ∷ [])) (state_of (further w (x ∷ []))))
 free_row last InData x free quiet = rw (free.amp, free.lt, free.nul) refl
 free_row last InTitle x free quiet = rw (free.amp, free.lt, free.nul) refl
 free_row last (InValue tag) x free quiet = rw (quiet.0, free.amp, free.nul) refl
@@ -223,7 +224,7 @@ char_ends p c nul cr h =
       front = encode_utf8 c;
       back = [];
       place = m.place;
-      passes = subst (λ l. Passes references p l (encode_utf8 c) m.place []) (append-nil (encode_utf8 c)) m.passes;
+      passes = subst (λ l. Passes references p l (encode_utf8 c) m.place []) (append-nil (encode_utf8 c)) (passes_of m.passes);
       held = none_held m.place m.is_in;
       whole = append-nil (encode_utf8 c);
     })
@@ -235,7 +236,7 @@ char_ends p c nul cr h =
           front = [];
           back = text;
           place = m.place;
-          passes = subst (λ l. Passes references p l [] m.place []) (append-nil (38 ∷ name)) m.passes;
+          passes = subst (λ l. Passes references p l [] m.place []) (append-nil (38 ∷ name)) (passes_of m.passes);
           held = holds m.place m.is_in.at;
           whole = e;
         }
@@ -277,7 +278,7 @@ chars_end p c (d ∷ cs) k h =
       front = encode_utf8 c ++ r.front;
       back = r.back;
       place = r.place;
-      passes = passes_more m.passes r.passes;
+      passes = passes_more (passes_of m.passes) r.passes;
       held = r.held;
       whole = append_assoc (encode_utf8 c) r.front r.back ∙ ap (λ l. encode_utf8 c ++ l) r.whole;
     }

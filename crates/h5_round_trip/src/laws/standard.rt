@@ -8,6 +8,8 @@ ghost use Rattle.h5_tokenizer.specs.Options as plain;
 ghost use Rattle.h5_tokenizer.specs.Whole as plain_reader;
 ghost use Rattle.h5_states.specs.ReferenceTable.{references};
 ghost use Rattle.h5_states.specs.Whole.{ReadsToEnd};
+ghost use Rattle.h5_states.specs.WithoutErrors.{HasNoInputErrors, ReadsWithoutErrors};
+ghost use Rattle.h5_states.specs.declared.position.Spot.{Spot};
 ghost use Rattle.h5_standard.specs.Options.{first_place};
 ghost use Rattle.h5_plain.specs.Plain.{Flow, IsPlain, Nodes, PlainDocument, document_tokens, fragment_tokens, nothing_open};
 ghost use Rattle.h5_round_trip.specs.Answers.{Answers};
@@ -23,6 +25,14 @@ use h5_token::TokenSink;
 pub fn documents_are_read<S: TokenSink>()
     ensures { (d : PlainDocument) (m : S.Meaning) → IsReadableDocument d → Answers S.reply_to S.after m (document_tokens d)
         → (n : S.Meaning) × ReadsToEnd references S.reply_to S.after S.is_foreign S.ended (first_place default_options) m (written_of d) (document_tokens d) n }
+{}
+
+/// That text is read without a parse error, and there is none at its end, if it holds no character that is an error of the input
+/// stream itself.
+pub fn documents_are_read_without_errors<S: TokenSink>()
+    ensures { (d : PlainDocument) (m : S.Meaning) (s : Spot) → s.is_new ≡ true → IsReadableDocument d → Answers S.reply_to S.after m (document_tokens d)
+        → HasNoInputErrors (written_of d)
+        → ReadsWithoutErrors references S.reply_to S.after S.is_foreign (first_place default_options) s m (written_of d) }
 {}
 
 /// Both readers read markup alike that is written as a serializer writes it: of its text the plain reader and the standard's
