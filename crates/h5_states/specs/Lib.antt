@@ -25,3 +25,4 @@ pub mod Spots
 pub mod InputErrors
 pub mod Telling
 pub mod ErrorList
+pub mod WithoutErrors
