@@ -237,7 +237,9 @@ impl OpenTag {
     {
         let alloc = *self.value.allocator();
         let name = self.name.take()?;
-        let kept = mem::replace(&mut self.kept, Keeping::new(alloc, 1));
+        let mut kept = mem::replace(&mut self.kept, Keeping::new(alloc, 1));
+        // No room for more attributes stays with the tag.
+        kept.attributes.shrink_to_fit();
         Ok(Tag {
             kind: self.kind,
             self_closing: self.self_closing,
