@@ -23,3 +23,4 @@ pub mod RunLaws
 pub mod TextLaws
 pub mod WordLaws
 pub mod WideLaws
+pub mod CommonLaws

@@ -9,3 +9,4 @@ pub mod Ending
 pub mod Runs
 pub mod Quoted
 pub mod RowErrors
+pub mod Common

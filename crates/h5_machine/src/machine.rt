@@ -3,6 +3,7 @@
 ghost use Rattle.std.specs.Prelude.{◌≡◌, ◌<◌, ◌≤◌, ◌-◌, ◌^◌, true, false, ◌⊎◌, IfOk, OnOk, [], ◌++◌, ℕ, List, IfSome, length, slice_index, string_bytes};
 ghost use Rattle.h5_token.specs.TokenText.{TagIs, tag_text, doctype_text};
 ghost use Rattle.h5_markup.specs.Bare.{bare_tag, IsBareTag};
+ghost use Rattle.h5_machine.specs.Common.{IsCommon};
 ghost use Rattle.h5_states.specs.Construction.{token_of};
 ghost use Rattle.h5_states.specs.Lines.{normal};
 ghost use Rattle.h5_states.specs.Machine.{turn};
@@ -31,7 +32,7 @@ use super::tags::tag_turn;
 use super::texts::text_turn;
 use super::transition::{CurrentToken, Transition};
 use super::wide::takes_wide;
-use h5_markup::{SharedNames, find_bare, make_bare};
+use h5_markup::{Match, SharedNames, find_bare, make_bare, reference};
 use h5_names::LocalName;
 use h5_reading::LastName;
 use h5_references::further_len;
@@ -504,6 +505,34 @@ impl Machine {
             return None;
         }
         find_bare(rest)
+    }
+
+    /// The text that the character reference at the front stands for, and what follows it, where the state is that of data,
+    /// the reference one of the five commonest, and something follows it. Such a reference is passed at once.
+    #[inline(always)]
+    pub fn find_common<'a>(&self, rest: &'a str) -> Option<(&'static str, &'a str)>
+        ensures { IfSome result (λ found. (self.now.at ≡ MachineState.Text (TextState.Text TextKind.Data)) × IsCommon rest.now found.0.now found.1.now) }
+    {
+        match reference(rest) {
+            Match::Found(text, behind) => {
+                if behind.is_empty() || !self.is_in_data() {
+                    return None;
+                }
+                Some((text, behind))
+            }
+            _ => None,
+        }
+    }
+
+    /// Passes such a reference. What it stands for is added to a text.
+    pub fn pass_common(&mut self, text: &str, out: &mut String) -> Result<(), AllocError>
+        ensures out { OnOk result (string_bytes out.new ≡ string_bytes out.old ++ text.now) }
+        ensures others { OnOk result (self.new ≡ record self.old { after_return = false; began = self.old.line }) }
+    {
+        out.push_str(text)?;
+        self.after_return = false;
+        self.began = self.line();
+        Ok(())
     }
 
     /// Passes such a tag, which is given.

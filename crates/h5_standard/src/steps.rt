@@ -137,7 +137,7 @@ fn byte_step<'a, S: TokenSink>(
 }
 
 // One byte is taken, of which no token comes, and no question. What it emits is added to a text.
-fn quiet_step<'a>(
+fn quiet_byte<'a>(
     machine: &mut Machine,
     out: &mut String,
     b: u8,
@@ -155,6 +155,26 @@ fn quiet_step<'a>(
         Step::Emitted(_, _) => unreachable!(),
         Step::Asks => unreachable!(),
     }
+}
+
+// The same, or one of the commonest character references at once.
+fn quiet_step<'a>(
+    machine: &mut Machine,
+    out: &mut String,
+    b: u8,
+    rest: &'a str,
+) -> Result<&'a str, AllocError>
+    requires front { rest.now ≡ b ∷ drop 1 rest.now }
+    requires narrow { takes_wide machine.old.at ≡ true → b < 128 }
+    requires quiet { is_dropped (place_of machine.old) b ≡ false → IsQuiet (outcome references (place_of machine.old) b) }
+    ensures passes { IfOk result (λ after. PassesRun machine.old rest.now (string_bytes out.old) (string_bytes out.new) machine.new after.now) }
+    ensures less { IfOk result (λ after. weight (place_of machine.new) after.now < weight (place_of machine.old) rest.now) }
+{
+    if let Some((text, behind)) = machine.find_common(rest) {
+        machine.pass_common(text, out)?;
+        return Ok(behind);
+    }
+    quiet_byte(machine, out, b, rest)
 }
 
 // Reads on, up to where a token may be handed on or a question asked, or to the end of a piece.
