@@ -10,3 +10,4 @@ pub mod Runs
 pub mod Quoted
 pub mod RowErrors
 pub mod Common
+pub mod Opening

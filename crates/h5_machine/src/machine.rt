@@ -1,10 +1,12 @@
 //! The machine: a state, what is under construction in it, and lines.
 
-ghost use Rattle.std.specs.Prelude.{◌≡◌, ◌<◌, ◌≤◌, ◌-◌, ◌^◌, true, false, ◌⊎◌, IfOk, OnOk, [], ◌++◌, ℕ, List, IfSome, length, slice_index, string_bytes};
+ghost use Rattle.std.specs.Prelude.{◌≡◌, ◌<◌, ◌≤◌, ◌-◌, ◌^◌, true, false, ◌⊎◌, IfOk, OnOk, [], ◌++◌, ℕ, List, IfSome, length, map, slice_index, string_bytes};
 ghost use Rattle.h5_token.specs.TokenText.{TagIs, tag_text, doctype_text};
 ghost use Rattle.h5_markup.specs.Bare.{bare_tag, IsBareTag};
 ghost use Rattle.h5_machine.specs.Common.{IsCommon};
-ghost use Rattle.h5_states.specs.Construction.{token_of};
+ghost use Rattle.h5_machine.specs.Opening.{IsOpening};
+ghost use Rattle.std.specs.Char.{is_ascii_alphabetic, to_ascii_lowercase};
+ghost use Rattle.h5_states.specs.Construction.{named_further, new_tag, token_of};
 ghost use Rattle.h5_states.specs.Lines.{normal};
 ghost use Rattle.h5_states.specs.Machine.{turn};
 ghost use Rattle.h5_states.specs.ReferenceTable.{references};
@@ -25,7 +27,8 @@ use super::machine_state::{
 use super::quoted::find_quoted;
 use super::references::{OpenReference, reference_turn};
 use super::runs::{
-    add_doctype_run, add_reference_run, add_tag_run, add_text_run, at_behind, count_run, run_of,
+    Run, add_doctype_run, add_reference_run, add_tag_run, add_text_run, at_behind, count_run,
+    run_of,
 };
 use super::tag::OpenTag;
 use super::tags::tag_turn;
@@ -154,6 +157,16 @@ pub fn normal(b: u8) -> u8
     ensures { result ≡ normal b }
 {
     if b == b'\r' { b'\n' } else { b }
+}
+
+// Whether a start tag begins at the front.
+fn is_opening(rest: &str) -> bool
+    ensures { result ≡ true → (0 < length rest.now) × (slice_index rest.now 0 ≡ 60) × (is_ascii_alphabetic (slice_index rest.now 1) ≡ true) }
+{
+    match rest.as_bytes() {
+        [b'<', b, ..] => b.is_ascii_alphabetic(),
+        _ => false,
+    }
 }
 
 impl Machine {
@@ -532,6 +545,41 @@ impl Machine {
         out.push_str(text)?;
         self.after_return = false;
         self.began = self.line();
+        Ok(())
+    }
+
+    /// The name of the start tag at the front, and what follows it, where the state is that of data. Such a name is passed at
+    /// once, with the `<` before it.
+    pub fn find_opening<'a>(&self, rest: &'a str) -> Option<(&'a str, &'a str)>
+        ensures { IfSome result (λ found. (self.now.at ≡ MachineState.Text (TextState.Text TextKind.Data)) × IsOpening rest.now found.0.now found.1.now) }
+    {
+        if !self.is_in_data() || !is_opening(rest) {
+            return None;
+        }
+        let inside = rest.split_at(1).1;
+        let (n, _) = count_run(Run::Name, inside);
+        if n == 0 {
+            return None;
+        }
+        Some(inside.split_at(n))
+    }
+
+    /// Passes the `<` and this name.
+    pub fn pass_opening(&mut self, name: &str) -> Result<(), AllocError>
+        requires { are_in Run.Name name.now ≡ true }
+        ensures others { OnOk result (self.new ≡ record self.old {
+          at = MachineState.Tag TagState.TagName;
+          parts = record self.old.parts { tag = named_further (map to_ascii_lowercase name.now) (new_tag TagKind.StartTag []) };
+          after_return = false;
+        }) }
+        ensures fits { self.old.line ≤ 2 ^ 64 - 1 }
+    {
+        // That the line fits holds for the contract.
+        let _line = self.line();
+        self.tag.begin(TagKind::StartTag);
+        self.tag.push_name_run(&mut self.names, name)?;
+        self.after_return = false;
+        self.at = MachineState::Tag(TagState::TagName);
         Ok(())
     }
 

@@ -1,6 +1,6 @@
 -- The rows over a tag that is nothing but its name hand that tag on.
 use Rattle.std.specs.Borrow.{Bor}
-use Rattle.std.proofs.Common.{◌≡◌, ℕ, zero, suc, ◌-◌, ◌^◌, ◌<◌, ◌≤◌, Bool, true, false, ◌==◌, ◌&&◌, List, [], ◌∷◌, ◌++◌, length, map, take, drop, slice_index, refl, sym, ap, ◌∙◌, subst, arith, length-drop, if◌then◌else◌, Result, Ok, Err, Option, Some, None}
+use Rattle.std.proofs.Common.{◌≡◌, ℕ, zero, suc, ◌-◌, ◌^◌, ◌<◌, ◌≤◌, Bool, true, false, ◌==◌, List, [], ◌∷◌, ◌++◌, length, map, take, drop, slice_index, refl, sym, ap, ◌∙◌, subst, arith, length-drop, if◌then◌else◌, Result, Ok, Err, Option, Some, None}
 use Rattle.std.proofs.lemmas.Bool.Decides.{nat_tests}
 use Rattle.std.proofs.lemmas.List.{length-take-le}
 use Rattle.std.specs.Char.{is_ascii_alphabetic, to_ascii_lowercase}
@@ -13,28 +13,24 @@ use Rattle.h5_markup.specs.Bare.{bare_tag, IsBare, IsBareTag}
 use Rattle.h5_markup.specs.Cuts.{is_in}
 use Rattle.h5_markup.specs.declared.cut.Class.TheVariants.{NameEnd}
 use Rattle.h5_reading.specs.declared.stop.Stop.{Stop}
-use Rattle.h5_reading.specs.Lines.{newlines}
-use Rattle.h5_reading.proofs.LineLaws.{line_none}
 use Rattle.h5_states.specs.declared.kinds.TextKind.TheVariants.{Data}
 use Rattle.h5_states.specs.ReferenceTable.{references}
-use Rattle.h5_states.specs.Construction.{new_tag, token_of, nameless}
+use Rattle.h5_states.specs.Construction.{new_tag, token_of}
 use Rattle.h5_states.specs.Machine.{turn}
 use Rattle.h5_states.specs.Reading.{ReaderPlace, Passes, goes, again, outcome, behind}
 use Rattle.h5_states.specs.States.{Text, TagOpen, EndTagOpen, TagName}
 use Rattle.h5_states.specs.Signs.{is_name_end}
-use Rattle.h5_states.specs.Tags.{tag_open_state, end_tag_open_state}
+use Rattle.h5_states.specs.Tags.{end_tag_open_state}
 use Rattle.h5_states.specs.Turn.{Reconsumed}
 use Rattle.h5_machine.specs.MachineText.{MachineText, place_of}
-use Rattle.h5_machine.specs.Parts.{Parts}
 use Rattle.h5_machine.specs.Runs.{are_in}
 use Rattle.h5_machine.specs.declared.machine_state.MachineState.TheVariants as at
 use Rattle.h5_machine.specs.declared.machine_state.TextState.TheVariants as text_state
-use Rattle.h5_machine.specs.declared.machine_state.TagState.TheVariants as g
 use Rattle.h5_machine.specs.declared.runs.Run.TheVariants as run
 use Rattle.h5_machine.proofs.NameLaws.{name_is_lowered}
-use Rattle.h5_machine.proofs.PassLaws.{behind_run, run_passed}
 use Rattle.h5_standard.specs.Steps.{Holds, HandsOn, Leads, Fails, Makes, IsLess, progress_of}
 use Rattle.h5_standard.proofs.HoldLaws.{holds_more, no_text_is_handed_on, token_is_handed_on, leads}
+use Rattle.h5_standard.proofs.OpeningLaws.{in_tag, never, outcome_at, passes_name, passes_opening}
 use Rattle.h5_standard.proofs.TakeLaws.{turns}
 use Rattle.h5_standard.proofs.WeightLaws.{shorter_is_less}
 
@@ -60,9 +56,6 @@ no_nul x h = grind (arith, nat_tests)
 no_return : (x : ℕ) → 13 < x → (x == 13) ≡ false
 no_return x h = grind (arith, nat_tests)
 
-no_feed : (x : ℕ) → 13 < x → (x == 10) ≡ false
-no_feed x h = grind (arith, nat_tests)
-
 not_ended : (x : ℕ) → is_in NameEnd x ≡ false → is_name_end x ≡ false
 not_ended x h = grind (arith, nat_tests)
 
@@ -70,48 +63,8 @@ in_name : (xs : List ℕ) → AreNameBytes xs → are_in run.Name xs ≡ true
 in_name [] h = refl
 in_name (x ∷ xs) h = rw (not_ended x h.0.passed, no_nul x h.0.high, no_return x h.0.high, in_name xs h.1) refl
 
-in_line : (xs : List ℕ) → AreNameBytes xs → newlines false xs ≡ 0
-in_line [] h = refl
-in_line (x ∷ xs) h = rw (no_return x h.0.high, no_feed x h.0.high) (in_line xs h.1)
-
--- in a tag of this name, which has nothing else
-abbrev pub in_tag : ReaderPlace → TagKind → List ℕ → ReaderPlace
-in_tag p kind name = record p { state = TagName (new_tag kind (map to_ascii_lowercase name)); after_return = false }
-
-never : (b : Bool) → (b && false) ≡ false
-never true = refl
-never false = refl
-
-outcome_at : (p : ReaderPlace) (x : ℕ) → p.state ≡ Text Data → outcome references p x ≡ outcome references (record p { state = Text Data }) x
-outcome_at p x e = ap (λ s. outcome references (record p { state = s }) x) e
-
--- the name is passed
-passes_name : (p : ReaderPlace) (kind : TagKind) (name rest : List ℕ) → 0 < length name → AreNameBytes name → p.line ≤ 2 ^ 64 - 1
-    → Passes references (record p { state = TagName (new_tag kind []); after_return = false }) (name ++ 62 ∷ rest) [] (in_tag p kind name) (62 ∷ rest)
-passes_name p kind name rest some h fits =
-    let q : ReaderPlace = record p { state = TagName (new_tag kind []); after_return = false } in
-    let parts : Parts = record { tag = new_tag kind []; comment = []; doctype = nameless; buffer = []; seen = []; code = 0 } in
-    let there : behind_run q (at.Tag g.TagName) parts name ≡ in_tag p kind name = λ i. record {
-      state = TagName (new_tag kind (map to_ascii_lowercase name));
-      last = p.last;
-      after_return = false;
-      line = sym (line_none p.line (newlines false name) fits (in_line name h)) i;
-      began = p.began;
-    } in
-    subst (λ r. Passes references q (name ++ 62 ∷ rest) [] r (62 ∷ rest)) there
-    (run_passed references q (at.Tag g.TagName) parts name (62 ∷ rest) (name ++ 62 ∷ rest) refl some refl fits refl (in_name name h))
-
-letter_not : (x n : ℕ) → n < 65 → is_ascii_alphabetic x ≡ true → (x == n) ≡ false
-letter_not x n lt h = grind (arith, nat_tests)
-
-start_row : (x : ℕ) → is_ascii_alphabetic x ≡ true → (tag_open_state x).outcome ≡ Reconsumed [] (TagName (new_tag StartTag []))
-start_row x h = rw (letter_not x 33 (omega arith) h, letter_not x 47 (omega arith) h, h) refl
-
 end_row : (x : ℕ) → is_ascii_alphabetic x ≡ true → (end_tag_open_state x).outcome ≡ Reconsumed [] (TagName (new_tag EndTag []))
 end_row x h = rw h refl
-
-opens_start : (p : ReaderPlace) (x : ℕ) → 13 < x → is_ascii_alphabetic x ≡ true → outcome references (record p { state = TagOpen; after_return = false }) x ≡ Reconsumed [] (TagName (new_tag StartTag []))
-opens_start p x high h = ap (λ (c : Bool). (turn references p.last TagOpen (if c then 10 else x)).outcome) (no_return x high) ∙ start_row x h
 
 opens_end : (p : ReaderPlace) (x : ℕ) → 13 < x → is_ascii_alphabetic x ≡ true → outcome references (record p { state = EndTagOpen; after_return = false }) x ≡ Reconsumed [] (TagName (new_tag EndTag []))
 opens_end p x high h = ap (λ (c : Bool). (turn references p.last EndTagOpen (if c then 10 else x)).outcome) (no_return x high) ∙ end_row x h
@@ -119,10 +72,7 @@ opens_end p x high h = ap (λ (c : Bool). (turn references p.last EndTagOpen (if
 -- the whole tag but its end is passed
 passes_start : (p : ReaderPlace) (name rest : List ℕ) → p.state ≡ Text Data → p.line ≤ 2 ^ 64 - 1 → 0 < length name → AreNameBytes name → is_ascii_alphabetic (slice_index name 0) ≡ true
     → Passes references p (60 ∷ (name ++ 62 ∷ rest)) [] (in_tag p StartTag name) (62 ∷ rest)
-passes_start p [] rest e fits some h letter = absurd (omega arith)
-passes_start p (x ∷ name) rest e fits some h letter =
-    goes [] TagOpen (never p.after_return) (outcome_at p 60 e)
-    (again [] (TagName (new_tag StartTag [])) refl (opens_start p x h.0.high letter) (passes_name p StartTag (x ∷ name) rest some h fits))
+passes_start p name rest e fits some h letter = passes_opening p name (62 ∷ rest) e fits some (in_name name h) letter
 
 passes_end : (p : ReaderPlace) (name rest : List ℕ) → p.state ≡ Text Data → p.line ≤ 2 ^ 64 - 1 → 0 < length name → AreNameBytes name → is_ascii_alphabetic (slice_index name 0) ≡ true
     → Passes references p (60 ∷ (47 ∷ (name ++ 62 ∷ rest))) [] (in_tag p EndTag name) (62 ∷ rest)
@@ -130,7 +80,7 @@ passes_end p [] rest e fits some h letter = absurd (omega arith)
 passes_end p (x ∷ name) rest e fits some h letter =
     goes [] TagOpen (never p.after_return) (outcome_at p 60 e)
     (goes [] EndTagOpen refl refl
-    (again [] (TagName (new_tag EndTag [])) refl (opens_end p x h.0.high letter) (passes_name p EndTag (x ∷ name) rest some h fits)))
+    (again [] (TagName (new_tag EndTag [])) refl (opens_end p x h.0.high letter) (passes_name p EndTag (x ∷ name) (62 ∷ rest) some (in_name (x ∷ name) h) fits)))
 
 -- where the parts of such a tag stand
 split_at : (xs : List ℕ) (n x : ℕ) → n < length xs → slice_index xs n ≡ x → xs ≡ take n xs ++ x ∷ drop 1 (drop n xs)

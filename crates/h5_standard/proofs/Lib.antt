@@ -2,6 +2,7 @@ pub mod WeightLaws
 pub mod HoldLaws
 pub mod TakeLaws
 pub mod BareLaws
+pub mod OpeningLaws
 pub mod LeftLaws
 pub mod OutcomeLaws
 pub mod WideRows

@@ -248,6 +248,10 @@ fn step<'a, S: TokenSink>(
     if let Some((kind, name, after)) = machine.find_bare(rest) {
         return bare_step(sink, machine, emitted, kind, name, rest, after);
     }
+    if let Some((name, after)) = machine.find_opening(rest) {
+        machine.pass_opening(name)?;
+        return Ok(Progress::GoesOn(after));
+    }
     byte_step(sink, machine, emitted, *b, rest)
 }
 

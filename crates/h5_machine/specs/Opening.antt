@@ -1,0 +1,12 @@
+-- Where a start tag begins.
+use Rattle.std.specs.Prelude.{◌≡◌, ◌<◌, ◌++◌, ◌∷◌, ℕ, List, length, slice_index, true}
+use Rattle.std.specs.Char.{is_ascii_alphabetic}
+use Rattle.h5_machine.specs.Runs.{are_in}
+use Rattle.h5_machine.specs.declared.runs.Run.TheVariants as run
+
+-- the `<` and a name stand at the front, the name a letter at first, and this follows them
+pub record IsOpening (xs name behind : List ℕ) : Type 0 where
+  pub split : xs ≡ 60 ∷ (name ++ behind)
+  pub some : 0 < length name
+  pub starts : is_ascii_alphabetic (slice_index name 0) ≡ true
+  pub named : are_in run.Name name ≡ true
