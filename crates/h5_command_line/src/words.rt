@@ -23,6 +23,8 @@ pub enum What {
     Outline,
     /// What it says of itself.
     Meta,
+    /// Its parse errors.
+    Errors,
 }
 
 impl What {
@@ -145,6 +147,21 @@ fn links_part<'a>(alloc: Global) -> Result<Command<'a>, AllocError> {
     with_input(alloc, part)
 }
 
+// The part of the program that prints parse errors.
+fn errors_part<'a>(alloc: Global) -> Result<Command<'a>, AllocError> {
+    let limit = Arg::new(alloc, "limit")
+        .long("limit")
+        .value_name("N")
+        .help("Prints at most so many errors of each page");
+    let part = Command::new(alloc, "errors")
+        .about(
+            "Prints the parse errors, a line for each: the file, the line, the column, and its name",
+        )
+        .arg(limit)?
+        .arg(json_flag(alloc))?;
+    with_input(alloc, part)
+}
+
 // The part of the program that cleans.
 fn clean_part<'a>(alloc: Global) -> Result<Command<'a>, AllocError> {
     let policy = Arg::new(alloc, "policy")
@@ -210,6 +227,7 @@ fn with_parts<'a>(alloc: Global, command: Command<'a>) -> Result<Command<'a>, Al
             "Prints what a page says of itself, a line for each: a name, a tab, and what it is",
         )?)?
         .subcommand(listing_part(alloc, "tokens", "Prints the tokens, a line for each")?)?
+        .subcommand(errors_part(alloc)?)?
         .subcommand(clean_part(alloc)?)?
         .subcommand(select_part(alloc)?)
 }
@@ -249,6 +267,7 @@ pub fn what_named(name: &str) -> What {
         "select" => What::Select,
         "outline" => What::Outline,
         "meta" => What::Meta,
+        "errors" => What::Errors,
         _ => What::Tokens,
     }
 }

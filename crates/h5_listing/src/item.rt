@@ -2,6 +2,7 @@
 use h5_print::write_escapes;
 use serde_json::Value;
 use std::alloc::{AllocError, Global};
+use std::fmt::Write;
 
 /// How items are printed.
 #[derive(Clone, Copy)]
@@ -14,11 +15,36 @@ pub enum Form {
     Array,
 }
 
+// A text, or a number.
+#[derive(Drop)]
+enum Content {
+    Text(String),
+    Number(u64),
+}
+
+impl Content {
+    // Prints it with escapes.
+    fn print(&self, out: &mut String) -> Result<(), AllocError> {
+        match self {
+            Content::Text(text) => write_escapes(out, text.as_str()),
+            Content::Number(number) => write!(out, "{number}"),
+        }
+    }
+
+    // Prints it as JSON has it.
+    fn print_json(&self, alloc: Global, out: &mut String) -> Result<(), AllocError> {
+        match self {
+            Content::Text(text) => write_json(alloc, out, text.as_str()),
+            Content::Number(number) => write!(out, "{number}"),
+        }
+    }
+}
+
 /// A value, and what it is.
 #[derive(Drop)]
 struct Field {
     name: &'static str,
-    value: String,
+    value: Content,
 }
 
 /// One thing that a page lists.
@@ -39,7 +65,14 @@ impl Item {
 
     /// Adds a value, which has this name in JSON. An `AllocError` where memory is refused.
     pub fn add(&mut self, name: &'static str, value: &str) -> Result<(), AllocError> {
-        let value = String::from_str(self.alloc, value)?;
+        let value = Content::Text(String::from_str(self.alloc, value)?);
+        self.fields.push(Field { name, value })?;
+        Ok(())
+    }
+
+    /// Adds a number, which has this name in JSON. An `AllocError` where memory is refused.
+    pub fn add_number(&mut self, name: &'static str, number: u64) -> Result<(), AllocError> {
+        let value = Content::Number(number);
         self.fields.push(Field { name, value })?;
         Ok(())
     }
@@ -51,7 +84,7 @@ impl Item {
             if !is_first {
                 out.push('\t')?;
             }
-            write_escapes(out, field.value.as_str())?;
+            field.value.print(out)?;
             is_first = false;
         }
         Ok(())
@@ -67,7 +100,7 @@ impl Item {
             }
             write_json(self.alloc, out, field.name)?;
             out.push(':')?;
-            write_json(self.alloc, out, field.value.as_str())?;
+            field.value.print_json(self.alloc, out)?;
             is_first = false;
         }
         out.push('}')

@@ -17,5 +17,6 @@ mod telling_steps;
 mod tokenizer;
 
 pub use h5_reading::{BufferQueue, TokenizerOpts, TokenizerResult};
+pub use h5_states::{ErrorSink, Errors, ParseError, Position, ToldError};
 pub use telling::TellingTokenizer;
 pub use tokenizer::Tokenizer;

@@ -38,6 +38,10 @@ pub struct Asked<'a> {
     pub is_all: bool,
     /// From where links lead, if nothing in the page says it.
     pub base: Option<&'a Url>,
+    /// How many errors are printed, at most.
+    pub limit: usize,
+    /// The name of its file, as the words have it.
+    pub file: &'a str,
     /// Whether each line begins with the name of its file.
     pub has_name: bool,
     /// By which name records are answered, if the pages come in records.
@@ -179,7 +183,9 @@ pub fn put_answer<W: Write>(
         }
         What::Clean => cleaned(alloc, &top, asked.policy)?,
         What::Tree if matches!(asked.form, Form::Json) => return put_nodes(alloc, &top, out),
-        What::Tree | What::Tokens | What::Select => return put_tree(alloc, arena, out),
+        What::Tree | What::Tokens | What::Select | What::Errors => {
+            return put_tree(alloc, arena, out);
+        }
     };
     out.write_all(text.as_slice()).map_err(Fault::Write)
 }

@@ -1,15 +1,16 @@
 //! The program `hengaruto`: what a page is made of, for people.
 //!
-//! `h5_command_line` has the command line, `page` reads pages, whose bytes `decoding` makes texts, `tokens` writes down tokens on their way, `answer` has what is printed of a
-//! page, `parts` hands on HTML in parts, `policy_file` reads the policies by which pages are cleaned, `select` writes what a selector
-//! matches, `records` answers pages that come in lines of JSON, `dress` writes lines as a terminal shows them, and `progress` tells how
-//! far a long input is. It stands on the library `html_tree_builder`, whose standard reader reads all of HTML. Begin with
-//! `src/run.rt`.
+//! `h5_command_line` has the command line, `page` reads pages, whose bytes `decoding` makes texts, `tokens` writes down tokens on
+//! their way, `answer` has what is printed of a page, `parts` hands on HTML in parts, `policy_file` reads the policies by which pages
+//! are cleaned, `select` writes what a selector matches, `errors` has the parse errors of a page with their places, `records` answers
+//! pages that come in lines of JSON, `dress` writes lines as a terminal shows them, and `progress` tells how far a long input is. It
+//! stands on the library `html_tree_builder`, whose standard reader reads all of HTML. Begin with `src/run.rt`.
 #![tactic(auto)]
 
 mod answer;
 mod decoding;
 mod dress;
+mod errors;
 mod fault;
 mod page;
 mod parts;

@@ -1,15 +1,17 @@
 //! Pages that are read.
 use super::decoding::{HowRead, PageText};
+use super::errors::{Lined, PageErrors};
 use super::fault::Fault;
 use super::progress::Progress;
 use super::tokens::Written;
 use html_tree_builder::encodings::EncodingOpts;
 use html_tree_builder::interface::{TreeSink, create_element};
 use html_tree_builder::standard::{
-    BufferQueue, Parser, Tokenizer, TokenizerOpts, TokenizerResult, parse_document, parse_fragment,
+    BufferQueue, ErrorSink, Errors, Parser, TellingTokenizer, Tokenizer, TokenizerOpts,
+    TokenizerResult, parse_document, parse_fragment,
 };
-use html_tree_builder::token::BuildFault;
 use html_tree_builder::token::states::State;
+use html_tree_builder::token::{BuildFault, TokenSink};
 use html_tree_builder::tree_builder::{TreeBuilder, TreeBuilderOpts};
 use html_tree_builder::{Arena, LocalName, Namespace, NodeId, ParseOpts, QualName, namespaces};
 use std::alloc::{AllocError, Global};
@@ -127,12 +129,38 @@ pub fn tree_of<R: Read>(
     Ok((parser.finish()?, how))
 }
 
-type Builder = TreeBuilder<NodeId, Arena>;
+/// The builder of the tree of a page.
+pub type Builder = TreeBuilder<NodeId, Arena>;
 
-type Reader = Tokenizer<Written<Builder>>;
+// A reader that takes a page in pieces.
+trait Fed {
+    /// Reads what waits. Whether all was read: an answer may stop the reader before.
+    fn feed_once(&mut self, queue: &mut BufferQueue) -> Result<bool, BuildFault>;
 
-fn reader_over(alloc: Global, builder: Builder, opts: TokenizerOpts) -> Reader {
-    Tokenizer::new(alloc, Written::new(alloc, builder), opts)
+    /// Reads the end.
+    fn finish(&mut self) -> Result<(), BuildFault>;
+}
+
+impl<Sink: TokenSink> Fed for Tokenizer<Sink> {
+    fn feed_once(&mut self, queue: &mut BufferQueue) -> Result<bool, BuildFault> {
+        let result = self.feed(queue)?;
+        Ok(matches!(result, TokenizerResult::Done))
+    }
+
+    fn finish(&mut self) -> Result<(), BuildFault> {
+        self.end()
+    }
+}
+
+impl<Sink: TokenSink, E: ErrorSink> Fed for TellingTokenizer<Sink, E> {
+    fn feed_once(&mut self, queue: &mut BufferQueue) -> Result<bool, BuildFault> {
+        let result = self.feed(queue)?;
+        Ok(matches!(result, TokenizerResult::Done))
+    }
+
+    fn finish(&mut self) -> Result<(), BuildFault> {
+        self.end()
+    }
 }
 
 // A builder of a fragment in a new element of this name, and the state in which the fragment is read.
@@ -149,28 +177,31 @@ fn builder_in<Sink: TreeSink + Drop>(
     Ok((builder, state))
 }
 
-// A reader over a builder of a document, or of a fragment in this context.
-fn reader_in(alloc: Global, context: Option<&str>) -> Result<Reader, Fault> {
-    let arena = Arena::without_errors(alloc)?;
+// A builder of a document, or of a fragment in this context, and how what it takes is read.
+fn builder_for(
+    alloc: Global,
+    arena: Arena,
+    context: Option<&str>,
+) -> Result<(Builder, TokenizerOpts), Fault> {
     let opts = ParseOpts::default();
     match context {
         None => {
             let builder = TreeBuilder::new(alloc, arena, opts.tree_builder);
-            Ok(reader_over(alloc, builder, opts.tokenizer))
+            Ok((builder, opts.tokenizer))
         }
         Some(context) => {
             let name = context_name(alloc, context)?;
             let (builder, state) = builder_in(alloc, arena, name, opts.tree_builder)?;
-            Ok(reader_over(alloc, builder, opts.tokenizer.beginning_in(state)))
+            Ok((builder, opts.tokenizer.beginning_in(state)))
         }
     }
 }
 
 // Feeds a piece, and again where an answer stopped the reader.
-fn feed(reader: &mut Reader, queue: &mut BufferQueue, piece: String) -> Result<(), Fault> {
+fn feed<F: Fed>(reader: &mut F, queue: &mut BufferQueue, piece: String) -> Result<(), Fault> {
     queue.push_back(piece)?;
     for _ in 0..u64::MAX {
-        if let TokenizerResult::Done = reader.feed(queue)? {
+        if reader.feed_once(queue)? {
             break;
         }
     }
@@ -178,9 +209,9 @@ fn feed(reader: &mut Reader, queue: &mut BufferQueue, piece: String) -> Result<(
 }
 
 // Feeds all that can still be read.
-fn feed_rest<R: Read>(
+fn feed_rest<F: Fed, R: Read>(
     rt: &HostRuntime,
-    reader: &mut Reader,
+    reader: &mut F,
     queue: &mut BufferQueue,
     page: &mut PageText,
     input: &mut R,
@@ -200,10 +231,10 @@ fn feed_rest<R: Read>(
 }
 
 // Feeds all that can be read, and tells how it was read.
-fn feed_all<R: Read>(
+fn feed_all<F: Fed, R: Read>(
     rt: &HostRuntime,
     opts: EncodingOpts,
-    reader: &mut Reader,
+    reader: &mut F,
     input: &mut R,
 ) -> Result<HowRead, Fault> {
     let alloc = rt.alloc();
@@ -214,7 +245,7 @@ fn feed_all<R: Read>(
     feed_rest(rt, reader, &mut queue, &mut page, input)?;
     let (rest, how) = page.finish();
     feed(reader, &mut queue, String::from_str(alloc, rest)?)?;
-    reader.end()?;
+    reader.finish()?;
     Ok(how)
 }
 
@@ -225,7 +256,34 @@ pub fn tokens_of<R: Read>(
     opts: EncodingOpts,
     input: &mut R,
 ) -> Result<(Vec<u8>, HowRead), Fault> {
-    let mut reader = reader_in(rt.alloc(), context)?;
+    let alloc = rt.alloc();
+    let (builder, how_read) = builder_for(alloc, Arena::without_errors(alloc)?, context)?;
+    let mut reader = Tokenizer::new(alloc, Written::new(alloc, builder), how_read);
     let how = feed_all(rt, opts, &mut reader, input)?;
     Ok((reader.sink.text.into_bytes(), how))
+}
+
+/// The parse errors of a page, of which so many of tokenization are kept, and how it was read.
+pub fn errors_of<R: Read>(
+    rt: &HostRuntime,
+    context: Option<&str>,
+    opts: EncodingOpts,
+    limit: usize,
+    input: &mut R,
+) -> Result<(PageErrors, HowRead), Fault> {
+    let alloc = rt.alloc();
+    let (builder, how_read) = builder_for(alloc, Arena::new(alloc)?, context)?;
+    let told = Errors::new(alloc, limit);
+    let mut reader = TellingTokenizer::new(alloc, Lined::new(alloc, builder), told, how_read);
+    let how = feed_all(rt, opts, &mut reader, input)?;
+    let lined = reader.sink;
+    let errors = PageErrors {
+        told: reader.errors,
+        tree: lined.sink.sink,
+        lines: lined.lines,
+    };
+    if errors.is_cut(limit) {
+        return Err(Fault::Memory);
+    }
+    Ok((errors, how))
 }

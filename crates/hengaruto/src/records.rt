@@ -22,7 +22,7 @@ fn said_of(rt: &HostRuntime, fault: &Fault) -> Result<String, Fault> {
 // What is printed of the page of an input.
 fn printed<R: Read>(rt: &HostRuntime, asked: &Asked<'_>, input: &mut R) -> Result<String, Fault> {
     let mut bytes = Vec::new(rt.alloc());
-    let _how = put_input(rt, asked, input, &mut bytes)?;
+    let _answered = put_input(rt, asked, input, &mut bytes)?;
     let text = String::from_utf8_lossy(rt.alloc(), bytes.as_slice())?;
     Ok(text)
 }
@@ -53,7 +53,7 @@ fn printed_of(rt: &HostRuntime, asked: &Asked<'_>, page: Page<'_>) -> Result<Str
 fn is_json(what: What) -> bool {
     matches!(
         what,
-        What::Links | What::Outline | What::Meta | What::Select
+        What::Links | What::Outline | What::Meta | What::Select | What::Errors
     )
 }
 

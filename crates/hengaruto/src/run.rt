@@ -2,8 +2,9 @@
 use super::answer::{Asked, put_answer};
 use super::decoding::HowRead;
 use super::dress::dressed;
+use super::errors::{ErrorCount, put_errors, tell_count};
 use super::fault::Fault;
-use super::page::{is_context, tokens_of, tree_of};
+use super::page::{errors_of, is_context, tokens_of, tree_of};
 use super::policy_file::{policy_in, tell_policy};
 use super::records::show_records;
 use super::select::{Selection, Shown, tell_selector};
@@ -34,18 +35,40 @@ fn put_tokens<W: Write>(
     out.write_all(text.as_slice()).map_err(Fault::Write)
 }
 
-/// Writes what is asked of the page of an input, and tells how it was read.
-pub fn put_input<R: Read, W: Write>(
+/// How a page was read, and how many errors were printed of it, where they are asked for.
+#[derive(Clone, Copy)]
+pub struct Answered {
+    pub how: HowRead,
+    pub errors: ErrorCount,
+}
+
+// A page that was read so, of which no errors are asked for.
+fn without_errors(how: HowRead) -> Answered {
+    Answered {
+        how,
+        errors: ErrorCount::none(),
+    }
+}
+
+// Writes the errors of the page of an input.
+fn put_errors_of<R: Read, W: Write>(
+    rt: &HostRuntime,
+    asked: &Asked<'_>,
+    input: &mut R,
+    out: &mut W,
+) -> Result<Answered, Fault> {
+    let (page, how) = errors_of(rt, asked.context, asked.encodings, asked.limit, input)?;
+    let errors = put_errors(rt.alloc(), &page, asked.file, asked.limit, asked.form, out)?;
+    Ok(Answered { how, errors })
+}
+
+// Writes what is asked of the tree of the page of an input.
+fn put_tree_of<R: Read, W: Write>(
     rt: &HostRuntime,
     asked: &Asked<'_>,
     input: &mut R,
     out: &mut W,
 ) -> Result<HowRead, Fault> {
-    if let What::Tokens = asked.what {
-        let (text, how) = tokens_of(rt, asked.context, asked.encodings, input)?;
-        put_tokens(rt.alloc(), asked, text, out)?;
-        return Ok(how);
-    }
     let (arena, how) = tree_of(rt, asked.context, asked.encodings, input)?;
     let written = put_answer(rt.alloc(), asked, &arena, how.encoding, out);
     if asked.is_last {
@@ -53,6 +76,27 @@ pub fn put_input<R: Read, W: Write>(
     }
     written?;
     Ok(how)
+}
+
+/// Writes what is asked of the page of an input, and tells how it was read, and how many errors were printed.
+pub fn put_input<R: Read, W: Write>(
+    rt: &HostRuntime,
+    asked: &Asked<'_>,
+    input: &mut R,
+    out: &mut W,
+) -> Result<Answered, Fault> {
+    match asked.what {
+        What::Errors => put_errors_of(rt, asked, input, out),
+        What::Tokens => {
+            let (text, how) = tokens_of(rt, asked.context, asked.encodings, input)?;
+            put_tokens(rt.alloc(), asked, text, out)?;
+            Ok(without_errors(how))
+        }
+        _ => {
+            let how = put_tree_of(rt, asked, input, out)?;
+            Ok(without_errors(how))
+        }
+    }
 }
 
 // Says how many characters stand for bytes that are none, if there are any. Whether it can be said is no matter.
@@ -66,40 +110,41 @@ fn tell_replaced(rt: &HostRuntime, name: &str, how: HowRead) {
     }
 }
 
-// Shows an input, which is a page or has records of pages.
+// Shows an input, which is a page or has records of pages, and answers how many errors were printed.
 fn show_input<R: Read + Drop>(
     rt: &HostRuntime,
     asked: &Asked<'_>,
-    name: &str,
     input: R,
-) -> Result<(), Fault> {
+) -> Result<ErrorCount, Fault> {
     if let Some(word) = asked.record {
-        return show_records(rt, asked, word, input);
+        show_records(rt, asked, word, input)?;
+        return Ok(ErrorCount::none());
     }
     let mut input = input;
     let mut out = rt.stdout();
     let is_terminal = out.is_terminal();
     if !is_terminal && !asked.has_name {
-        let how = put_input(rt, asked, &mut input, &mut out)?;
-        tell_replaced(rt, name, how);
-        return Ok(());
+        let answered = put_input(rt, asked, &mut input, &mut out)?;
+        tell_replaced(rt, asked.file, answered.how);
+        return Ok(answered.errors);
     }
     let mut bytes = Vec::new(rt.alloc());
-    let how = put_input(rt, asked, &mut input, &mut bytes)?;
-    tell_replaced(rt, name, how);
+    let answered = put_input(rt, asked, &mut input, &mut bytes)?;
+    tell_replaced(rt, asked.file, answered.how);
     let text = String::from_utf8_lossy(rt.alloc(), bytes.as_slice())?;
-    let front = asked.has_name.then_some(name);
+    let front = asked.has_name.then_some(asked.file);
     let lines = dressed(rt.alloc(), text.as_str(), front, is_terminal)?;
-    out.write_all(lines.as_bytes()).map_err(Fault::Write)
+    out.write_all(lines.as_bytes()).map_err(Fault::Write)?;
+    Ok(answered.errors)
 }
 
-// Shows a file, or standard input where its name is `-`.
-fn show(rt: &HostRuntime, asked: &Asked<'_>, name: &str) -> Result<(), Fault> {
-    if name == "-" {
-        return show_input(rt, asked, name, rt.stdin());
+// Shows a file, or standard input where its name is `-`, and answers how many errors were printed.
+fn show(rt: &HostRuntime, asked: &Asked<'_>) -> Result<ErrorCount, Fault> {
+    if asked.file == "-" {
+        return show_input(rt, asked, rt.stdin());
     }
-    let file = fs::open(rt, name).map_err(Fault::Read)?;
-    show_input(rt, asked, name, file)
+    let file = fs::open(rt, asked.file).map_err(Fault::Read)?;
+    show_input(rt, asked, file)
 }
 
 // Says what went wrong. Whether it can be said is no matter.
@@ -119,20 +164,35 @@ fn is_closed(fault: &Fault) -> bool {
     }
 }
 
+// Shows a file, and answers the status. None where nobody reads what is written any more.
+fn show_one(rt: &HostRuntime, asked: &Asked<'_>) -> Option<u8> {
+    match show(rt, asked) {
+        Ok(errors) => {
+            tell_count(rt, asked.file, errors);
+            Some(if errors.all > 0 { 1 } else { 0 })
+        }
+        Err(fault) if is_closed(&fault) => None,
+        Err(fault) => {
+            tell(rt, asked.file, &fault);
+            Some(1)
+        }
+    }
+}
+
 // Shows each of these files, and answers the status. A file that can't be read is told of, and the others follow.
 fn show_each(rt: &HostRuntime, asked: &Asked<'_>, files: &[&str]) -> u8 {
     let mut status = 0;
     for (at, file) in files.iter().enumerate() {
         let asked = Asked {
             is_last: asked.record.is_none() && at + 1 == files.len(),
+            file: *file,
             ..*asked
         };
-        if let Err(fault) = show(rt, &asked, file) {
-            if is_closed(&fault) {
-                return status;
-            }
-            tell(rt, file, &fault);
-            status = 1;
+        let Some(shown) = show_one(rt, &asked) else {
+            return status;
+        };
+        if shown > status {
+            status = shown;
         }
     }
     status
@@ -198,7 +258,13 @@ fn form_by(what: What, is_record: bool, matches: &ArgMatches<'_>) -> Form {
     }
     let is_listing = matches!(
         what,
-        What::Links | What::Outline | What::Meta | What::Select | What::Tree | What::Tokens
+        What::Links
+            | What::Outline
+            | What::Meta
+            | What::Select
+            | What::Tree
+            | What::Tokens
+            | What::Errors
     );
     if is_listing && matches.get_flag("json") {
         Form::Json
@@ -263,6 +329,17 @@ fn text_opts(what: What, matches: &ArgMatches<'_>) -> Option<TextOpts> {
     })
 }
 
+// How many errors are printed of each page, at most. None where the limit that is said is no number.
+fn limit_by(what: What, matches: &ArgMatches<'_>) -> Option<usize> {
+    if !matches!(what, What::Errors) {
+        return Some(0);
+    }
+    match matches.get_str("limit") {
+        Some(text) => text.parse::<usize>().ok(),
+        None => Some(usize::MAX),
+    }
+}
+
 // In which encoding pages are read: one that is said, or that a page says, or else UTF-8, in which each fragment is. None where no
 // encoding has the label that is said.
 fn encodings_by(matches: &ArgMatches<'_>, is_fragment: bool) -> Option<EncodingOpts> {
@@ -284,6 +361,10 @@ fn show_word<'a>(rt: &HostRuntime, name: &'a str, is_record: bool, matches: &Arg
         let _told = writeln!(rt.stderr(), "hengaruto: no number of columns");
         return 2;
     };
+    let Some(limit) = limit_by(what, matches) else {
+        let _told = writeln!(rt.stderr(), "hengaruto: no number of errors");
+        return 2;
+    };
     let context = what.context(matches.get_str("fragment"));
     let Some(encodings) = encodings_by(matches, context.is_some()) else {
         let _told = writeln!(rt.stderr(), "hengaruto: no encoding has this label");
@@ -299,7 +380,9 @@ fn show_word<'a>(rt: &HostRuntime, name: &'a str, is_record: bool, matches: &Arg
         form: form_by(what, is_record, matches),
         is_all: matches!(what, What::Links) && matches.get_flag("all"),
         base: None,
-        has_name: !is_record && matches.get_flag("with-name"),
+        limit,
+        file: "-",
+        has_name: !is_record && !matches!(what, What::Errors) && matches.get_flag("with-name"),
         record: is_record.then_some(name),
         is_last: false,
     };
