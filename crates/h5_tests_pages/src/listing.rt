@@ -99,6 +99,21 @@ fn tokens_are_objects(rt: HostRuntime) -> Result<(), Fail> {
 }
 
 #[test]
+fn numbers_are_printed_as_numbers(rt: HostRuntime) -> Result<(), Fail> {
+    let alloc = rt.alloc();
+    let mut item = Item::new(alloc);
+    item.add("name", "eof-in-tag")?;
+    item.add_number("line", 12)?;
+    let mut items = Vec::new(alloc);
+    items.push(item)?;
+    let lines = printed(alloc, items.as_slice(), Form::Lines)?;
+    assert_eq!(rt; lines.as_str(), "eof-in-tag\t12\n");
+    let array = printed(alloc, items.as_slice(), Form::Array)?;
+    assert_eq!(rt; array.as_str(), "[{\"name\":\"eof-in-tag\",\"line\":12}]");
+    Ok(())
+}
+
+#[test]
 fn references_have_numbers(rt: HostRuntime) -> Result<(), Fail> {
     let alloc = rt.alloc();
     let base = Url::parse(alloc, "https://e.example/x/y")?;
