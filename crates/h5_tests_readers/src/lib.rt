@@ -2,11 +2,13 @@
 //! standard reader.
 //!
 //! `recording` runs a reader, whichever it is. `plain` and `standard` have texts and what is handed on of them, `calls` what the
-//! calls answer, and `parser` has trees in arenas. Begin with `src/standard.rt`.
+//! calls answer, `errors` the parse errors that are told, and `parser` has trees in arenas. Begin with `src/standard.rt`.
 #![tactic(auto)]
 
 #[cfg(test)]
 mod calls;
+#[cfg(test)]
+mod errors;
 #[cfg(test)]
 mod parser;
 #[cfg(test)]

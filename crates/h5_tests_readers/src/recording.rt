@@ -89,8 +89,8 @@ fn feed_piece<R: Recording>(
     Ok(())
 }
 
-// Feeds a text at once, or character by character, and then the end.
-fn feed<R: Recording>(
+/// Feeds a text at once, or character by character, and then the end.
+pub fn feed<R: Recording>(
     alloc: Global,
     reader: &mut R,
     text: &str,
