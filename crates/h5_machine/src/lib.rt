@@ -3,7 +3,8 @@
 //! `machine_state` has the states, and `transition` what a row does. `texts`, `tags`, `comments`, `doctypes` and `references` have the rows,
 //! as the pages of `h5_states` of the same names have them: a row takes one byte. `tag` has a tag under construction,
 //! `open_name` a name so far, and `codes` what numbers stand for. `machine` has a state with what is under construction in it, and
-//! `ending` what it leaves at the end. `runs` has the bytes that a state only adds, which are taken at once, and `quoted` the
+//! `ending` what it leaves at the end. `text_errors`, `tag_errors`, `doctype_errors` and `reference_errors` have the errors of the rows
+//! (`row_errors`), `end_errors` those of the end, and `telling` tells them. `runs` has the bytes that a state only adds, which are taken at once, and `quoted` the
 //! attributes that are.
 //!
 //! It hands nothing on itself: `h5_standard` does. Begin with `src/machine.rt`, then read a chapter beside its definition.

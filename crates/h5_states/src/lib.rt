@@ -4,9 +4,10 @@
 //! `specs/Doctypes.antt` and `specs/References.antt` have the rows of each state, in the standard's order and words, and
 //! `specs/Machine.antt` chooses the row. `specs/AtEnd.antt` has what each state leaves at the end of the input, and
 //! `specs/ReferenceTable.antt` the 2,231 names of character references. `specs/Reading.antt` has the relation of reading,
-//! `specs/End.antt` and `specs/Whole.antt` the end and input that is read to it.
+//! `specs/End.antt` and `specs/Whole.antt` the end and input that is read to it, and `specs/Telling.antt` reading with its parse errors.
 //!
-//! `kinds` and `errors` are what code shares with these pages. `laws` has what holds of them: a byte meets three rows at
+//! `kinds` and `errors` are what code shares with these pages, `position` has where an error stands, `error_sink` who takes
+//! errors, and `error_list` a list of them. `laws` has what holds of the states: a byte meets three rows at
 //! most (`specs/Rank.antt`), where the standard looks ahead nothing is lost (`specs/Ahead.antt`), a raw element has texts and
 //! an end tag (`specs/RawTexts.antt`), any input can be read, nothing is held back between two pieces of it, and how it is
 //! cut doesn't matter. `proofs/Examples.antt` has texts and what is handed on of them, by computing. `examples.txt` has some

@@ -3,12 +3,14 @@
 //! The program reads the page `stdin` in chunks, and prints what each function gives.
 #![tactic(auto)]
 
+mod errors;
 mod fragment;
 mod page;
 mod serializer;
 mod tokens;
 mod tree;
 
+use errors::{errors_in, lines_of};
 use fragment::{fragment, fragment_in_an_element};
 use html_tree_builder::Arena;
 use page::{page, page_in_chunks, page_in_its_encoding};
@@ -72,6 +74,14 @@ fn print_tags(rt: &HostRuntime) -> anyhow::Result<()> {
     Ok(())
 }
 
+// Prints the parse errors of a page.
+fn print_errors(rt: &HostRuntime) -> anyhow::Result<()> {
+    let errors = errors_in(rt.alloc(), "<p id=a id=b>x</p/>\n&nosuch;")?;
+    let lines = lines_of(rt.alloc(), &errors)?;
+    println!(rt; "errors:\n{lines}")?;
+    Ok(())
+}
+
 // Prints the headings of a page, and an edited one.
 fn print_trees(rt: &HostRuntime) -> anyhow::Result<()> {
     let lines = headings(
@@ -96,5 +106,6 @@ fn main(rt: HostRuntime) -> anyhow::Result<()> {
     print_fragment(&rt)?;
     print_fragment_in_an_element(&rt)?;
     print_tags(&rt)?;
+    print_errors(&rt)?;
     print_trees(&rt)
 }

@@ -30,7 +30,7 @@ pub fn documents_are_read<S: TokenSink>()
 /// That text is read without a parse error, and there is none at its end, if it holds no character that is an error of the input
 /// stream itself.
 pub fn documents_are_read_without_errors<S: TokenSink>()
-    ensures { (d : PlainDocument) (m : S.Meaning) (s : Spot) → s.is_new ≡ true → IsReadableDocument d → Answers S.reply_to S.after m (document_tokens d)
+    ensures { (d : PlainDocument) (m : S.Meaning) (s : Spot) → IsReadableDocument d → Answers S.reply_to S.after m (document_tokens d)
         → HasNoInputErrors (written_of d)
         → ReadsWithoutErrors references S.reply_to S.after S.is_foreign (first_place default_options) s m (written_of d) }
 {}
