@@ -98,6 +98,18 @@ pub struct PageErrors {
     pub lines: Vec<u64>,
 }
 
+impl Lined<Builder> {
+    /// The errors of a page that was read, with these of tokenization.
+    pub fn page_errors(self, told: Errors) -> PageErrors {
+        let tree = self.sink.into_sink();
+        PageErrors {
+            told,
+            tree,
+            lines: self.lines,
+        }
+    }
+}
+
 /// How many errors a page has, and how many of them were printed.
 #[derive(Clone, Copy)]
 pub struct ErrorCount {

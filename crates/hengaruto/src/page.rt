@@ -273,15 +273,12 @@ pub fn errors_of<R: Read>(
 ) -> Result<(PageErrors, HowRead), Fault> {
     let alloc = rt.alloc();
     let (builder, how_read) = builder_for(alloc, Arena::new(alloc)?, context)?;
-    let told = Errors::new(alloc, limit);
-    let mut reader = TellingTokenizer::new(alloc, Lined::new(alloc, builder), told, how_read);
+    let errors = Errors::new(alloc, limit);
+    let mut reader = TellingTokenizer::new(alloc, Lined::new(alloc, builder), errors, how_read);
     let how = feed_all(rt, opts, &mut reader, input)?;
+    let told = reader.errors;
     let lined = reader.sink;
-    let errors = PageErrors {
-        told: reader.errors,
-        tree: lined.sink.sink,
-        lines: lined.lines,
-    };
+    let errors = lined.page_errors(told);
     if errors.is_cut(limit) {
         return Err(Fault::Memory);
     }
