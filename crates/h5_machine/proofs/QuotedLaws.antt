@@ -17,6 +17,7 @@ use Rattle.h5_states.specs.Signs.{equals_sign, solidus, greater_than_sign, is_bl
 use Rattle.h5_states.specs.States.{State, BeforeAttributeName, AttributeName, BeforeAttributeValue, AttributeValue, AfterAttributeValueQuoted, Quoted}
 use Rattle.h5_states.specs.Tags.{before_attribute_name_state}
 use Rattle.h5_states.specs.Turn.{Reconsumed}
+use Rattle.h5_states.proofs.ReadLaws.{passes_join}
 use Rattle.h5_machine.specs.MachineText.{MachineText, place_of, PassesRun}
 use Rattle.h5_machine.specs.Parts.{Parts}
 use Rattle.h5_machine.specs.Quoted.{IsQuoted}
@@ -26,7 +27,6 @@ use Rattle.h5_machine.specs.declared.machine_state.MachineState.TheVariants as a
 use Rattle.h5_machine.specs.declared.machine_state.TagState.TheVariants as g
 use Rattle.h5_machine.specs.declared.machine_state.ValueKind.TheVariants as v
 use Rattle.h5_machine.specs.declared.runs.Run.TheVariants as run
-use Rattle.h5_machine.proofs.MoreLaws.{passes_more}
 use Rattle.h5_machine.proofs.PassLaws.{behind_run, run_passed}
 use Rattle.h5_machine.proofs.RunLaws.{none_of_four, neither}
 
@@ -113,9 +113,9 @@ passes_quoted p quote tag (x ∷ name) value rest e fits some named valued =
     let named_so = attribute_named_further (map to_ascii_lowercase (x ∷ name)) (with_attribute [] tag) in
     let line = u64_saturate (p.line + newlines false value) in
     again [] (AttributeName (with_attribute [] tag)) (and_right p.after_return (x == 10) n.feed) (first_outcome p tag x e n)
-    (passes_more (name_passed p (with_attribute [] tag) x name (equals_sign ∷ (sign_of quote ∷ (value ++ sign_of quote ∷ rest))) fits named n)
-    (passes_more (opens p quote named_so p.line (value ++ sign_of quote ∷ rest))
-    (passes_more (value_passed p quote named_so value (sign_of quote ∷ rest) fits refl valued)
+    (passes_join references (name_passed p (with_attribute [] tag) x name (equals_sign ∷ (sign_of quote ∷ (value ++ sign_of quote ∷ rest))) fits named n)
+    (passes_join references (opens p quote named_so p.line (value ++ sign_of quote ∷ rest))
+    (passes_join references (value_passed p quote named_so value (sign_of quote ∷ rest) fits refl valued)
     (closes p quote (with_quoted (x ∷ name) value tag) line rest))))
 
 -- a machine that took such an attribute

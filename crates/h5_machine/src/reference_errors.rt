@@ -7,6 +7,7 @@ ghost use Rattle.h5_states.specs.Machine.{turn};
 ghost use Rattle.h5_states.specs.References as r;
 ghost use Rattle.h5_states.specs.References.{longest};
 ghost use Rattle.h5_states.specs.ReferenceTable.{references};
+ghost use Rattle.h5_states.specs.SeenAhead.{behind_found, seen_ahead};
 ghost use Rattle.h5_states.specs.States.{Return};
 ghost use Rattle.h5_references.specs.Found.{found_in};
 ghost use Rattle.h5_machine.specs.Flushing.{behind_digits};
@@ -94,6 +95,29 @@ fn decimal_error(code: u32, b: u8) -> Option<ParseError>
         return None;
     }
     digits_error(code, b)
+}
+
+// How much was seen behind the name that was found, if one was.
+fn behind_found(seen: &str) -> usize
+    ensures { result ≡ behind_found (longest references seen.now) }
+{
+    match longest(seen.as_bytes()) {
+        None => 0,
+        Some(found) => {
+            let (_name, rest) = split_found(seen, &found);
+            rest.len()
+        }
+    }
+}
+
+/// How much of what was seen in a state of references the standard hasn't consumed.
+pub fn seen_behind_name(state: ReferenceState, reference: &OpenReference) -> usize
+    ensures { (return : Return) → result ≡ seen_ahead references (reference_state_of state return (string_bytes reference.now.seen) reference.now.code) }
+{
+    match state {
+        ReferenceState::NamedCharacterReference => behind_found(reference.seen.as_str()),
+        _ => 0,
+    }
 }
 
 /// The error of a row of character references.

@@ -2,7 +2,8 @@
 
 ghost use Rattle.std.specs.Prelude.{◌≡◌, List, [], ◌∷◌, ◌++◌, ◌==◌, ◌&&◌, if◌then◌else◌};
 ghost use Rattle.h5_states.specs.Signs.{null};
-ghost use Rattle.h5_states.specs.Told.{Tells, if_any, told_at};
+ghost use Rattle.h5_states.specs.SeenAhead.{error_position, told_of_row};
+ghost use Rattle.h5_states.specs.Told.{Tells, if_any};
 ghost use Rattle.h5_machine.specs.RowErrors.{all_of};
 
 use h5_states::{ErrorSink, ParseError, Position};
@@ -43,13 +44,24 @@ pub fn null_error(b: u8) -> Option<ParseError>
     only_if(b == 0, ParseError::UnexpectedNullCharacter)
 }
 
-/// Tells an error, if there is one, as standing here.
-pub fn tell_one<E: ErrorSink>(error: Option<ParseError>, at: Position, errors: &mut E)
-    ensures { Tells E.Told errors.old errors.new (told_at at (if_any error)) }
+// Where an error stands, so much behind the place where the standard tells such an error.
+fn error_position(ahead: u64, at: Position, error: ParseError) -> Position
+    ensures { result ≡ error_position ahead at error }
+{
+    if error.is_told_ahead() {
+        at.before(ahead)
+    } else {
+        at
+    }
+}
+
+// Tells an error of a row, if there is one.
+fn tell_one<E: ErrorSink>(error: Option<ParseError>, ahead: u64, at: Position, errors: &mut E)
+    ensures { Tells E.Told errors.old errors.new (told_of_row ahead at (if_any error)) }
 {
     match error {
         None => {}
-        Some(error) => errors.error(error, at),
+        Some(error) => errors.error(error, error_position(ahead, at, error)),
     }
 }
 
@@ -65,12 +77,12 @@ impl RowErrors {
         }
     }
 
-    /// Tells them, in their order, as standing here.
-    pub fn tell<E: ErrorSink>(&self, at: Position, errors: &mut E)
-        ensures { Tells E.Told errors.old errors.new (told_at at (all_of self.now)) }
+    /// Tells them, in their order, as standing here, or so much before where the standard looks ahead.
+    pub fn tell<E: ErrorSink>(&self, ahead: u64, at: Position, errors: &mut E)
+        ensures { Tells E.Told errors.old errors.new (told_of_row ahead at (all_of self.now)) }
     {
-        tell_one(self.first, at, errors);
-        tell_one(self.second, at, errors);
-        tell_one(self.third, at, errors);
+        tell_one(self.first, ahead, at, errors);
+        tell_one(self.second, ahead, at, errors);
+        tell_one(self.third, ahead, at, errors);
     }
 }

@@ -5,11 +5,13 @@ ghost use Rattle.h5_states.specs.AtEnd.{at_end};
 ghost use Rattle.h5_states.specs.InputErrors.{character_errors};
 ghost use Rattle.h5_states.specs.Machine.{turn};
 ghost use Rattle.h5_states.specs.ReferenceTable.{references};
+ghost use Rattle.h5_states.specs.SeenAhead.{seen_ahead, told_of_row};
 ghost use Rattle.h5_states.specs.Telling.{end_errors, row_errors};
 ghost use Rattle.h5_states.specs.Told.{Tells, told_at};
 ghost use Rattle.h5_machine.specs.MachineText.{place_of};
 ghost use Rattle.h5_machine.specs.RowErrors.{all_of};
-ghost use Rattle.h5_machine.specs.StateOf.{state_of};
+ghost use Rattle.h5_machine.specs.StateOf.{comment_state_of, doctype_state_of, state_of};
+ghost use Rattle.h5_token.specs.TokenText.{DoctypeText};
 
 use super::codes::input_error;
 use super::doctype_errors::doctype_error;
@@ -17,9 +19,9 @@ use super::end_errors::{
     comment_end_error, doctype_end_error, reference_end_errors, tag_end_errors, text_end_error,
 };
 use super::machine::{Machine, normal};
-use super::machine_state::MachineState;
-use super::reference_errors::reference_error;
-use super::row_errors::{RowErrors, tell_one};
+use super::machine_state::{CommentState, DoctypeState, MachineState};
+use super::reference_errors::{reference_error, seen_behind_name};
+use super::row_errors::RowErrors;
 use super::tag_errors::tag_errors;
 use super::text_errors::{comment_error, text_error};
 use h5_states::{ErrorSink, Position};
@@ -28,7 +30,30 @@ use h5_states::{ErrorSink, Position};
 pub fn tell_input_error<E: ErrorSink>(c: char, at: Position, errors: &mut E)
     ensures { Tells E.Told errors.old errors.new (told_at at (character_errors c)) }
 {
-    tell_one(input_error(c), at, errors);
+    match input_error(c) {
+        None => {}
+        Some(error) => errors.error(error, at),
+    }
+}
+
+// How much of what was seen in a state of comments the standard hasn't consumed.
+fn comment_ahead(state: CommentState, text: &str) -> usize
+    ensures { result ≡ seen_ahead references (comment_state_of state text.now) }
+{
+    match state {
+        CommentState::MarkupDeclarationOpen => text.len(),
+        _ => 0,
+    }
+}
+
+// The same in a state of doctypes.
+fn doctype_ahead(state: DoctypeState, seen: &str) -> usize
+    ensures { (doctype : DoctypeText) → result ≡ seen_ahead references (doctype_state_of state doctype seen.now) }
+{
+    match state {
+        DoctypeState::AfterDoctypeName => seen.len(),
+        _ => 0,
+    }
 }
 
 impl Machine {
@@ -76,17 +101,31 @@ impl Machine {
         }
     }
 
-    /// Tells the errors of the row at the byte at hand, as standing here.
-    pub fn tell_errors<E: ErrorSink>(&self, b: u8, at: Position, errors: &mut E)
-        ensures { Tells E.Told errors.old errors.new (told_at at (row_errors references (place_of self.now) b)) }
+    /// How much of what was seen in the state the standard hasn't consumed, since it looks ahead there.
+    pub fn seen_ahead(&self) -> usize
+        ensures { result ≡ seen_ahead references (state_of self.now.at self.now.parts) }
     {
-        self.row_errors(normal(b)).tell(at, errors);
+        match self.at {
+            MachineState::Text(_) => 0,
+            MachineState::Tag(_) => 0,
+            MachineState::Comment(state) => comment_ahead(state, self.comment.as_str()),
+            MachineState::Doctype(state) => doctype_ahead(state, self.buffer.as_str()),
+            MachineState::Reference(state, _) => seen_behind_name(state, &self.reference),
+        }
     }
 
-    /// Tells the errors of the end of the input, as standing here.
-    pub fn tell_errors_at_end<E: ErrorSink>(&self, at: Position, errors: &mut E)
-        ensures { Tells E.Told errors.old errors.new (told_at at (end_errors references (place_of self.now))) }
+    /// Tells the errors of the row at the byte at hand, as standing here, or before what was seen where the standard looks ahead.
+    pub fn tell_errors<E: ErrorSink>(&self, b: u8, at: Position, errors: &mut E)
+        ensures { Tells E.Told errors.old errors.new (told_of_row (seen_ahead references (place_of self.now).state) at (row_errors references (place_of self.now) b)) }
     {
-        self.end_errors().tell(at, errors);
+        self.row_errors(normal(b))
+            .tell(self.seen_ahead() as u64, at, errors);
+    }
+
+    /// Tells the errors of the end of the input in the same way.
+    pub fn tell_errors_at_end<E: ErrorSink>(&self, at: Position, errors: &mut E)
+        ensures { Tells E.Told errors.old errors.new (told_of_row (seen_ahead references (place_of self.now).state) at (end_errors references (place_of self.now))) }
+    {
+        self.end_errors().tell(self.seen_ahead() as u64, at, errors);
     }
 }

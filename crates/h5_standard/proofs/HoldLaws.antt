@@ -10,7 +10,7 @@ use Rattle.h5_states.specs.declared.errors.ParseError.{ParseError}
 use Rattle.h5_states.specs.Turn.{Emitted, Asks}
 use Rattle.h5_states.specs.States.{State}
 use Rattle.h5_states.specs.Reading.{ReaderPlace, Passes, passed, Step, quiet_step, text_step, token_step, ask_step, nothing_read, read_on, is_dropped, outcome, behind, after_token}
-use Rattle.h5_machine.proofs.MoreLaws.{passes_more}
+use Rattle.h5_states.proofs.ReadLaws.{passes_join}
 use Rattle.h5_standard.specs.Steps.{Stopped, ReadsOn, Holds, RefusedAt, HandsOn, Leads}
 
 module _ {M : Type 0} (reply_to : M → TokenText → Reply) (after : M → TokenText → ℕ → M) (foreign : M → Bool) where
@@ -29,7 +29,7 @@ module _ {M : Type 0} (reply_to : M → TokenText → Reply) (after : M → Toke
   -- more is passed, and what it emits is held, too
   pub holds_more : {p q r : ReaderPlace} {m n : M} {xs ys zs text more : List ℕ} {line : ℕ} → Holds reply_to after foreign p m xs text line q n ys
       → Passes references q ys more r zs → Holds reply_to after foreign p m xs (text ++ more) line r n zs
-  holds_more h passes = record { place = h.place; rest = h.rest; reads = h.reads; passes = passes_more h.passes passes; began = h.began }
+  holds_more h passes = record { place = h.place; rest = h.rest; reads = h.reads; passes = passes_join references h.passes passes; began = h.began }
 
   -- the text is handed on
   pub text_is_handed_on : {p q : ReaderPlace} {m n : M} {xs ys text : List ℕ} {x line : ℕ} → Holds reply_to after foreign p m xs (x ∷ text) line q n ys

@@ -1,5 +1,5 @@
 -- What the steps of the reader that tells errors did, as a reading with its errors.
-use Rattle.std.proofs.Common.{◌≡◌, ◌⊎◌, inl, inr, ℕ, ◌<◌, ◌≤◌, ◌==◌, Bool, true, false, true≢false, List, [], ◌∷◌, ◌++◌, refl, sym, ap, ◌∙◌, subst, arith, append-nil, append_assoc, drop, length, slice_index, Result, Ok, Err, Option, Some, None, if◌then◌else◌}
+use Rattle.std.proofs.Common.{◌≡◌, ◌⊎◌, inl, inr, ℕ, ◌<◌, ◌≤◌, ◌==◌, Bool, true, false, true≢false, List, [], ◌∷◌, ◌++◌, refl, sym, ap, ◌∙◌, subst, arith, eq-eqb, ne_eqb, append-nil, append_assoc, drop, length, slice_index, Result, Ok, Err, Option, Some, None, if◌then◌else◌}
 use Rattle.std.proofs.lemmas.Bool.{and_from, and_parts, eqb-true, le-leb, leb-true}
 use Rattle.std.specs.Char.{IsScalar}
 use Rattle.std.specs.Prelude.{OnOk, encode_utf8, nat_le}
@@ -24,10 +24,11 @@ use Rattle.h5_states.specs.Reading as reading
 use Rattle.h5_states.specs.Reading.{ReaderPlace, Passes, passed, outcome, is_dropped, behind, behind_newline, in_state, after_token}
 use Rattle.h5_states.specs.Spots.{is_inside, position, spot_again, spot_behind, spot_behind_all, spot_past}
 use Rattle.h5_states.specs.States.{State, Text}
-use Rattle.h5_states.specs.Telling.{Reached, Reaches, begins, drops, goes, again, hands_text, hands_nothing, hands_token, asks, at_first, row_errors}
+use Rattle.h5_states.specs.SeenAhead.{seen_ahead, told_of_row}
+use Rattle.h5_states.specs.Telling.{Reached, Reaches, begins, drops, goes, again, hands_text, hands_nothing, hands_token, asks, at_first, row_errors, told_at_byte}
 use Rattle.h5_states.specs.Told.{Tells, told_at}
 use Rattle.h5_states.specs.Turn.{Consumed, Reconsumed, Emitted, Asks}
-use Rattle.h5_states.proofs.ToldLaws.{tells_none, tells_twice, told_append}
+use Rattle.h5_states.proofs.ToldLaws.{input_first, none_at_byte, row_alone, row_first, tells_none, tells_twice}
 use Rattle.h5_machine.specs.MachineText.{MachineText, place_of, Completes, Consumes, Drops, IsQuiet, PassesRun, Reconsumes, Takes, Wonders}
 use Rattle.h5_machine.specs.declared.machine.Step.{Step}
 use Rattle.h5_machine.specs.declared.machine.Step.TheVariants as step
@@ -108,6 +109,10 @@ taken_whole m n x xs front old new ys split low within wide narrow run =
     let none = none_left ys there.1 (narrow (wide_so n.at n.parts ∙ there.0)) in
     subst (λ l. PassesRun m front old new n l) none run
 
+-- what is told at a byte, behind these errors of the input
+abbrev row_told : ReaderPlace → Spot → ℕ → List ParseError → List ToldError
+row_told p s x input = told_at_byte references p (position p.line s) x input
+
 module _ {M : Type 0} (reply_to : M → TokenText → Reply) (after : M → TokenText → ℕ → M) (foreign : M → Bool) {E : Type 0} (told : E → List ToldError → Type 0) (start : Reached M) (first : E) where
   -- a row is done whose errors were told
   pub goes_before : {text : List ℕ} {line : ℕ} {p : ReaderPlace} {s : Spot} {m : M} {x : ℕ} {xs : List ℕ} {now : E} (more : List ℕ) (state : State)
@@ -117,9 +122,9 @@ module _ {M : Type 0} (reply_to : M → TokenText → Reply) (after : M → Toke
     reply = Continues;
     goes_on = refl;
     came = record {
-      errors = h.on.came.errors ++ told_at (position p.line s) (h.row.input ++ row_errors references p x);
-      reaches = goes {errors = h.row.input ++ row_errors references p x} more state h.on.came.reaches (record { goes_on = h.on.goes_on; front = refl; not_dropped = d; outcome = e; input = h.row.input; input_errors = h.row.input_errors; errors_are = refl });
-      tells = tells_twice told first h.old now h.on.came.errors (told_at (position p.line s) (h.row.input ++ row_errors references p x)) h.on.came.tells h.row.tells;
+      errors = h.on.came.errors ++ row_told p s x h.row.input;
+      reaches = goes {errors = row_told p s x h.row.input} more state h.on.came.reaches (record { goes_on = h.on.goes_on; front = refl; not_dropped = d; outcome = e; input = h.row.input; input_errors = h.row.input_errors; errors_are = refl });
+      tells = tells_twice told first h.old now h.on.came.errors (row_told p s x h.row.input) h.on.came.tells h.row.tells;
     };
   }
 
@@ -130,9 +135,9 @@ module _ {M : Type 0} (reply_to : M → TokenText → Reply) (after : M → Toke
     reply = Continues;
     goes_on = refl;
     came = record {
-      errors = h.on.came.errors ++ told_at (position p.line s) (h.row.input ++ row_errors references p x);
-      reaches = again {errors = h.row.input ++ row_errors references p x} more state h.on.came.reaches (record { goes_on = h.on.goes_on; front = refl; not_dropped = d; outcome = e; input = h.row.input; input_errors = h.row.input_errors; errors_are = refl });
-      tells = tells_twice told first h.old now h.on.came.errors (told_at (position p.line s) (h.row.input ++ row_errors references p x)) h.on.came.tells h.row.tells;
+      errors = h.on.came.errors ++ row_told p s x h.row.input;
+      reaches = again {errors = row_told p s x h.row.input} more state h.on.came.reaches (record { goes_on = h.on.goes_on; front = refl; not_dropped = d; outcome = e; input = h.row.input; input_errors = h.row.input_errors; errors_are = refl });
+      tells = tells_twice told first h.old now h.on.came.errors (row_told p s x h.row.input) h.on.came.tells h.row.tells;
     };
   }
 
@@ -158,9 +163,9 @@ module _ {M : Type 0} (reply_to : M → TokenText → Reply) (after : M → Toke
       → CameBefore reply_to after foreign told start first [] line p s m (x ∷ xs) x now → is_dropped p x ≡ false → outcome references p x ≡ Emitted token state
       → CameTo reply_to after foreign told start first (reply_to m token) (after_token token (reply_to m token) (behind x state p)) (spot_behind x s) (after m token p.began) xs now
   token_before {p = p} {s = s} {x = x} {now = now} token state h d e = record {
-    errors = h.on.came.errors ++ told_at (position p.line s) (h.row.input ++ row_errors references p x);
-    reaches = hands_token {errors = h.row.input ++ row_errors references p x} token state h.on.came.reaches refl (record { goes_on = h.on.goes_on; front = refl; not_dropped = d; outcome = e; input = h.row.input; input_errors = h.row.input_errors; errors_are = refl });
-    tells = tells_twice told first h.old now h.on.came.errors (told_at (position p.line s) (h.row.input ++ row_errors references p x)) h.on.came.tells h.row.tells;
+    errors = h.on.came.errors ++ row_told p s x h.row.input;
+    reaches = hands_token {errors = row_told p s x h.row.input} token state h.on.came.reaches refl (record { goes_on = h.on.goes_on; front = refl; not_dropped = d; outcome = e; input = h.row.input; input_errors = h.row.input_errors; errors_are = refl });
+    tells = tells_twice told first h.old now h.on.came.errors (row_told p s x h.row.input) h.on.came.tells h.row.tells;
   }
 
   -- a byte inside a character has no errors, in a state that takes it as it is
@@ -175,7 +180,7 @@ module _ {M : Type 0} (reply_to : M → TokenText → Reply) (after : M → Toke
         row = record {
           input = [];
           input_errors = subst (λ b. InputErrors b (x ∷ xs) []) (sym new) (inside within);
-          tells = subst (λ es. Tells told now now (told_at (position p.line s) es)) (sym none) (tells_none told now);
+          tells = subst (Tells told now now) (sym (none_at_byte references p (position p.line s) x none)) (tells_none told now);
         };
       }
 
@@ -268,9 +273,9 @@ module _ {M : Type 0} (reply_to : M → TokenText → Reply) (after : M → Toke
       → CameOn reply_to after foreign told start first [] p.began p s m xs now
   none_leads_telling {p} {s} {m} {xs} {now} {line} text e h = nothing_on (subst (λ t. CameOn reply_to after foreign told start first t line p s m xs now) e h)
 
-  asked_errors : (b : Bool) (at : Position) (es : List ParseError) (e : ParseError) → told_at at es ++ told_at at (if b then [] else e ∷ []) ≡ told_at at (if b then es else es ++ e ∷ [])
-  asked_errors true at es e = append-nil (told_at at es)
-  asked_errors false at es e = sym (told_append at es (e ∷ []))
+  asked_errors : (b : Bool) (at : Position) (es : List ToldError) (e : ParseError) → es ++ told_at at (if b then [] else e ∷ []) ≡ (if b then es else es ++ told_at at (e ∷ []))
+  asked_errors true at es e = append-nil es
+  asked_errors false at es e = refl
 
   -- the adjusted current node is asked for
   pub asks_before : {line : ℕ} {p : ReaderPlace} {s : Spot} {m : M} {x : ℕ} {xs : List ℕ} {now : E} (later : E) (there : State) (error : ParseError) (elsewhere : State)
@@ -279,16 +284,17 @@ module _ {M : Type 0} (reply_to : M → TokenText → Reply) (after : M → Toke
       → CameOn reply_to after foreign told start first [] (behind x (if foreign m then there else elsewhere) p).began (behind x (if foreign m then there else elsewhere) p) (spot_behind x s) m xs later
   asks_before {p = p} {s = s} {m = m} {x = x} {now = now} later there error elsewhere h d e asked =
       let at = position p.line s in
-      let es = h.row.input ++ row_errors references p x in
-      let before = tells_twice told first h.old now h.on.came.errors (told_at at es) h.on.came.tells h.row.tells in
-      let all = tells_twice told first now later (h.on.came.errors ++ told_at at es) (told_at at (if foreign m then [] else error ∷ [])) before asked in
+      let es = row_told p s x h.row.input in
+      let more = told_at at (if foreign m then [] else error ∷ []) in
+      let before = tells_twice told first h.old now h.on.came.errors es h.on.came.tells h.row.tells in
+      let all = tells_twice told first now later (h.on.came.errors ++ es) more before asked in
       record {
         reply = Continues;
         goes_on = refl;
         came = record {
-          errors = h.on.came.errors ++ told_at at (if foreign m then es else es ++ error ∷ []);
+          errors = h.on.came.errors ++ (if foreign m then es else es ++ told_at at (error ∷ []));
           reaches = asks {errors = es} there error elsewhere h.on.came.reaches refl (record { goes_on = h.on.goes_on; front = refl; not_dropped = d; outcome = e; input = h.row.input; input_errors = h.row.input_errors; errors_are = refl });
-          tells = subst (Tells told first later) (append_assoc h.on.came.errors (told_at at es) (told_at at (if foreign m then [] else error ∷ [])) ∙ ap (λ l. h.on.came.errors ++ l) (asked_errors (foreign m) at es error)) all;
+          tells = subst (Tells told first later) (append_assoc h.on.came.errors es more ∙ ap (λ l. h.on.came.errors ++ l) (asked_errors (foreign m) at es error)) all;
         };
       }
 
@@ -402,22 +408,38 @@ module _ {M : Type 0} (reply_to : M → TokenText → Reply) (after : M → Toke
       }))
 
 -- the errors at a character whose first byte is new, and at another byte
-pub tells_new : {E : Type 0} (told : E → List ToldError → Type 0) (old mid new : E) (p : ReaderPlace) (s : Spot) (x c : ℕ) (at : Position) (xs behind_it : List ℕ) → at ≡ position p.line s → s.is_new ≡ true → IsScalar c → xs ≡ encode_utf8 c ++ behind_it
-    → Tells told old mid (told_at at (character_errors c)) → Tells told mid new (told_at at (row_errors references p x)) → TellsRow told old new p s xs x
-tells_new told old mid new p s x c at xs behind_it place is_new scalar split one two = record {
+new_so : {E : Type 0} (told : E → List ToldError → Type 0) (old new : E) (p : ReaderPlace) (s : Spot) (x c : ℕ) (at : Position) (xs behind_it : List ℕ) → at ≡ position p.line s → s.is_new ≡ true → IsScalar c → xs ≡ encode_utf8 c ++ behind_it
+    → Tells told old new (told_at_byte references p at x (character_errors c)) → TellsRow told old new p s xs x
+new_so told old new p s x c at xs behind_it place is_new scalar split tells = record {
   input = character_errors c;
   input_errors = subst (λ b. InputErrors b xs (character_errors c)) (sym is_new) (of_character c behind_it scalar split);
-  tells = subst (λ a. Tells told old new (told_at a (character_errors c ++ row_errors references p x))) place
-      (subst (Tells told old new) (sym (told_append at (character_errors c) (row_errors references p x)))
-      (tells_twice told old mid new (told_at at (character_errors c)) (told_at at (row_errors references p x)) one two));
+  tells = subst (λ a. Tells told old new (told_at_byte references p a x (character_errors c))) place tells;
 }
 
+pub tells_new : {E : Type 0} (told : E → List ToldError → Type 0) (old mid new : E) (p : ReaderPlace) (s : Spot) (x c : ℕ) (at : Position) (xs behind_it : List ℕ) → at ≡ position p.line s → s.is_new ≡ true → IsScalar c → xs ≡ encode_utf8 c ++ behind_it
+    → seen_ahead references p.state ≡ 0
+    → Tells told old mid (told_at at (character_errors c)) → Tells told mid new (told_of_row (seen_ahead references p.state) at (row_errors references p x)) → TellsRow told old new p s xs x
+tells_new told old mid new p s x c at xs behind_it place is_new scalar split none one two =
+    let input = told_at at (character_errors c) in
+    let row = told_of_row (seen_ahead references p.state) at (row_errors references p x) in
+    new_so told old new p s x c at xs behind_it place is_new scalar split
+    (subst (Tells told old new) (sym (input_first (seen_ahead references p.state) input row (eq-eqb (seen_ahead references p.state) 0 none))) (tells_twice told old mid new input row one two))
+
+pub tells_ahead : {E : Type 0} (told : E → List ToldError → Type 0) (old mid new : E) (p : ReaderPlace) (s : Spot) (x c : ℕ) (at : Position) (xs behind_it : List ℕ) → at ≡ position p.line s → s.is_new ≡ true → IsScalar c → xs ≡ encode_utf8 c ++ behind_it
+    → (seen_ahead references p.state ≡ 0 → ⊥)
+    → Tells told old mid (told_of_row (seen_ahead references p.state) at (row_errors references p x)) → Tells told mid new (told_at at (character_errors c)) → TellsRow told old new p s xs x
+tells_ahead told old mid new p s x c at xs behind_it place is_new scalar split some one two =
+    let input = told_at at (character_errors c) in
+    let row = told_of_row (seen_ahead references p.state) at (row_errors references p x) in
+    new_so told old new p s x c at xs behind_it place is_new scalar split
+    (subst (Tells told old new) (sym (row_first (seen_ahead references p.state) input row (ne_eqb (seen_ahead references p.state) 0 some))) (tells_twice told old mid new row input one two))
+
 pub tells_again : {E : Type 0} (told : E → List ToldError → Type 0) (old new : E) (p : ReaderPlace) (s : Spot) (x : ℕ) (at : Position) (xs : List ℕ) → at ≡ position p.line s → s.is_new ≡ false
-    → Tells told old new (told_at at (row_errors references p x)) → TellsRow told old new p s xs x
+    → Tells told old new (told_of_row (seen_ahead references p.state) at (row_errors references p x)) → TellsRow told old new p s xs x
 tells_again told old new p s x at xs place is_new tells = record {
   input = [];
   input_errors = subst (λ b. InputErrors b xs []) (sym is_new) not_new;
-  tells = subst (λ a. Tells told old new (told_at a (row_errors references p x))) place tells;
+  tells = subst (λ a. Tells told old new (told_at_byte references p a x [])) place (subst (Tells told old new) (sym (row_alone references p at x)) tells);
 }
 
 -- what is taken at a LINE FEED that is dropped

@@ -1,6 +1,6 @@
 -- What steps of the reader that tells errors did.
 use Rattle.std.specs.List.{list_all}
-use Rattle.std.specs.Prelude.{◌≡◌, ◌≤◌, ◌∷◌, ℕ, ◌+◌, ◌-◌, Bool, true, List, [], ◌++◌, Result, Ok, Err, Option, Some, None, length, string_bytes}
+use Rattle.std.specs.Prelude.{◌≡◌, ◌≤◌, ◌∷◌, ℕ, ◌+◌, ◌-◌, Bool, true, List, [], Result, Ok, Err, Option, Some, None, length, string_bytes}
 use Rattle.std.specs.Io.Iter.{u64_saturate}
 use Rattle.h5_token.specs.TokenText.{TokenText}
 use Rattle.h5_token.specs.Reply.{Reply, Refuses, RunsScript, Indicates}
@@ -18,8 +18,8 @@ use Rattle.h5_states.specs.InputErrors.{InputErrors}
 use Rattle.h5_states.specs.Reading.{ReaderPlace}
 use Rattle.h5_states.specs.ReferenceTable.{references}
 use Rattle.h5_states.specs.Spots.{is_inside, position}
-use Rattle.h5_states.specs.Telling.{Reached, Reaches, row_errors}
-use Rattle.h5_states.specs.Told.{Tells, told_at}
+use Rattle.h5_states.specs.Telling.{Reached, Reaches, told_at_byte}
+use Rattle.h5_states.specs.Told.{Tells}
 use Rattle.h5_standard.specs.Mark.{behind_mark}
 use Rattle.h5_standard.specs.declared.steps.Progress.{Progress}
 use Rattle.h5_standard.specs.declared.steps.Progress.TheVariants as progress
@@ -30,7 +30,7 @@ use Rattle.h5_standard.specs.declared.steps.Halt.TheVariants as halt
 pub record TellsRow {E : Type 0} (told : E → List ToldError → Type 0) (old new : E) (p : ReaderPlace) (s : Spot) (xs : List ℕ) (x : ℕ) : Type 0 where
   pub input : List ParseError
   pub input_errors : InputErrors s.is_new xs input
-  pub tells : Tells told old new (told_at (position p.line s) (input ++ row_errors references p x))
+  pub tells : Tells told old new (told_at_byte references p (position p.line s) x input)
 
 -- a character past ASCII: the others are the bytes inside it
 pub record IsWideCharacter (bytes : List ℕ) : Type 0 where

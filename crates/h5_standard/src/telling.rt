@@ -4,8 +4,8 @@ ghost use Rattle.std.specs.Prelude.{◌≡◌, Err, true};
 ghost use Rattle.h5_states.specs.End.{Closes};
 ghost use Rattle.h5_states.specs.ReferenceTable.{references};
 ghost use Rattle.h5_states.specs.Spots.{position};
-ghost use Rattle.h5_states.specs.Telling.{at_first, end_errors};
-ghost use Rattle.h5_states.specs.Told.{Tells, told_at};
+ghost use Rattle.h5_states.specs.Telling.{at_first, told_at_end};
+ghost use Rattle.h5_states.specs.Told.{Tells};
 ghost use Rattle.h5_standard.specs.Mark.{behind_mark};
 ghost use Rattle.h5_standard.specs.Options.{first_place};
 ghost use Rattle.h5_standard.specs.Outcome.{ClosedAs, Feeds};
@@ -57,7 +57,7 @@ impl<Sink: TokenSink, E: ErrorSink> TellingTokenizer<Sink, E> {
     /// Reads what waits in the queue as `Tokenizer::feed` does, and tells the errors of each row that a byte meets, in their
     /// order, as standing at that byte, and before them those of the input stream at a character whose first byte is new.
     ///
-    /// A position has the line as tokens have it, the column in code points from 1, and the offset in bytes of all that was
+    /// Where the standard looks ahead, an error stands before what was seen. A position has the line as tokens have it, the column in code points from 1, and the offset in bytes of all that was
     /// fed, a byte order mark included. After a fault what was told is not taken back.
     pub fn feed(
         &mut self,
@@ -97,7 +97,7 @@ impl<Sink: TokenSink, E: ErrorSink> TellingTokenizer<Sink, E> {
         ensures closed { self.old.reader.stage ≡ Stage.Reading
             → Closes Sink.reply_to Sink.after Sink.ended references self.old.reader.place (Sink.meaning self.old.sink) (Sink.meaning self.new.sink) result }
         ensures tells { self.old.reader.stage ≡ Stage.Reading
-            → Tells E.Told self.old.errors self.new.errors (told_at (position self.old.reader.place.line self.old.spot) (end_errors references self.old.reader.place)) }
+            → Tells E.Told self.old.errors self.new.errors (told_at_end references self.old.reader.place (position self.old.reader.place.line self.old.spot)) }
         ensures stage { self.old.reader.stage ≡ Stage.Reading → ClosedAs self.new.reader result }
     {
         match self.reader.stage() {

@@ -42,17 +42,21 @@ fn first_character<'a>(rest: &'a str) -> Option<(char, &'a str, &'a str)>
     }
 }
 
-// Tells the errors of the input at its first character, if its first byte is new, and those of the row at that byte.
+// Tells the errors of the input at its first character, if its first byte is new, and those of the row at that byte, which come
+// first where they stand before it.
 fn tell_front<E: ErrorSink>(c: char, b: u8, machine: &Machine, spot: Spot, errors: &mut E)
     ensures { (xs behind : List ℕ) → xs ≡ encode_utf8 c ++ behind → TellsRow E.Told errors.old errors.new (place_of machine.now) spot xs b }
 {
     let at = spot.position(machine.line());
-    if spot.is_new {
+    if !spot.is_new {
+        machine.tell_errors(b, at, errors);
+    } else if machine.seen_ahead() == 0 {
         tell_input_error(c, at, errors);
         machine.tell_errors(b, at, errors);
-        return;
+    } else {
+        machine.tell_errors(b, at, errors);
+        tell_input_error(c, at, errors);
     }
-    machine.tell_errors(b, at, errors);
 }
 
 // Hands the text on that is held, if there is some. What is emitted next begins in this line.

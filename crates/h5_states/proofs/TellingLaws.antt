@@ -129,7 +129,7 @@ module _ (table : List Reference) {M : Type 0} (reply_to : M → TokenText → R
   input_goes_on more (inside e) = inside e
   input_goes_on more not_new = not_new
 
-  meets_goes_on : {r : Reached M} {x : ℕ} {xs : List ℕ} {deed : Outcome} {errors : List ParseError} (more : List ℕ) → MeetsByte table r x xs deed errors → MeetsByte table (longer more r) x (xs ++ more) deed errors
+  meets_goes_on : {r : Reached M} {x : ℕ} {xs : List ℕ} {deed : Outcome} {errors : List ToldError} (more : List ℕ) → MeetsByte table r x xs deed errors → MeetsByte table (longer more r) x (xs ++ more) deed errors
   meets_goes_on more here = record {
     goes_on = here.goes_on;
     front = ap (λ l. l ++ more) here.front;

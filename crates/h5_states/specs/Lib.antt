@@ -26,3 +26,4 @@ pub mod InputErrors
 pub mod Telling
 pub mod ErrorList
 pub mod WithoutErrors
+pub mod SeenAhead

@@ -1,5 +1,5 @@
 -- Where a byte stands in its line and in the input.
-use Rattle.std.specs.Prelude.{ℕ, ◌+◌, Bool, true, false, List, [], ◌∷◌, ◌==◌, ◌&&◌, nat_le, if◌then◌else◌}
+use Rattle.std.specs.Prelude.{ℕ, ◌+◌, ◌-◌, Bool, true, false, List, [], ◌∷◌, ◌==◌, ◌&&◌, nat_le, if◌then◌else◌}
 use Rattle.std.specs.Io.Iter.{u64_saturate}
 use Rattle.h5_states.specs.declared.position.Position.{Position}
 use Rattle.h5_states.specs.declared.position.Spot.{Spot}
@@ -8,6 +8,10 @@ use Rattle.h5_states.specs.Lines.{normal}
 -- with the line
 abbrev pub position : ℕ → Spot → Position
 position line s = record { line = line; column = s.column; offset = s.offset }
+
+-- so many characters before it, of ASCII and in its line
+abbrev pub position_before : ℕ → Position → Position
+position_before n at = record { line = at.line; column = at.column - n; offset = at.offset - n }
 
 -- a byte of UTF-8 inside a character
 abbrev pub is_inside : ℕ → Bool

@@ -1,9 +1,10 @@
 -- Reading, with the parse errors that it tells: a reader that takes one byte after another.
-use Rattle.std.specs.Prelude.{◌≡◌, ◌⊎◌, ℕ, Bool, true, false, List, [], ◌∷◌, ◌++◌, if◌then◌else◌}
+use Rattle.std.specs.Prelude.{◌≡◌, ◌==◌, ◌⊎◌, ℕ, Bool, true, false, List, [], ◌∷◌, ◌++◌, if◌then◌else◌}
 use Rattle.h5_token.specs.TokenText.{TokenText, Characters}
 use Rattle.h5_token.specs.Reply.{Reply, Continues}
 use Rattle.h5_reading.specs.Answers.{goes_on}
 use Rattle.h5_states.specs.declared.errors.ParseError.{ParseError}
+use Rattle.h5_states.specs.declared.position.Position.{Position}
 use Rattle.h5_states.specs.declared.position.ToldError.{ToldError}
 use Rattle.h5_states.specs.Lines.{normal}
 use Rattle.h5_states.specs.States.{State}
@@ -14,6 +15,7 @@ use Rattle.h5_states.specs.AtEnd.{at_end}
 use Rattle.h5_states.specs.Reading.{ReaderPlace, outcome, is_dropped, behind, behind_newline, in_state, after_token, Passes, Read}
 use Rattle.h5_states.specs.Told.{told_at}
 use Rattle.h5_states.specs.declared.position.Spot.{Spot}
+use Rattle.h5_states.specs.SeenAhead.{seen_ahead, told_of_row}
 use Rattle.h5_states.specs.Spots.{position, spot_behind, spot_past, spot_again}
 use Rattle.h5_states.specs.InputErrors.{InputErrors}
 
@@ -39,20 +41,31 @@ row_errors table p x = (turn table p.last p.state (normal x)).errors
 abbrev pub end_errors : List Reference → ReaderPlace → List ParseError
 end_errors table p = (at_end table p.state).errors
 
--- these errors, where reading is
-abbrev pub told_here : {M : Type 0} → Reached M → List ParseError → List ToldError
-told_here r errors = told_at (position r.place.line r.spot) errors
+-- where reading is
+abbrev pub here : {M : Type 0} → Reached M → Position
+here r = position r.place.line r.spot
+
+-- what is told at a byte: these errors of the input, and then those of the row, which come first where they stand before it
+abbrev pub in_order : ℕ → List ToldError → List ToldError → List ToldError
+in_order ahead input row = if ahead == 0 then input ++ row else row ++ input
+
+abbrev pub told_at_byte : List Reference → ReaderPlace → Position → ℕ → List ParseError → List ToldError
+told_at_byte table p at x input = in_order (seen_ahead table p.state) (told_at at input) (told_of_row (seen_ahead table p.state) at (row_errors table p x))
+
+-- those of the end
+abbrev pub told_at_end : List Reference → ReaderPlace → Position → List ToldError
+told_at_end table p at = told_of_row (seen_ahead table p.state) at (end_errors table p)
 
 -- A row is done at the byte at hand, and reading may go on. These are the errors of the input there, if the byte is new, and
--- then those of the row.
-pub record MeetsByte (table : List Reference) {M : Type 0} (r : Reached M) (x : ℕ) (xs : List ℕ) (deed : Outcome) (errors : List ParseError) : Type 0 where
+-- those of the row.
+pub record MeetsByte (table : List Reference) {M : Type 0} (r : Reached M) (x : ℕ) (xs : List ℕ) (deed : Outcome) (errors : List ToldError) : Type 0 where
   pub goes_on : goes_on r.reply ≡ true
   pub front : r.rest ≡ x ∷ xs
   pub not_dropped : is_dropped r.place x ≡ false
   pub outcome : outcome table r.place x ≡ deed
   pub input : List ParseError
   pub input_errors : InputErrors r.spot.is_new r.rest input
-  pub errors_are : errors ≡ input ++ row_errors table r.place x
+  pub errors_are : errors ≡ told_at_byte table r.place (here r) x input
 
 -- behind the byte at hand, which was consumed
 abbrev pub consumed : {M : Type 0} → ℕ → List ℕ → State → Reached M → Reached M
@@ -84,26 +97,26 @@ module _ (table : List Reference) {M : Type 0} (reply_to : M → TokenText → R
     begins : Reaches start start []
     drops : {r : Reached M} {told : List ToldError} {x : ℕ} {xs : List ℕ} → Reaches start r told
         → goes_on r.reply ≡ true → r.rest ≡ x ∷ xs → is_dropped r.place x ≡ true → Reaches start (dropped xs r) told
-    goes : {r : Reached M} {told : List ToldError} {x : ℕ} {xs : List ℕ} {errors : List ParseError} (text : List ℕ) (state : State) → Reaches start r told
+    goes : {r : Reached M} {told : List ToldError} {x : ℕ} {xs : List ℕ} {errors : List ToldError} (text : List ℕ) (state : State) → Reaches start r told
         → MeetsByte table r x xs (Consumed text state) errors
-        → Reaches start (emitting text (consumed x xs state r)) (told ++ told_here r errors)
-    again : {r : Reached M} {told : List ToldError} {x : ℕ} {xs : List ℕ} {errors : List ParseError} (text : List ℕ) (state : State) → Reaches start r told
+        → Reaches start (emitting text (consumed x xs state r)) (told ++ errors)
+    again : {r : Reached M} {told : List ToldError} {x : ℕ} {xs : List ℕ} {errors : List ToldError} (text : List ℕ) (state : State) → Reaches start r told
         → MeetsByte table r x xs (Reconsumed text state) errors
-        → Reaches start (emitting text (reconsumed state r)) (told ++ told_here r errors)
+        → Reaches start (emitting text (reconsumed state r)) (told ++ errors)
     -- the text that is held is handed on, wherever that is convenient
     hands_text : {r : Reached M} {told : List ToldError} {x : ℕ} {text : List ℕ} → Reaches start r told
         → goes_on r.reply ≡ true → r.text ≡ x ∷ text → Reaches start (handed reply_to after (Characters r.text) r.line r) told
     -- there is none
     hands_nothing : {r : Reached M} {told : List ToldError} → Reaches start r told
         → goes_on r.reply ≡ true → r.text ≡ [] → Reaches start (at_first r.place r.spot r.meaning r.rest) told
-    hands_token : {r : Reached M} {told : List ToldError} {x : ℕ} {xs : List ℕ} {errors : List ParseError} (token : TokenText) (state : State) → Reaches start r told
+    hands_token : {r : Reached M} {told : List ToldError} {x : ℕ} {xs : List ℕ} {errors : List ToldError} (token : TokenText) (state : State) → Reaches start r told
         → r.text ≡ [] → MeetsByte table r x xs (Emitted token state) errors
-        → Reaches start (handed reply_to after token r.place.began (consumed x xs state r)) (told ++ told_here r errors)
+        → Reaches start (handed reply_to after token r.place.began (consumed x xs state r)) (told ++ errors)
     -- the adjusted current node is asked for, and where it is in the HTML namespace that is an error
-    asks : {r : Reached M} {told : List ToldError} {x : ℕ} {xs : List ℕ} {errors : List ParseError} (there : State) (error : ParseError) (elsewhere : State) → Reaches start r told
+    asks : {r : Reached M} {told : List ToldError} {x : ℕ} {xs : List ℕ} {errors : List ToldError} (there : State) (error : ParseError) (elsewhere : State) → Reaches start r told
         → r.text ≡ [] → MeetsByte table r x xs (Asks there error elsewhere) errors
         → Reaches start (with_none (consumed x xs (if foreign r.meaning then there else elsewhere) r))
-        (told ++ told_here r (if foreign r.meaning then errors else errors ++ error ∷ []))
+        (told ++ (if foreign r.meaning then errors else errors ++ told_at (here r) (error ∷ [])))
 
   -- An input was read up to an answer, and then bytes were passed up to here. What they emit is held, and began in this line.
   pub record IsHeld (p : ReaderPlace) (m : M) (xs : List ℕ) (r : Reached M) : Type 0 where

@@ -1,6 +1,7 @@
 //! Parse errors, and their names.
 ghost use Rattle.std.specs.Prelude.{◌≡◌};
 ghost use Rattle.h5_states.specs.ErrorNames.{error_name};
+ghost use Rattle.h5_states.specs.SeenAhead.{is_told_ahead};
 
 /// A parse error of tokenization, or of the input that it reads (HTML standard, section 13.2.2, "Parse errors").
 #[derive(Clone, Copy, Debug, PartialEq, Eq)]
@@ -125,6 +126,18 @@ impl ParseError {
                 "unexpected-question-mark-instead-of-tag-name",
             ParseError::UnexpectedSolidusInTag => "unexpected-solidus-in-tag",
             ParseError::UnknownNamedCharacterReference => "unknown-named-character-reference",
+        }
+    }
+
+    /// Whether it is told where the standard looks ahead, and so stands before what was seen there.
+    pub fn is_told_ahead(self) -> bool
+        ensures { result ≡ is_told_ahead self }
+    {
+        match self {
+            ParseError::IncorrectlyOpenedComment => true,
+            ParseError::InvalidCharacterSequenceAfterDoctypeName => true,
+            ParseError::MissingSemicolonAfterCharacterReference => true,
+            _ => false,
         }
     }
 }

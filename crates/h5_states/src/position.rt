@@ -1,7 +1,7 @@
 //! Where parse errors stand.
 
 ghost use Rattle.std.specs.Prelude.{◌≡◌, true};
-ghost use Rattle.h5_states.specs.Spots.{is_inside, position, spot_again, spot_behind, spot_behind_all, spot_past};
+ghost use Rattle.h5_states.specs.Spots.{is_inside, position, position_before, spot_again, spot_behind, spot_behind_all, spot_past};
 
 use super::errors::ParseError;
 
@@ -16,7 +16,20 @@ pub struct Position {
     pub offset: u64,
 }
 
-/// A parse error, and where it stands: at the character that the state met.
+impl Position {
+    /// The one so many characters before, which are of ASCII and stand in the same line.
+    pub fn before(&self, characters: u64) -> Position
+        ensures { result ≡ position_before characters self.now }
+    {
+        Position {
+            line: self.line,
+            column: self.column.saturating_sub(characters),
+            offset: self.offset.saturating_sub(characters),
+        }
+    }
+}
+
+/// A parse error, and where it stands: at the character that the standard's tokenizer has come to when it tells it.
 #[derive(Clone, Copy, Debug, PartialEq, Eq)]
 pub struct ToldError {
     pub error: ParseError,

@@ -70,7 +70,7 @@ const ERRORS: &[Row] = &[
     ),
     (
         "\u{1f600}&noti\n</",
-        "1:7 9 missing-semicolon-after-character-reference\n2:3 12 eof-before-tag-name\n",
+        "1:6 8 missing-semicolon-after-character-reference\n2:3 12 eof-before-tag-name\n",
         0,
     ),
     (

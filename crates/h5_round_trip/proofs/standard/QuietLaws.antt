@@ -16,11 +16,12 @@ use Rattle.h5_states.specs.Machine.{turn}
 use Rattle.h5_states.specs.Reading as reading
 use Rattle.h5_states.specs.Reading.{Passes, ReaderPlace, after_token, behind, in_state, is_dropped, passed}
 use Rattle.h5_states.specs.ReferenceTable.{references}
-use Rattle.h5_states.specs.Spots.{is_inside, spot_again, spot_behind}
+use Rattle.h5_states.specs.Spots.{is_inside, position, spot_again, spot_behind}
 use Rattle.h5_states.specs.States.{State}
-use Rattle.h5_states.specs.Telling.{Reached, Reaches, again, at_first, begins, goes, hands_nothing, hands_text, hands_token}
+use Rattle.h5_states.specs.Telling.{Reached, Reaches, again, at_first, begins, goes, hands_nothing, hands_text, hands_token, row_errors, told_at_byte}
 use Rattle.h5_states.specs.Turn.{Consumed, Emitted, Outcome, Reconsumed, Turn}
 use Rattle.h5_states.specs.WithoutErrors.{HasNoInputErrors, a_character, no_character}
+use Rattle.h5_states.proofs.ToldLaws.{none_at_byte}
 use Rattle.h5_standard.proofs.EncodingLaws.{WideCharacter, encoded_wide, first_same}
 
 -- a row without errors
@@ -115,6 +116,9 @@ module _ {M : Type 0} (reply_to : M → TokenText → Reply) (after : M → Toke
   errors_of : {t : Turn} {deed : Outcome} → t ≡ quiet deed → [] ≡ t.errors
   errors_of e = sym (ap (λ (t : Turn). t.errors) e)
 
+  told_none : (p : ReaderPlace) (x : ℕ) (s : Spot) → [] ≡ row_errors references p x → [] ≡ told_at_byte references p (position p.line s) x []
+  told_none p x s e = sym (none_at_byte references p (position p.line s) x (sym e))
+
   -- rows without errors tell none
   pub quietly_on : {p q : ReaderPlace} {xs text ys : List ℕ} (held : List ℕ) (line : ℕ) (m : M) → PassesQuietly p xs text q ys → ComesQuietly held line p m xs → ComesQuietly (held ++ text) line q m ys
   quietly_on {q = q} {ys = ys} held line m quietly_passed c = subst (λ t. ComesQuietly t line q m ys) (sym (append-nil held)) c
@@ -124,7 +128,7 @@ module _ {M : Type 0} (reply_to : M → TokenText → Reply) (after : M → Toke
       (quietly_on (held ++ text) line m h (record {
         spot = spot_behind x c.spot;
         left = b.1;
-        reaches = goes text state c.reaches (record { goes_on = refl; front = refl; not_dropped = d; outcome = outcome_of e; input = []; input_errors = b.0; errors_are = errors_of e });
+        reaches = goes text state c.reaches (record { goes_on = refl; front = refl; not_dropped = d; outcome = outcome_of e; input = []; input_errors = b.0; errors_are = told_none p x c.spot (errors_of e) });
       }))
   quietly_on {q = q} {ys = ys} held line m (quietly_again {p} {x} {xs} {more} text state d e h) c =
       let b = met_byte c.spot.is_new x xs c.left in
@@ -132,7 +136,7 @@ module _ {M : Type 0} (reply_to : M → TokenText → Reply) (after : M → Toke
       (quietly_on (held ++ text) line m h (record {
         spot = spot_again c.spot;
         left = c.left;
-        reaches = again text state c.reaches (record { goes_on = refl; front = refl; not_dropped = d; outcome = outcome_of e; input = []; input_errors = b.0; errors_are = errors_of e });
+        reaches = again text state c.reaches (record { goes_on = refl; front = refl; not_dropped = d; outcome = outcome_of e; input = []; input_errors = b.0; errors_are = told_none p x c.spot (errors_of e) });
       }))
 
   -- nor does a text that is handed on
@@ -149,7 +153,7 @@ module _ {M : Type 0} (reply_to : M → TokenText → Reply) (after : M → Toke
       record {
         spot = spot_behind x c.spot;
         left = b.1;
-        reaches = hands_nothing (hands_token token state c.reaches refl (record { goes_on = refl; front = refl; not_dropped = d; outcome = outcome_of e; input = []; input_errors = b.0; errors_are = errors_of e })) on refl;
+        reaches = hands_nothing (hands_token token state c.reaches refl (record { goes_on = refl; front = refl; not_dropped = d; outcome = outcome_of e; input = []; input_errors = b.0; errors_are = told_none p x c.spot (errors_of e) })) on refl;
       }
 
 -- before all of such a text nothing is told

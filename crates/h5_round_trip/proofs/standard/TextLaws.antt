@@ -13,9 +13,9 @@ use Rattle.h5_states.specs.AtEnd.{at_end}
 use Rattle.h5_states.specs.End.{last_tokens}
 use Rattle.h5_states.specs.States.{NamedCharacterReference, ToData}
 use Rattle.h5_reading.specs.Told.{handed, told}
-use Rattle.h5_machine.proofs.MoreLaws.{passes_more}
 use Rattle.h5_states.specs.ReferenceTable.{references}
 use Rattle.h5_states.specs.Turn.{Consumed}
+use Rattle.h5_states.proofs.ReadLaws.{passes_join}
 use Rattle.h5_round_trip.specs.Readable.{IsReadable}
 use Rattle.h5_round_trip.proofs.CharLaws.{AreFree, AreKept, IsFree, None, byte_some, free_encode, kept, no_quote}
 use Rattle.h5_round_trip.proofs.standard.QuietLaws.{passes_of, quiet}
@@ -278,7 +278,7 @@ chars_end p c (d ∷ cs) k h =
       front = encode_utf8 c ++ r.front;
       back = r.back;
       place = r.place;
-      passes = passes_more (passes_of m.passes) r.passes;
+      passes = passes_join references (passes_of m.passes) r.passes;
       held = r.held;
       whole = append_assoc (encode_utf8 c) r.front r.back ∙ ap (λ l. encode_utf8 c ++ l) r.whole;
     }

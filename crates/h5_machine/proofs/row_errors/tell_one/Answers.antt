@@ -1,3 +1,5 @@
+use Rattle.std.proofs.Common.{[], ◌∷◌, subst}
+use Rattle.h5_states.specs.Told.{Tells}
 use Rattle.h5_states.proofs.ToldLaws.{tells_none}
 use Rattle.h5_machine.proofs.row_errors.tell_one.Goals as goal
 
@@ -5,4 +7,4 @@ pub returns-in-None : goal.returns-in-None
 returns-in-None g c = rw c.in-None.is (tells_none g.E.ErrorSink.Told c.args.errors.now)
 
 pub returns-in-Some : goal.returns-in-Some
-returns-in-Some g c = rw c.in-Some.is c.error.ensures
+returns-in-Some g c = rw c.in-Some.is (subst (λ at. Tells g.E.ErrorSink.Told c.args.errors.now c.error.new.self (record { error = c.in-Some.error; at = at } ∷ [])) c.error_position.ensures c.error.ensures)

@@ -1,0 +1,39 @@
+-- Where the errors of a row stand. The standard looks ahead in three states, and consumes none of what it sees there, while here it is kept
+-- in the state (`Ahead`). So an error that is told there stands before what was seen: before all of it, or right behind the name of a
+-- reference that was found.
+use Rattle.std.specs.Prelude.{ℕ, Bool, true, false, List, [], ◌∷◌, length, Option, Some, None, if◌then◌else◌}
+use Rattle.h5_states.specs.declared.errors.ParseError.{ParseError}
+use Rattle.h5_states.specs.declared.errors.ParseError.TheVariants.{IncorrectlyOpenedComment, InvalidCharacterSequenceAfterDoctypeName, MissingSemicolonAfterCharacterReference}
+use Rattle.h5_states.specs.declared.position.Position.{Position}
+use Rattle.h5_states.specs.declared.position.ToldError.{ToldError}
+use Rattle.h5_states.specs.References.{Reference, Longest, longest}
+use Rattle.h5_states.specs.Spots.{position_before}
+use Rattle.h5_states.specs.States.{State, MarkupDeclarationOpen, AfterDoctypeName, NamedCharacterReference}
+
+-- an error that is told where the standard looks ahead
+abbrev pub is_told_ahead : ParseError → Bool
+is_told_ahead IncorrectlyOpenedComment = true
+is_told_ahead InvalidCharacterSequenceAfterDoctypeName = true
+is_told_ahead MissingSemicolonAfterCharacterReference = true
+is_told_ahead error = false
+
+-- how much was seen behind a name that was found
+abbrev pub behind_found : Option Longest → ℕ
+behind_found None = 0
+behind_found (Some found) = length found.rest
+
+-- how much of what was seen the standard hasn't consumed
+abbrev pub seen_ahead : List Reference → State → ℕ
+seen_ahead table (MarkupDeclarationOpen seen) = length seen
+seen_ahead table (AfterDoctypeName doctype seen) = length seen
+seen_ahead table (NamedCharacterReference return seen) = behind_found (longest table seen)
+seen_ahead table state = 0
+
+-- where an error stands, so much behind the place where the standard tells such an error
+abbrev pub error_position : ℕ → Position → ParseError → Position
+error_position ahead at e = if is_told_ahead e then position_before ahead at else at
+
+-- the errors of a row, in their order
+abbrev pub told_of_row : ℕ → Position → List ParseError → List ToldError
+told_of_row ahead at [] = []
+told_of_row ahead at (e ∷ es) = record { error = e; at = error_position ahead at e } ∷ told_of_row ahead at es
