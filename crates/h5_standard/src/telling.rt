@@ -57,8 +57,9 @@ impl<Sink: TokenSink, E: ErrorSink> TellingTokenizer<Sink, E> {
     /// Reads what waits in the queue as `Tokenizer::feed` does, and tells the errors of each row that a byte meets, in their
     /// order, as standing at that byte, and before them those of the input stream at a character whose first byte is new.
     ///
-    /// Where the standard looks ahead, an error stands before what was seen. A position has the line as tokens have it, the column in code points from 1, and the offset in bytes of all that was
-    /// fed, a byte order mark included. After a fault what was told is not taken back.
+    /// Where the standard looks ahead, an error stands before what was seen. A position has the line as tokens have it, the column
+    /// in code points from 1, and the offset in bytes of all that was fed, a byte order mark included. After a fault what was told
+    /// is not taken back.
     pub fn feed(
         &mut self,
         input: &mut BufferQueue,

@@ -114,7 +114,7 @@ module _ {M : Type 0} (reply_to : M → TokenText → Reply) (after : M → Toke
   same_if p m n x true d h = record { tokens = refl; place = refl; is_consumed = refl; like = h }
   same_if p m n x false d h = same_by p m n x d h
 
-  same_move : (table : List Reference) (p : ReaderPlace) (m n : M) (x : ℕ) → alike m n → IsSameMove (move reply_to after foreign table p m x) (move reply_to after foreign table p n x)
+  pub same_move : (table : List Reference) (p : ReaderPlace) (m n : M) (x : ℕ) → alike m n → IsSameMove (move reply_to after foreign table p m x) (move reply_to after foreign table p n x)
   same_move table p m n x h = same_if p m n x (is_dropped p x) (outcome table p x) h
 
   -- what two such readings came to

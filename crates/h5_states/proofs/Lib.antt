@@ -12,5 +12,6 @@ pub mod TableLaws
 pub mod ErrorListLaws
 pub mod TellingLaws
 pub mod ToldLaws
+pub mod ToldCutLaws
 mod Outcomes
 mod Examples

@@ -26,4 +26,5 @@ pub mod InputErrors
 pub mod Telling
 pub mod ErrorList
 pub mod WithoutErrors
+pub mod WholeTelling
 pub mod SeenAhead

@@ -171,3 +171,30 @@ pub fn told_pieces_join<S: TokenSink>()
         → Reaches table S.reply_to S.after S.is_foreign (at_first q.place q.spot q.meaning (q.rest ++ more)) r errors
         → Reaches table S.reply_to S.after S.is_foreign (at_first p s m (xs ++ more)) r (told ++ errors) }
 {}
+
+ghost use Rattle.h5_states.specs.WholeTelling.{Tellings, TellsToEnd};
+
+/// Readings with their errors, and then one of what they left and of more input behind it, are readings of the whole input, also
+/// where an answer stopped one of them.
+pub fn tellings_join<S: TokenSink>()
+    ensures { (table : List Reference) (p : ReaderPlace) (s : Spot) (m : S.Meaning) (xs : List ℕ) (told : List ToldError) (q : ReaderPlace) (t : Spot)
+        (n : S.Meaning) (ys more : List ℕ) (r : Reached S.Meaning) (errors : List ToldError) →
+        Tellings table S.reply_to S.after S.is_foreign p s m xs told q t n ys
+        → Reaches table S.reply_to S.after S.is_foreign (at_first q t n (ys ++ more)) r errors
+        → refuses r.reply ≡ false → r.text ≡ []
+        → Tellings table S.reply_to S.after S.is_foreign p s m (xs ++ more) (told ++ errors) r.place r.spot r.meaning r.rest }
+{}
+
+/// How an input is cut doesn't matter for its errors: two readings of it to its end tell the same, in the same order, at the
+/// same places, over two meanings of a sink that are alike.
+///
+/// That holds for every equivalence of meanings for which `cuts_of_the_input_agree` holds.
+pub fn cuts_tell_the_same_errors<S: TokenSink, L: Likeness>()
+    ensures { (see : S.Meaning → L.Seen) →
+        IsBlindToCuts S.reply_to S.after S.is_foreign S.ended (λ m n. L.alike (see m) (see n))
+        → (table : List Reference) (p : ReaderPlace) (s : Spot) (m n : S.Meaning) (xs : List ℕ) (told others : List ToldError) →
+        L.alike (see m) (see n)
+        → TellsToEnd table S.reply_to S.after S.is_foreign p s m xs told
+        → TellsToEnd table S.reply_to S.after S.is_foreign p s n xs others
+        → told ≡ others }
+{}

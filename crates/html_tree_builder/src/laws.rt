@@ -32,7 +32,9 @@ pub use h5_round_trip::laws::{
     documents_are_read as documents_are_read_by_the_plain_reader, documents_are_written,
     values_are_read_back,
 };
-pub use h5_states::laws::{told_pieces_join, what_tells_errors_reads};
+pub use h5_states::laws::{
+    cuts_tell_the_same_errors, tellings_join, told_pieces_join, what_tells_errors_reads,
+};
 
 /// What is written of a plain document comes back, whichever reader reads it, if no `pre` of it begins with a newline: a reader drops
 /// one there, and a serializer writes it once. Where one that can be read stands in a forest, and what a serializer writes of it
