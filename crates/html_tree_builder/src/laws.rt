@@ -25,7 +25,8 @@ pub use h5_laws::laws::{
 };
 pub use h5_plain::laws::documents_are_rebuilt;
 pub use h5_round_trip::laws::standard::{
-    documents_are_read, documents_are_read_without_errors, markup_is_read_alike,
+    documents_are_read, documents_are_read_without_errors, documents_tell_no_errors,
+    markup_is_read_alike,
 };
 pub use h5_round_trip::laws::{
     different_documents_have_different_texts,

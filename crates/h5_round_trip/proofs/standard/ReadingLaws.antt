@@ -6,6 +6,7 @@ use Rattle.h5_token.specs.Reply.{Reply, Continues, TurnsRaw}
 use Rattle.h5_token.specs.declared.states.RawKind.TheVariants.{Rcdata}
 use Rattle.h5_serialize.specs.Escape.{escape}
 use Rattle.h5_reading.specs.Answers.{goes_on}
+use Rattle.h5_reading.specs.Blindness.{IsBlindToCuts}
 use Rattle.h5_reading.specs.Options.{default_options}
 use Rattle.h5_reading.specs.Told.{after_all, handed, told}
 use Rattle.h5_reading.proofs.AnswerLaws.{unrefused}
@@ -14,11 +15,16 @@ use Rattle.h5_states.specs.End.{last_tokens}
 use Rattle.h5_states.specs.AtEnd.{at_end}
 use Rattle.h5_states.specs.Reading.{Passes, ReaderPlace, Read, after_token, behind, chosen_state, nothing_read, quiet_step, read_on, text_step, token_step}
 use Rattle.h5_states.specs.ReferenceTable.{references}
-use Rattle.h5_states.specs.States.{Text as TextState}
+use Rattle.h5_states.specs.States.{State, Text as TextState}
 use Rattle.h5_states.specs.Whole.{ReadsToEnd, more_reading, no_reading}
 use Rattle.h5_states.specs.WithoutErrors.{HasNoInputErrors, ReadsWithoutErrors}
+use Rattle.h5_states.specs.SeenAhead.{seen_ahead, told_of_row}
+use Rattle.h5_states.specs.Spots.{position}
 use Rattle.h5_states.specs.Telling.{at_first}
+use Rattle.h5_states.specs.WholeTelling.{TellsToEnd, more_telling, no_telling}
 use Rattle.h5_states.specs.declared.position.Spot.{Spot}
+use Rattle.h5_states.specs.declared.position.ToldError.{ToldError}
+use Rattle.h5_states.proofs.ToldCutLaws.{told_agree}
 use Rattle.h5_standard.specs.Options.{first_place}
 use Rattle.h5_plain.specs.Plain.{ArePlain, ElementThen, End, Nodes, PlainDocument, TextThen, as_written, document_tokens, end_tag, fragment_tokens, has_end_tag, is_start_of_title, plain_doctype, plain_reply, root_of, start_tag, tokens_before}
 use Rattle.h5_round_trip.specs.Answers.{Answers}
@@ -351,6 +357,20 @@ module _ {M : Type 0} (reply_to : M → TokenText → Reply) (after : M → Toke
         none_at_end = ap (λ s. (at_end references s).errors) r.is_in.at;
       }
 
+  -- up to the end nothing was told
+  ends_telling_none : (p : ReaderPlace) (m : M) (xs : List ℕ) (all : List TokenText) (s : Spot) → HasNoInputErrors xs → Reached p m xs all false (EndOfFile ∷ []) []
+      → TellsToEnd references reply_to after foreign p s m xs []
+  ends_telling_none p m xs all s none r =
+      let c = r.quietly s none in
+      record {
+        errors = [];
+        place = r.place;
+        spot = c.spot;
+        meaning = r.meaning;
+        tellings = more_telling no_telling c.reaches refl refl;
+        told_are = sym (ap (λ (state : State). told_of_row (seen_ahead references state) (position r.place.line c.spot) (at_end references state).errors) r.is_in.at);
+      }
+
   -- all of a document's text was read
   document_reached : (d : PlainDocument) (m : M) → IsReadableDocument d → Answers reply_to after m (document_tokens d) → Reached (first_place default_options) m (written_of d) (document_tokens d) false (EndOfFile ∷ []) []
   document_reached d m readable answers =
@@ -380,6 +400,13 @@ module _ {M : Type 0} (reply_to : M → TokenText → Reply) (after : M → Toke
   pub document_quietly : (d : PlainDocument) (m : M) (s : Spot) → IsReadableDocument d → Answers reply_to after m (document_tokens d) → HasNoInputErrors (written_of d)
       → ReadsWithoutErrors references reply_to after foreign (first_place default_options) s m (written_of d)
   document_quietly d m s readable answers none = ends_quietly (first_place default_options) m (written_of d) (document_tokens d) s none (document_reached d m readable answers)
+
+  -- however it is read to its end, none is told
+  pub document_tells_none : (alike : M → M → Type 0) → IsBlindToCuts reply_to after foreign ended alike → (d : PlainDocument) (m : M) (s : Spot) (told : List ToldError) → IsReadableDocument d
+      → Answers reply_to after m (document_tokens d) → HasNoInputErrors (written_of d) → TellsToEnd references reply_to after foreign (first_place default_options) s m (written_of d) told → told ≡ []
+  document_tells_none alike blind d m s told readable answers none tells =
+      told_agree reply_to after foreign ended alike blind references (first_place default_options) s m m (written_of d) told [] (blind.reflexive m) tells
+      (ends_telling_none (first_place default_options) m (written_of d) (document_tokens d) s none (document_reached d m readable answers))
 
   -- read to the end, by all tokens but that the last text may come in two parts
   pub record ReadsCut (p : ReaderPlace) (m : M) (xs : List ℕ) (all : List TokenText) : Type 0 where

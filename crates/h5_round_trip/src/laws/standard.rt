@@ -1,15 +1,18 @@
 //! The laws of reading by the standard, each the contract of a function that does nothing.
-ghost use Rattle.std.specs.Prelude.{◌≡◌, List, false, true};
+ghost use Rattle.std.specs.Prelude.{◌≡◌, List, [], false, true};
 ghost use Rattle.h5_token.specs.TokenText.{TokenText};
 ghost use Rattle.h5_token.specs.Joins.{join};
 ghost use Rattle.h5_round_trip.specs.Fragment.{AnswersCuts};
+ghost use Rattle.h5_reading.specs.Blindness.{IsBlindToCuts};
 ghost use Rattle.h5_reading.specs.Options.{default_options};
 ghost use Rattle.h5_tokenizer.specs.Options as plain;
 ghost use Rattle.h5_tokenizer.specs.Whole as plain_reader;
 ghost use Rattle.h5_states.specs.ReferenceTable.{references};
 ghost use Rattle.h5_states.specs.Whole.{ReadsToEnd};
 ghost use Rattle.h5_states.specs.WithoutErrors.{HasNoInputErrors, ReadsWithoutErrors};
+ghost use Rattle.h5_states.specs.WholeTelling.{TellsToEnd};
 ghost use Rattle.h5_states.specs.declared.position.Spot.{Spot};
+ghost use Rattle.h5_states.specs.declared.position.ToldError.{ToldError};
 ghost use Rattle.h5_standard.specs.Options.{first_place};
 ghost use Rattle.h5_plain.specs.Plain.{Flow, IsPlain, Nodes, PlainDocument, document_tokens, fragment_tokens, nothing_open};
 ghost use Rattle.h5_round_trip.specs.Answers.{Answers};
@@ -17,6 +20,7 @@ ghost use Rattle.h5_round_trip.specs.Readable.{CanBeRead, IsReadableDocument};
 ghost use Rattle.h5_round_trip.specs.Written.{written_fragment, written_of};
 ghost use Rattle.h5_round_trip.specs.Markup.{AreMarks, Mark, page_tokens, written_page};
 
+use h5_reading::Likeness;
 use h5_token::TokenSink;
 
 /// The text of a plain document is read by the standard's states as the document's tokens, over a taker that answers as a
@@ -33,6 +37,16 @@ pub fn documents_are_read_without_errors<S: TokenSink>()
     ensures { (d : PlainDocument) (m : S.Meaning) (s : Spot) → IsReadableDocument d → Answers S.reply_to S.after m (document_tokens d)
         → HasNoInputErrors (written_of d)
         → ReadsWithoutErrors references S.reply_to S.after S.is_foreign (first_place default_options) s m (written_of d) }
+{}
+
+/// However that text is read to its end, in whatever pieces, no parse error is told of it, over a taker that doesn't see how texts are
+/// cut.
+pub fn documents_tell_no_errors<S: TokenSink, L: Likeness>()
+    ensures { (see : S.Meaning → L.Seen) → IsBlindToCuts S.reply_to S.after S.is_foreign S.ended (λ m n. L.alike (see m) (see n))
+        → (d : PlainDocument) (m : S.Meaning) (s : Spot) (told : List ToldError) → IsReadableDocument d → Answers S.reply_to S.after m (document_tokens d)
+        → HasNoInputErrors (written_of d)
+        → TellsToEnd references S.reply_to S.after S.is_foreign (first_place default_options) s m (written_of d) told
+        → told ≡ [] }
 {}
 
 /// Both readers read markup alike that is written as a serializer writes it: of its text the plain reader and the standard's
