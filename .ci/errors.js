@@ -15,10 +15,24 @@ function readCdata(parser) {
   };
 }
 
+// "Any other end tag" in a body (13.2.6.4.7) ends elements of HTML alone, and goes no further than to a special one. parse5 ends an
+// integration point, too, as the `title` of `<svg><title><b></title>`.
+function endHtmlAlone(parser) {
+  const usual = parser._endTagOutsideForeignContent;
+  parser._endTagOutsideForeignContent = function (token) {
+    const {items, tagIDs, stackTop} = this.openElements, adapter = this.treeAdapter;
+    const isNamed = i => adapter.getTagName(items[i]) === token.tagName;
+    let i = stackTop;
+    while (i > 0 && !isNamed(i) && !this._isSpecialElement(items[i], tagIDs[i])) i--;
+    if (i <= 0 || !isNamed(i) || adapter.getNamespaceURI(items[i]) === parse5.html.NS.HTML) usual.call(this, token);
+  };
+}
+
 function errorsOf(text) {
   const errors = [];
   const parser = new parse5.Parser({scriptingEnabled: true, onParseError: e => errors.push([e.code, e.startLine, e.startCol])});
   readCdata(parser);
+  endHtmlAlone(parser);
   parser.tokenizer.write(text, true);
   return errors;
 }
