@@ -11,6 +11,7 @@ index a file of src/ and one of specs/.
 import os
 import re
 import sys
+import unicodedata
 
 CRATE = os.path.dirname(os.path.abspath(__file__))
 WIDTH = 118
@@ -138,7 +139,7 @@ def index_files(kind, name, rows):
     if kind == "index":
         names = names_of(name, "index", rows)
         names["constant"] = constant(name)
-        names["rows"] = filled(f"'\\u{{{code:04X}}}'," if code else "'\\0'," for code in rows)
+        names["rows"] = hundreds([literal(code) + "," for code in rows])
         code, closed = INDEX, CLOSED_INDEX
     else:
         names = names_of(name, "ranges", rows)
@@ -177,6 +178,21 @@ def variant(name):
 
 def constant(name):
     return name.upper().replace("-", "_")
+
+
+def literal(code):
+    """A character as it is written in a source: itself where it is seen and stands alone, and else by its number."""
+    character = chr(code)
+    if code == 0:
+        return "'\\0'"
+    if unicodedata.category(character)[0] in "LNPS" and character not in "'\\":
+        return f"'{character}'"
+    return f"'\\u{{{code:X}}}'"
+
+
+def hundreds(words):
+    """Rows of a hundred: what `rt` reckons as a crate's memory goes by its lines."""
+    return "".join(f"    {' '.join(words[at:at + 100])}\n" for at in range(0, len(words), 100))
 
 
 def filled(words):
@@ -248,7 +264,7 @@ def halves_file(encodings):
     out = HALVES_HEAD
     for half, name in first.items():
         out += f"#[rattlefmt::skip]\npub static {name}: [char; 128] = [\n"
-        out += filled(f"'\\u{{{character:04X}}}'," for character in half) + "];\n\n"
+        out += filled(literal(character) + "," for character in half) + "];\n\n"
     out += HALF_OF + "".join(f"        SingleByte::{variant(name)} => &{half},\n" for name, half in names.items())
     return out + "    }\n}\n"
 
