@@ -24,13 +24,6 @@ fn new_parser(alloc: Global) -> Result<PageParser, AllocError> {
     Ok(BytesParser::new(alloc, parser, EncodingOpts::default()))
 }
 
-// A parser that took these bytes.
-fn fed(parser: PageParser, bytes: &[u8]) -> Result<PageParser, BuildFault> {
-    let mut parser = parser;
-    parser.process(bytes)?;
-    Ok(parser)
-}
-
 #[test]
 fn a_page_is_read_in_the_encoding_that_it_says(rt: HostRuntime) -> Result<(), Fail> {
     let arena = new_parser(rt.alloc())?.one(PAGE)?;
@@ -39,16 +32,25 @@ fn a_page_is_read_in_the_encoding_that_it_says(rt: HostRuntime) -> Result<(), Fa
     Ok(())
 }
 
+// What is told of the encoding before it is decided.
+fn decide(parser: &mut PageParser) -> Result<bool, BuildFault> {
+    parser.process(PAGE)?;
+    let undecided = parser.encoding().is_none();
+    parser.process(&BLANKS)?;
+    Ok(undecided)
+}
+
 #[test]
 fn the_encoding_is_told_once_it_is_decided(rt: HostRuntime) -> Result<(), Fail> {
-    let parser = fed(new_parser(rt.alloc())?, PAGE)?;
-    assert!(rt; parser.encoding().is_none());
-    let parser = fed(parser, &BLANKS)?;
+    let mut parser = new_parser(rt.alloc())?;
+    let undecided = decide(&mut parser);
     let koi8_r = Encoding::SingleByte(SingleByte::Koi8R);
     assert!(rt; parser.encoding() == Some((koi8_r, Source::Meta)));
     assert!(rt; !parser.has_errors());
     assert_eq!(rt; parser.replaced(), 0);
     let arena = parser.finish()?;
     assert!(rt; arena.len() > 1);
+    drop(arena);
+    assert!(rt; undecided?);
     Ok(())
 }
