@@ -11,7 +11,7 @@ use std::alloc::{AllocError, Global};
 use std::marker::Model;
 
 /// A policy that is a table: what isn't listed isn't let through. An entry that stands twice counts once.
-#[derive(Debug, Drop)]
+#[derive(Debug)]
 pub struct AllowList {
     alloc: Global,
     elements: NameList,
@@ -24,6 +24,24 @@ pub struct AllowList {
     rel: Option<String>,
     prefix: Option<String>,
     depth: usize,
+}
+
+impl Drop for AllowList {
+    fn drop(self) {
+        let AllowList {
+            alloc: _alloc,
+            elements: _elements,
+            dropped: _dropped,
+            attributes: _attributes,
+            attributes_of: _attributes_of,
+            urls: _urls,
+            schemes: _schemes,
+            relative: _relative,
+            rel: _rel,
+            prefix: _prefix,
+            depth: _depth,
+        } = self;
+    }
 }
 
 impl Model for AllowList {

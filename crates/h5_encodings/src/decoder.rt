@@ -34,13 +34,24 @@ fn is_utf8(encoding: Encoding) -> bool
 /// A decoder of bytes that come in chunks: U+FFFD stands for each error, as the decoder of the encoding tells them (Encoding
 /// Standard, section 6, "decode without BOM"). How the bytes are cut into chunks doesn't matter. A byte order mark is a
 /// character like others, and stays.
-#[derive(Drop)]
 pub struct Decoder {
     encoding: Encoding,
     utf8: Utf8LossyDecoder,
     kept: Kept,
     replaced: u64,
     alloc: Global,
+}
+
+impl Drop for Decoder {
+    fn drop(self) {
+        let Decoder {
+            encoding: _encoding,
+            utf8: _utf8,
+            kept: _kept,
+            replaced: _replaced,
+            alloc: _alloc,
+        } = self;
+    }
 }
 
 impl Model for Decoder {
@@ -109,9 +120,16 @@ impl Decoder {
     pub fn finish(self) -> &'static str
         ensures { result.now ≡ text_from self [] }
     {
-        if is_utf8(self.encoding) {
-            return self.utf8.finish();
+        let Decoder {
+            encoding,
+            utf8,
+            kept,
+            replaced: _replaced,
+            alloc: _alloc,
+        } = self;
+        if is_utf8(encoding) {
+            return utf8.finish();
         }
-        text_at_end(self.encoding, self.kept)
+        text_at_end(encoding, kept)
     }
 }

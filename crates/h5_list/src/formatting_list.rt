@@ -34,10 +34,18 @@ const MOST_ALIKE: usize = 3;
 /// of each entry which others may be alike.
 ///
 /// Contracts see it as the list of its entries, the oldest first. Places are counted from the oldest.
-#[derive(Drop)]
 pub struct FormattingList<Handle> {
     entries: Vec<FormatEntry<Handle>>,
     index: Option<Index>,
+}
+
+impl<Handle: Drop> Drop for FormattingList<Handle> {
+    fn drop(self) {
+        let FormattingList {
+            entries: _entries,
+            index: _index,
+        } = self;
+    }
 }
 
 impl<Handle> Model for FormattingList<Handle> {

@@ -48,10 +48,18 @@ struct Field {
 }
 
 /// One thing that a page lists.
-#[derive(Drop)]
 pub struct Item {
     fields: Vec<Field>,
     alloc: Global,
+}
+
+impl Drop for Item {
+    fn drop(self) {
+        let Item {
+            fields: _fields,
+            alloc: _alloc,
+        } = self;
+    }
 }
 
 impl Item {

@@ -13,10 +13,18 @@ pub enum Page<'a> {
 }
 
 /// A record of a page.
-#[derive(Drop)]
 pub struct Record {
     value: Value,
     alloc: Global,
+}
+
+impl Drop for Record {
+    fn drop(self) {
+        let Record {
+            value: _value,
+            alloc: _alloc,
+        } = self;
+    }
 }
 
 impl Record {

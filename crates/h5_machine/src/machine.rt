@@ -46,7 +46,6 @@ use std::marker::Model;
 use std::mem;
 
 /// The machine of the standard's section 13.2.5.
-#[derive(Drop)]
 pub struct Machine {
     pub(crate) at: MachineState,
     // The last start tag's name, or the empty text.
@@ -65,6 +64,24 @@ pub struct Machine {
     line: u64,
     // The line in which what has not been handed on yet began.
     began: u64,
+}
+
+impl Drop for Machine {
+    fn drop(self) {
+        let Machine {
+            at: _at,
+            last: _last,
+            names: _names,
+            tag: _tag,
+            comment: _comment,
+            doctype: _doctype,
+            reference: _reference,
+            buffer: _buffer,
+            after_return: _after_return,
+            line: _line,
+            began: _began,
+        } = self;
+    }
 }
 
 impl Model for Machine {

@@ -24,10 +24,18 @@ use std::marker::Model;
 ///
 /// Each call asks a node of the arena, as `Arena::holds` tells, and changes nothing. Its only error is an `AllocError`, where memory is
 /// refused.
-#[derive(Drop)]
 pub struct Selector {
     list: Vec<Formula>,
     alloc: Global,
+}
+
+impl Drop for Selector {
+    fn drop(self) {
+        let Selector {
+            list: _list,
+            alloc: _alloc,
+        } = self;
+    }
 }
 
 impl Model for Selector {

@@ -14,12 +14,21 @@ use std::marker::Model;
 use std::mem;
 
 /// Where the reader is, and whether it still reads. It keeps nothing of its input.
-#[derive(Drop)]
 pub struct Reader {
     // Whether a byte order mark may still come.
     pub at_start: bool,
     pub machine: Machine,
     pub stage: Stage,
+}
+
+impl Drop for Reader {
+    fn drop(self) {
+        let Reader {
+            at_start: _at_start,
+            machine: _machine,
+            stage: _stage,
+        } = self;
+    }
 }
 
 impl Model for Reader {

@@ -8,11 +8,20 @@ use super::position::{Position, ToldError};
 use std::alloc::Global;
 
 /// The first errors that are told, up to a limit, and how many come behind them.
-#[derive(Drop)]
 pub struct Errors {
     kept: Vec<ToldError>,
     limit: usize,
     more: u64,
+}
+
+impl Drop for Errors {
+    fn drop(self) {
+        let Errors {
+            kept: _kept,
+            limit: _limit,
+            more: _more,
+        } = self;
+    }
 }
 
 impl Errors {

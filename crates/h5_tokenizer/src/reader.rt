@@ -12,13 +12,23 @@ use std::marker::Model;
 use std::mem;
 
 /// Where the reader is, what it keeps undecided, and whether it still reads.
-#[derive(Drop)]
 pub struct Reader {
     pub state: State,
     pub held: BufferQueue,
     // How far the end of what stands at the front of it was looked for.
     pub search: Option<Search>,
     pub stage: Stage,
+}
+
+impl Drop for Reader {
+    fn drop(self) {
+        let Reader {
+            state: _state,
+            held: _held,
+            search: _search,
+            stage: _stage,
+        } = self;
+    }
 }
 
 impl Model for Reader {

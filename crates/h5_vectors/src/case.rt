@@ -80,11 +80,22 @@ pub struct Expected {
 }
 
 /// A case, with the number of its first line and what it is about.
-#[derive(Drop)]
 pub struct Case {
     pub line: u64,
     pub about: String,
     pub input: Input,
     pub settings: Settings,
     pub expected: Vec<Expected>,
+}
+
+impl Drop for Case {
+    fn drop(self) {
+        let Case {
+            line: _line,
+            about: _about,
+            input: _input,
+            settings: _settings,
+            expected: _expected,
+        } = self;
+    }
 }

@@ -8,7 +8,6 @@ use anyhow::{Result, bail, ensure};
 use std::alloc::{AllocError, Global};
 
 /// What the sections of a case said so far.
-#[derive(Drop)]
 pub struct Draft {
     line: u64,
     about: String,
@@ -17,6 +16,20 @@ pub struct Draft {
     settings: Settings,
     expected: Vec<Expected>,
     alloc: Global,
+}
+
+impl Drop for Draft {
+    fn drop(self) {
+        let Draft {
+            line: _line,
+            about: _about,
+            repeats: _repeats,
+            input: _input,
+            settings: _settings,
+            expected: _expected,
+            alloc: _alloc,
+        } = self;
+    }
 }
 
 // The HTML of a page whose body holds this.
@@ -239,9 +252,11 @@ impl Draft {
         let Draft {
             line,
             about,
+            repeats: _repeats,
+            input: _input,
             settings,
             expected,
-            ..
+            alloc: _alloc,
         } = self;
         Case {
             line,

@@ -10,12 +10,22 @@ use h5_token::{BuildFault, Token};
 use std::alloc::{AllocError, Global};
 
 /// How lists are taken, and the lines of replies that came, each once.
-#[derive(Drop)]
 struct Lists<'a> {
     settings: &'a Settings,
     lines: &'a str,
     replies: String,
     alloc: Global,
+}
+
+impl<'a> Drop for Lists<'a> {
+    fn drop(self) {
+        let Lists {
+            settings: _settings,
+            lines: _lines,
+            replies: _replies,
+            alloc: _alloc,
+        } = self;
+    }
 }
 
 // Prints a refusal, and a line if it changed the printed tree, which was this one before.
@@ -148,6 +158,17 @@ impl Lists<'_> {
         }
         Ok(())
     }
+
+    // The lines of replies.
+    fn into_replies(self) -> String {
+        let Lists {
+            settings: _settings,
+            lines: _lines,
+            replies,
+            alloc: _alloc,
+        } = self;
+        replies
+    }
 }
 
 // The replies that came in any list of three lines, each once.
@@ -159,8 +180,7 @@ fn replies_to(alloc: Global, settings: &Settings, lines: &str) -> Result<String>
         alloc,
     };
     lists.take_all()?;
-    let Lists { replies, .. } = lists;
-    Ok(replies)
+    Ok(lists.into_replies())
 }
 
 /// What every list of three lines makes, each with a builder of its own: the replies that came, each once, and no tree.

@@ -9,7 +9,6 @@ use h5_token::states::State;
 use std::alloc::{AllocError, Global};
 
 /// What a run made.
-#[derive(Drop)]
 pub struct Made {
     arena: Arena,
     /// How the text of a fragment is read.
@@ -20,6 +19,18 @@ pub struct Made {
     turns: String,
     /// How many elements the sink was told of at the end.
     pops: usize,
+}
+
+impl Drop for Made {
+    fn drop(self) {
+        let Made {
+            arena: _arena,
+            state: _state,
+            replies: _replies,
+            turns: _turns,
+            pops: _pops,
+        } = self;
+    }
 }
 
 // How a text is read, where that is told.

@@ -23,13 +23,23 @@ pub struct Context {
 }
 
 /// The context of a fragment, where there is one, and options.
-#[derive(Drop)]
 pub struct Settings {
     pub context: Option<Context>,
     pub discard_bom: bool,
     pub tree_builder: TreeBuilderOpts,
     /// Whether each call of the sink that may find no memory is refused in turn, too.
     pub refuses_each: bool,
+}
+
+impl Drop for Settings {
+    fn drop(self) {
+        let Settings {
+            context: _context,
+            discard_bom: _discard_bom,
+            tree_builder: _tree_builder,
+            refuses_each: _refuses_each,
+        } = self;
+    }
 }
 
 impl Settings {

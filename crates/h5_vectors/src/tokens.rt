@@ -16,7 +16,6 @@ use std::fmt::Write;
 use std::mem;
 
 /// A builder, how many tokens came, and the lines of replies and of turns.
-#[derive(Drop)]
 struct Taker {
     builder: Builder,
     /// How the text of a fragment is read.
@@ -29,6 +28,21 @@ struct Taker {
     /// How many elements the sink was told of at the end.
     pops: usize,
     alloc: Global,
+}
+
+impl Drop for Taker {
+    fn drop(self) {
+        let Taker {
+            builder: _builder,
+            state: _state,
+            number: _number,
+            waiting: _waiting,
+            replies: _replies,
+            turns: _turns,
+            pops: _pops,
+            alloc: _alloc,
+        } = self;
+    }
 }
 
 // A list of one token.
@@ -225,20 +239,27 @@ impl Taker {
         self.pops = self.pops.saturating_add(told);
     }
 
+    // What was made.
+    fn into_made(self) -> Made {
+        let Taker {
+            builder,
+            state,
+            number: _number,
+            waiting: _waiting,
+            replies,
+            turns,
+            pops,
+            alloc: _alloc,
+        } = self;
+        let arena = builder.into_sink().finish();
+        Made::by_tokens(arena, state, replies, turns, pops)
+    }
+
     // Tells the builder of the end, and gives what was made.
     fn finish(self) -> Made {
         let mut taker = self;
         taker.end();
-        let Taker {
-            builder,
-            state,
-            replies,
-            turns,
-            pops,
-            ..
-        } = taker;
-        let arena = builder.into_sink().finish();
-        Made::by_tokens(arena, state, replies, turns, pops)
+        taker.into_made()
     }
 }
 

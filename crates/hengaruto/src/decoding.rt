@@ -13,13 +13,22 @@ pub struct HowRead {
 }
 
 /// The text of a page whose bytes come in chunks.
-#[derive(Drop)]
 pub struct PageText {
     decoder: Decoder,
     // The two bytes before the next chunk, which may begin a U+FFFD that the page has.
     before: [u8; 2],
     // How many U+FFFD have stood for bytes of UTF-8. Of other encodings the decoder tells it.
     replaced: u64,
+}
+
+impl Drop for PageText {
+    fn drop(self) {
+        let PageText {
+            decoder: _decoder,
+            before: _before,
+            replaced: _replaced,
+        } = self;
+    }
 }
 
 // Whether a text has the byte with which a U+FFFD begins. Most texts don't.
@@ -91,9 +100,14 @@ impl PageText {
 
     /// The text of what is left at the end, and how the page was read.
     pub fn finish(self) -> (&'static str, HowRead) {
-        let encoding = self.decoder.encoding();
-        let replaced = self.replaced.saturating_add(self.decoder.replaced());
-        let rest = self.decoder.finish();
+        let PageText {
+            decoder,
+            before: _before,
+            replaced,
+        } = self;
+        let encoding = decoder.encoding();
+        let replaced = replaced.saturating_add(decoder.replaced());
+        let rest = decoder.finish();
         let how = HowRead {
             encoding,
             replaced: replaced.saturating_add(marks_in(rest)),

@@ -88,7 +88,6 @@ impl<S: TokenSink + Counting> TokenSink for Lined<S> {
 }
 
 /// The parse errors of a page.
-#[derive(Drop)]
 pub struct PageErrors {
     /// Those of tokenization.
     pub told: Errors,
@@ -96,6 +95,16 @@ pub struct PageErrors {
     pub tree: Arena,
     /// The lines of these.
     pub lines: Vec<u64>,
+}
+
+impl Drop for PageErrors {
+    fn drop(self) {
+        let PageErrors {
+            told: _told,
+            tree: _tree,
+            lines: _lines,
+        } = self;
+    }
 }
 
 impl Lined<Builder> {

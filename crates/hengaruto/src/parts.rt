@@ -8,11 +8,20 @@ use std::io::{self, Write};
 const PART: usize = 65_536;
 
 /// A writer over another one that hands on what it is given in parts, and keeps the error that stopped it.
-#[derive(Drop)]
 pub struct Parts<'a, W: Write> {
     out: &'a mut W,
     part: Vec<u8>,
     error: Option<io::Error>,
+}
+
+impl<'a, W: Write> Drop for Parts<'a, W> {
+    fn drop(self) {
+        let Parts {
+            out: _out,
+            part: _part,
+            error: _error,
+        } = self;
+    }
 }
 
 impl<'a, W: Write> Parts<'a, W> {
