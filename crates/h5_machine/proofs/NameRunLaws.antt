@@ -12,8 +12,8 @@ use Rattle.h5_states.specs.Reading.{ReaderPlace, Passes, passed, goes, outcome, 
 use Rattle.h5_states.specs.States.{NamedCharacterReference, Return}
 use Rattle.h5_states.specs.Machine.{turn}
 use Rattle.h5_states.specs.Turn.{Consumed, to}
-use Rattle.h5_references.proofs.LongestLemmas.{beginning_shorter}
-use Rattle.h5_references.proofs.NameLaws.{is_name_byte, beginning_has_name_bytes}
+use Rattle.h5_machine.proofs.LongestLemmas.{beginning_shorter}
+use Rattle.h5_machine.proofs.ReferenceNameLaws.{is_name_byte, beginning_has_name_bytes}
 use Rattle.h5_machine.specs.MachineText.{MachineText, place_of, PassesRun}
 use Rattle.h5_machine.specs.StateOf.{return_of}
 use Rattle.h5_machine.specs.declared.machine_state.MachineState.TheVariants as at

@@ -5,8 +5,8 @@ use Rattle.std.specs.Prelude.{Option, Some, None, length, if◌then◌else◌}
 use Rattle.std.specs.List.{list_all}
 use Rattle.std.specs.Str.{IsAscii}
 use Rattle.h5_names.specs.AttributeText.{is_same_text}
-use Rattle.h5_references.specs.declared.search.Named.{Named}
-use Rattle.h5_references.specs.Found.{found_in}
+use Rattle.h5_machine.specs.declared.search.Named.{Named}
+use Rattle.h5_machine.specs.Found.{found_in}
 use Rattle.h5_states.specs.References.{Reference, Longest, is_beginning, longest, longest_within, meaning_of, or_shorter}
 use Rattle.h5_states.specs.ReferenceTable.{references}
 use Rattle.h5_states.specs.Words.{begins, same}

@@ -8,23 +8,38 @@
 //! attributes that are.
 //!
 //! It hands nothing on itself: `h5_standard` does. Begin with `src/machine.rt`, then read a chapter beside its definition.
+//!
+//! The named character references of HTML (HTML standard, sections 13.2.5.73 and 13.5), and the search for the longest name.
+//!
+//! `numbers` has the 2,231 names and their texts as bytes one behind the other, and where each begins; `write_table.py` writes
+//! it out of the definition's list. `table` has a reference by its number, `candidates` those that begin with what was seen,
+//! `common` the few names that most texts have, and `search` what a reader asks for. `proofs/NameLaws.antt` says how names
+//! are spelled.
+//!
+//! It stands on `h5_states`, whose `specs/ReferenceTable.antt` is the list. Begin with `specs/Candidates.antt` and
+//! `src/search.rt`.
 #![tactic(auto)]
 
+mod candidates;
 mod codes;
 mod comments;
+mod common;
 mod doctype_errors;
 mod doctypes;
 mod end_errors;
 mod ending;
 mod machine;
 mod machine_state;
+mod numbers;
 mod open_name;
 mod quoted;
 mod reference_errors;
 mod references;
 mod row_errors;
 mod runs;
+mod search;
 mod signs;
+mod table;
 mod tag;
 mod tag_errors;
 mod tags;
@@ -36,5 +51,6 @@ mod wide;
 
 pub use ending::end_of;
 pub use machine::{Machine, Step};
+pub use search::{Named, further_len, is_beginning, longest, seen_len};
 pub use telling::tell_input_error;
 pub use transition::CurrentToken;

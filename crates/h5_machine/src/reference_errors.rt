@@ -9,7 +9,7 @@ ghost use Rattle.h5_states.specs.References.{longest};
 ghost use Rattle.h5_states.specs.ReferenceTable.{references};
 ghost use Rattle.h5_states.specs.SeenAhead.{behind_found, seen_ahead};
 ghost use Rattle.h5_states.specs.States.{Return};
-ghost use Rattle.h5_references.specs.Found.{found_in};
+ghost use Rattle.h5_machine.specs.Found.{found_in};
 ghost use Rattle.h5_machine.specs.Flushing.{behind_digits};
 ghost use Rattle.h5_states.specs.Told.{if_any};
 ghost use Rattle.h5_machine.specs.StateOf.{reference_state_of, return_of};
@@ -19,7 +19,7 @@ use super::machine_state::{ReferenceState, ReturnTo};
 use super::references::{OpenReference, is_closed, is_historical, split_found};
 use super::row_errors::only_if;
 use super::signs::is_hex_digit;
-use h5_references::{Named, further_len, longest};
+use crate::{Named, further_len, longest};
 use h5_states::ParseError;
 
 // Whether a name of the table begins with what was seen and this byte.

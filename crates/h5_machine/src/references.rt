@@ -7,7 +7,7 @@ ghost use Rattle.h5_states.specs.Machine.{turn};
 ghost use Rattle.h5_states.specs.References as r;
 ghost use Rattle.h5_states.specs.References.{longest};
 ghost use Rattle.h5_states.specs.ReferenceTable.{references};
-ghost use Rattle.h5_references.specs.Found.{found_in};
+ghost use Rattle.h5_machine.specs.Found.{found_in};
 ghost use Rattle.h5_machine.specs.StateOf.{reference_state_of, return_of};
 ghost use Rattle.h5_machine.specs.Flushing.{Flushes, DoesReference, DoesSeen, DoesCode, DoesFlush, behind_digits, text_named};
 
@@ -16,7 +16,7 @@ use super::machine_state::{MachineState, ReferenceState, ReturnTo, returned};
 use super::signs::{is_alphanumeric, is_hex_digit, push_byte};
 use super::tag::OpenTag;
 use super::transition::Transition;
-use h5_references::{Named, is_beginning, longest};
+use crate::{Named, is_beginning, longest};
 use std::alloc::AllocError;
 
 /// A character reference so far.

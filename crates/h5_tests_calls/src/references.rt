@@ -1,5 +1,5 @@
 //! Named character references.
-use h5_references::{Named, further_len, is_beginning, longest, seen_len};
+use h5_machine::{Named, further_len, is_beginning, longest, seen_len};
 
 #[test]
 fn the_longest_name_is_found(rt: HostRuntime) {

@@ -1,6 +1,6 @@
 use Rattle.std.proofs.Common.{◌≡◌, List, ℕ, ap, subst, ◌∙◌}
 use Rattle.std.specs.Prelude.{None, Some}
-use Rattle.h5_references.specs.Found.{found_in}
+use Rattle.h5_machine.specs.Found.{found_in}
 use Rattle.h5_states.specs.References.{longest, named}
 use Rattle.h5_states.specs.ReferenceTable.{references}
 use Rattle.h5_machine.specs.StateOf.{return_of}

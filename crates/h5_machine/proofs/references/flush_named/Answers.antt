@@ -1,6 +1,6 @@
 use Rattle.std.proofs.Common.{◌≡◌, List, ℕ, subst}
 use Rattle.std.specs.Prelude.{Some}
-use Rattle.h5_references.specs.Found.{found_in}
+use Rattle.h5_machine.specs.Found.{found_in}
 use Rattle.h5_states.specs.References.{longest}
 use Rattle.h5_states.specs.ReferenceTable.{references}
 use Rattle.h5_machine.proofs.ReferenceLaws.{longest_is_ascii}

@@ -1,7 +1,7 @@
 use Rattle.std.proofs.Common.{refl, sym, ap, ◌∙◌}
 use Rattle.std.specs.Prelude.{string_bytes}
 use Rattle.h5_states.specs.References.{ends_in}
-use Rattle.h5_references.proofs.NameLaws.{closed_is_whole}
+use Rattle.h5_machine.proofs.ReferenceNameLaws.{closed_is_whole}
 use Rattle.h5_machine.proofs.ReferenceLaws.{no_beginning}
 use Rattle.h5_machine.proofs.references.goes_on.Goals as goal
 use Rattle.h5_machine.proofs.references.goes_on.Goals.{then-b-ge128-via-then-b-ge128, then-b-ge128-via-else-b-ge128+then-is_closed}

@@ -1,9 +1,0 @@
-pub mod TableLemmas
-pub mod OrderLemmas
-pub mod NarrowingLemmas
-pub mod LongestLemmas
-pub mod ShortLemmas
-pub mod NameLaws
-pub mod HasBytes
-pub mod CommonLemmas
-pub mod ClosedLemmas

@@ -1,3 +1,0 @@
-pub mod Numbered
-pub mod Candidates
-pub mod Found
