@@ -28,7 +28,7 @@ use Rattle.h5_rules.specs.fitting.Reset.{reset_mode}
 use Rattle.h5_rules.specs.fitting.ResetByRoles.{reset}
 use Rattle.h5_rules.specs.fitting.Roles.{role_of, roles}
 use Rattle.h5_rules.specs.fitting.SituationChanges.{start_of}
-use Rattle.h5_laws.proofs.cuts.RunLaws.{step_reply, takes_text}
+use Rattle.h5_plain.proofs.cuts.RunLaws.{step_reply, takes_text}
 use Rattle.h5_standard.specs.Mark.{behind_mark}
 use Rattle.h5_plain.specs.Plain.{Nodes, fragment_tokens}
 use Rattle.h5_plain.specs.Rebuilding.{HoldsDocument, IsFragmentStart, Looks, Stands}

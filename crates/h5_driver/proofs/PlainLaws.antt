@@ -25,7 +25,7 @@ use Rattle.h5_round_trip.specs.Written.{written_of}
 use Rattle.h5_reading.specs.Options as reading
 use Rattle.h5_reading.specs.declared.options.TokenizerOpts.{TokenizerOpts}
 use Rattle.h5_rules.proofs.changes.ClosingLaws.{pop_sound}
-use Rattle.h5_laws.proofs.kept.FittingLaws.{token_fitting}
+use Rattle.h5_plain.proofs.kept.FittingLaws.{token_fitting}
 use Rattle.h5_plain.proofs.LooksLaws.{looks_marked}
 use Rattle.h5_plain.proofs.StartLaws.{all_none}
 use Rattle.h5_plain.proofs.WholeLaws.{rebuilds_all}

@@ -11,9 +11,9 @@ use Rattle.h5_tables.specs.declared.modes.InsertionMode.{InsertionMode}
 use Rattle.h5_tables.specs.declared.modes.InsertionMode.TheVariants.{Text}
 use Rattle.h5_rules.specs.modes.InTableText.{saved_mode}
 use Rattle.h5_rules.specs.Run.{View, after_token, is_refused_in_text, refuses_in, reply_to, step, take_or_refuse, tell_or_refuse}
-use Rattle.h5_laws.proofs.kept.FittingLaws.{step_fitting}
-use Rattle.h5_laws.proofs.cuts.RunLaws.{is_taken}
-use Rattle.h5_laws.proofs.replies.TextReadLaws.{IsCalm, Leads, TagLeads, TokenLeads, mode_is_text, step_leads}
+use Rattle.h5_plain.proofs.kept.FittingLaws.{step_fitting}
+use Rattle.h5_plain.proofs.cuts.RunLaws.{is_taken}
+use Rattle.h5_plain.proofs.replies.TextReadLaws.{IsCalm, Leads, TagLeads, TokenLeads, mode_is_text, step_leads}
 use Rattle.h5_rules.proofs.rows.RowTexts.{NoTextBehind, is_text}
 use Rattle.h5_reading.specs.Answers.{refuses}
 use Rattle.h5_reading.specs.Taking.{Finishes, Takes}

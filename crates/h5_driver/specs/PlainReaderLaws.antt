@@ -6,9 +6,9 @@ use Rattle.h5_token.specs.Reply.{Reply}
 use Rattle.h5_token.specs.TokenText.{TokenText}
 use Rattle.h5_interface.specs.SinkChoices.{SinkChoices}
 use Rattle.h5_rules.specs.Run.{IsFitting, View, after_all, run}
-use Rattle.h5_laws.proofs.cuts.JoinLaws.{view_joins}
-use Rattle.h5_laws.proofs.cuts.RunLaws.{token_cut}
-use Rattle.h5_laws.proofs.kept.FittingLaws.{token_fitting}
+use Rattle.h5_plain.proofs.cuts.JoinLaws.{view_joins}
+use Rattle.h5_plain.proofs.cuts.RunLaws.{token_cut}
+use Rattle.h5_plain.proofs.kept.FittingLaws.{token_fitting}
 use Rattle.h5_reading.specs.Lines.{line_behind}
 use Rattle.h5_tokenizer.specs.End.{settle}
 use Rattle.h5_tokenizer.specs.Front.{ReaderPlace}

@@ -5,9 +5,9 @@ use Rattle.h5_token.specs.Reply.{Reply}
 use Rattle.h5_token.specs.TokenText.{TokenText, EndOfFile}
 use Rattle.h5_interface.specs.SinkChoices.{SinkChoices}
 use Rattle.h5_rules.specs.Run.{IsFitting, View, after_all, after_token, run}
-use Rattle.h5_laws.proofs.cuts.JoinLaws.{view_joins}
-use Rattle.h5_laws.proofs.cuts.RunLaws.{token_cut}
-use Rattle.h5_laws.proofs.kept.FittingLaws.{token_fitting}
+use Rattle.h5_plain.proofs.cuts.JoinLaws.{view_joins}
+use Rattle.h5_plain.proofs.cuts.RunLaws.{token_cut}
+use Rattle.h5_plain.proofs.kept.FittingLaws.{token_fitting}
 use Rattle.h5_reading.specs.Told as told
 use Rattle.h5_states.specs.End.{last_tokens}
 use Rattle.h5_states.specs.ReferenceTable.{references}

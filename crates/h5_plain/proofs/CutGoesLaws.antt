@@ -11,9 +11,9 @@ use Rattle.h5_rules.specs.Run.{step, taken, text_step, without_lf}
 use Rattle.h5_rules.specs.Sound.{Fitting}
 use Rattle.h5_rules.specs.Text.{foreign_text, is_quiet_text, text_in_body, text_rule}
 use Rattle.h5_rules.specs.World.{World}
-use Rattle.h5_laws.proofs.cuts.CutLaws.{by_foreign, by_mode}
-use Rattle.h5_laws.proofs.kept.FittingLaws.{step_fitting}
-use Rattle.h5_laws.proofs.cuts.RunLaws.{step_cut, takes_text, without_lf-append, step_reply}
+use Rattle.h5_plain.proofs.cuts.CutLaws.{by_foreign, by_mode}
+use Rattle.h5_plain.proofs.kept.FittingLaws.{step_fitting}
+use Rattle.h5_plain.proofs.cuts.RunLaws.{step_cut, takes_text, without_lf-append, step_reply}
 use Rattle.h5_rules.proofs.changes.TreeLaws.{tree_reconstruct}
 use Rattle.h5_plain.proofs.GoesLaws.{Runs, Steps, Takes}
 

@@ -26,12 +26,12 @@ use Rattle.h5_interface.specs.Changes.{append_text as append_text_to}
 use Rattle.h5_rules.specs.Text.{is_quiet_text, text_in_body, text_rule}
 use Rattle.h5_rules.specs.modes.TextMode.{text_end}
 use Rattle.h5_rules.specs.World.{World}
-use Rattle.h5_laws.proofs.cuts.CutLaws.{by_mode}
-use Rattle.h5_laws.proofs.modes.ForeignModeLaws.{html_not_foreign}
-use Rattle.h5_laws.proofs.modes.ForeignRowLaws.{eof_html}
+use Rattle.h5_plain.proofs.cuts.CutLaws.{by_mode}
+use Rattle.h5_plain.proofs.modes.ForeignModeLaws.{html_not_foreign}
+use Rattle.h5_plain.proofs.modes.ForeignRowLaws.{eof_html}
 use Rattle.h5_rules.proofs.changes.FormattingLaws.{reconstruct_none}
-use Rattle.h5_laws.proofs.cuts.RunLaws.{is_taken, moved, taken_same, takes_text}
-use Rattle.h5_laws.proofs.turns.SettleLaws.{settle-done}
+use Rattle.h5_plain.proofs.cuts.RunLaws.{is_taken, moved, taken_same, takes_text}
+use Rattle.h5_plain.proofs.turns.SettleLaws.{settle-done}
 use Rattle.h5_plain.specs.Plain.{is_start_of_title, plain_reply}
 use Rattle.h5_plain.proofs.HtmlLaws.{AtHtml, taken_html}
 use Rattle.h5_plain.proofs.ModeLaws.{GoesByBody, TheBody, TheCaption, TheCell, quiet_by_body, text_by_body}

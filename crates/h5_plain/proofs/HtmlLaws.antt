@@ -15,7 +15,7 @@ use Rattle.h5_rules.specs.fitting.NamesFit.{is_html_element}
 use Rattle.h5_rules.specs.insertion.Foreign.{adjusted_current_node, adjusted_of, is_foreign}
 use Rattle.h5_rules.specs.Run.{taken}
 use Rattle.h5_rules.specs.World.{World, current, name_in, name_of_found, names_of}
-use Rattle.h5_laws.proofs.modes.ForeignModeLaws.{IsHtmlAt, html_not_foreign}
+use Rattle.h5_plain.proofs.modes.ForeignModeLaws.{IsHtmlAt, html_not_foreign}
 
 abbrev pub AtHtml : World → Type 0
 AtHtml w = IsHtmlAt w (adjusted_current_node w)

@@ -24,12 +24,12 @@ use Rattle.h5_rules.specs.Settle.{Settled, goes_on_to, settle}
 use Rattle.h5_rules.specs.Sound.{Fitting}
 use Rattle.h5_rules.specs.Text.{fostered_text, text_in, text_in_table, text_rule}
 use Rattle.h5_rules.specs.World.{World, names_of}
-use Rattle.h5_laws.proofs.cuts.CutLaws.{by_mode}
-use Rattle.h5_laws.proofs.cuts.RunLaws.{taken_same, takes_text}
-use Rattle.h5_laws.proofs.kept.FittingLaws.{taken_fitting}
-use Rattle.h5_laws.proofs.modes.ForeignModeLaws.{IsHtmlAt, html_not_foreign}
-use Rattle.h5_laws.proofs.modes.ForeignRowLaws.{dispatch_html}
-use Rattle.h5_laws.proofs.turns.SettleLaws.{settle-again}
+use Rattle.h5_plain.proofs.cuts.CutLaws.{by_mode}
+use Rattle.h5_plain.proofs.cuts.RunLaws.{taken_same, takes_text}
+use Rattle.h5_plain.proofs.kept.FittingLaws.{taken_fitting}
+use Rattle.h5_plain.proofs.modes.ForeignModeLaws.{IsHtmlAt, html_not_foreign}
+use Rattle.h5_plain.proofs.modes.ForeignRowLaws.{dispatch_html}
+use Rattle.h5_plain.proofs.turns.SettleLaws.{settle-again}
 use Rattle.h5_plain.proofs.CutGoesLaws.{fitting_takes}
 use Rattle.h5_plain.proofs.GoesLaws.{BeginsWithTag, Blanks, Goes, InColumns, IsTableMode, KeptBack, Leads, Runs, Straight, Takes, TheRow, TheSection, TheTable, steps_aside, steps_of, taken_so}
 use Rattle.h5_plain.proofs.HtmlLaws.{AtHtml, taken_html}

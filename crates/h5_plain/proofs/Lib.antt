@@ -2,21 +2,15 @@ mod BodyRuleLaws
 mod BodyStepLaws
 mod BuildsLaws
 mod CalmLaws
-pub mod CutGoesLaws
 mod FilledLaws
 mod FormatListLaws
 mod FormatRuleLaws
 mod FormatStepLaws
-pub mod GoesLaws
-pub mod GrowthLaws
-pub mod FragmentLaws
 mod HeadLaws
-pub mod HtmlLaws
 mod KeptBackLaws
 mod ListRuleLaws
 mod ListStepLaws
 mod ListedLaws
-pub mod LooksLaws
 mod ModeLaws
 mod PhraseRuleLaws
 mod PhraseStepLaws
@@ -24,7 +18,20 @@ mod TableBuildsLaws
 mod TableRuleLaws
 mod TableStepLaws
 mod TitleLaws
+pub mod CutGoesLaws
+pub mod FragmentLaws
+pub mod GoesLaws
+pub mod GrowthLaws
+pub mod HtmlLaws
+pub mod LawfulRow
+pub mod LooksLaws
+pub mod ModeRuleLaws
 pub mod RuleLaws
 pub mod StageLaws
 pub mod StartLaws
 pub mod WholeLaws
+pub mod cuts
+pub mod kept
+pub mod modes
+pub mod replies
+pub mod turns

@@ -23,9 +23,9 @@ use Rattle.h5_rules.specs.Changes.{append_text}
 use Rattle.h5_rules.specs.modes.InColumnGroup.{in_column_group_else}
 use Rattle.h5_rules.specs.Run.{step, taken, text_step, without_lf}
 use Rattle.h5_rules.specs.Text.{all_blanks, by_else, closes_column_group, if_any, text_in_column_group, text_in_table, text_rule}
-use Rattle.h5_laws.proofs.cuts.CutLaws.{by_mode}
-use Rattle.h5_laws.proofs.cuts.RunLaws.{taken_same, takes_text}
-use Rattle.h5_laws.proofs.modes.ForeignModeLaws.{html_not_foreign}
+use Rattle.h5_plain.proofs.cuts.CutLaws.{by_mode}
+use Rattle.h5_plain.proofs.cuts.RunLaws.{taken_same, takes_text}
+use Rattle.h5_plain.proofs.modes.ForeignModeLaws.{html_not_foreign}
 use Rattle.h5_rules.specs.formatting.FormattingList.{Entry, MarkerEntry, clear_to_marker}
 use Rattle.h5_rules.specs.formatting.FormattingNames.{html_name}
 use Rattle.h5_rules.specs.fitting.Roles.{Role}

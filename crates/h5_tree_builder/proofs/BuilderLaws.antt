@@ -14,8 +14,8 @@ use Rattle.h5_rules.specs.Run.{doctype_in, is_counted, refuses_in, step, take_or
 use Rattle.h5_interface.specs.declared.sink.TreeSink.{Ghosts}
 use Rattle.h5_rules.specs.Sound.{Fits, HasLists, Sound}
 use Rattle.h5_rules.specs.World.{World, names_of}
-use Rattle.h5_laws.proofs.turns.TurnLaws.{turns_few}
-use Rattle.h5_laws.proofs.cuts.RunLaws.{is_taken, moved}
+use Rattle.h5_plain.proofs.turns.TurnLaws.{turns_few}
+use Rattle.h5_plain.proofs.cuts.RunLaws.{is_taken, moved}
 use Rattle.h5_plain.proofs.StartLaws.{all_none, fits_none, lists_none}
 use Rattle.h5_state.specs.Steps.{world_of}
 use Rattle.h5_state.specs.Stamps.{AreStamped}

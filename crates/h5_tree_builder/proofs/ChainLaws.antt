@@ -19,7 +19,7 @@ use Rattle.h5_rules.specs.Rows.{Follows}
 use Rattle.h5_rules.specs.Settle.{Settled, settle}
 use Rattle.h5_rules.specs.Sound.{Fits, HasHtmlRoot, Sound, situation_of}
 use Rattle.h5_rules.specs.World.{World, names_of}
-use Rattle.h5_laws.proofs.turns.SettleLaws.{acknowledged_here, answered_here, ends_here, goes_on}
+use Rattle.h5_plain.proofs.turns.SettleLaws.{acknowledged_here, answered_here, ends_here, goes_on}
 use Rattle.h5_interface.specs.declared.sink.TreeSink.{Ghosts}
 use Rattle.h5_stack.proofs.ItemLaws.{length-values}
 use Rattle.h5_state.specs.Steps.{IsSound}

@@ -13,9 +13,9 @@ use Rattle.h5_rules.specs.modes.Modes.{rule}
 use Rattle.h5_rules.specs.Rows.{Change, Follows, Row, apply_all}
 use Rattle.h5_rules.specs.Sound.{Fitting}
 use Rattle.h5_rules.specs.World.{World}
-use Rattle.h5_laws.proofs.kept.DispatchLaws.{leaves_fitting}
-use Rattle.h5_laws.proofs.modes.ForeignModeLaws.{foreign_mode}
-use Rattle.h5_laws.proofs.modes.ForeignRowLaws.{any_has, dispatch_foreign, dispatch_html, each_step}
+use Rattle.h5_plain.proofs.kept.DispatchLaws.{leaves_fitting}
+use Rattle.h5_plain.proofs.modes.ForeignModeLaws.{foreign_mode}
+use Rattle.h5_plain.proofs.modes.ForeignRowLaws.{any_has, dispatch_foreign, dispatch_html, each_step}
 use Rattle.h5_rules.proofs.BoolLaws.{and_both}
 use Rattle.h5_rules.proofs.rows.KeptLaws.{apply_append}
 use Rattle.h5_rules.proofs.rows.MarkLaws.{still_told}

@@ -29,10 +29,10 @@ use Rattle.h5_rules.specs.Text.{IsRun, after_row, all_blanks, by_else, closes_co
 use Rattle.h5_rules.specs.Sound.{Fitting}
 use Rattle.h5_rules.specs.modes.Tables.{foster}
 use Rattle.h5_rules.specs.World.{World}
-use Rattle.h5_laws.proofs.cuts.CutLaws.{by_foreign, by_mode, text_cut}
-use Rattle.h5_laws.proofs.modes.ForeignRowLaws.{dispatch_foreign}
-use Rattle.h5_laws.proofs.cuts.ForeignTextLaws.{kept_back_foreign}
-use Rattle.h5_laws.proofs.turns.SettleLaws.{settle-text-row, settle-text-turn}
+use Rattle.h5_plain.proofs.cuts.CutLaws.{by_foreign, by_mode, text_cut}
+use Rattle.h5_plain.proofs.modes.ForeignRowLaws.{dispatch_foreign}
+use Rattle.h5_plain.proofs.cuts.ForeignTextLaws.{kept_back_foreign}
+use Rattle.h5_plain.proofs.turns.SettleLaws.{settle-text-row, settle-text-turn}
 use Rattle.h5_plain.proofs.CutGoesLaws.{body_mode}
 
 blank_all : (t : List ℕ) → rest_of t ≡ [] → blanks_of t ≡ t

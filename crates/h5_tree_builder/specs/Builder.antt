@@ -16,7 +16,7 @@ use Rattle.h5_tables.specs.declared.modes.InsertionMode.TheVariants.{Initial}
 use Rattle.h5_tables.specs.declared.options.TreeBuilderOpts.{TreeBuilderOpts}
 use Rattle.h5_rules.specs.Changes.{pop}
 use Rattle.h5_token.specs.Joins.{join}
-use Rattle.h5_laws.specs.Cuts.{spread}
+use Rattle.h5_plain.specs.Cuts.{spread}
 use Rattle.h5_rules.specs.Run.{CountsTurns, View, WasRefused, after_all, after_token, all_quiet, is_counted, is_quiet, last_turns, refusal, refuses_in, replies, reply_to, step, told_all, told_of}
 use Rattle.h5_rules.specs.insertion.Foreign.{adjusted_current_node}
 use Rattle.h5_rules.specs.World.{World, name_in}

@@ -19,11 +19,11 @@ pub use h5_driver::laws::{
     a_text_has_one_tree, chunks_then_finish, documents_come_back, fragments_come_back,
     fragments_come_back_over, pieces_then_finish,
 };
-pub use h5_laws::laws::{
+pub use h5_plain::laws::documents_are_rebuilt;
+pub use h5_plain::mode_laws::{
     a_token_has_one_chain, cuts_agree, cuts_of_one_list_agree, reconstructed_elements_are_open,
     runs_join, turns_are_few, what_is_kept_stays,
 };
-pub use h5_plain::laws::documents_are_rebuilt;
 pub use h5_round_trip::laws::standard::{
     documents_are_read, documents_are_read_without_errors, documents_tell_no_errors,
     markup_is_read_alike,

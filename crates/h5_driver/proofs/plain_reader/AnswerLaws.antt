@@ -8,7 +8,7 @@ use Rattle.h5_interface.specs.SinkChoices.{SinkChoices}
 use Rattle.h5_tables.specs.declared.modes.InsertionMode.{InsertionMode}
 use Rattle.h5_tables.specs.declared.modes.InsertionMode.TheVariants.{Text}
 use Rattle.h5_rules.specs.Run.{View, after_token, refuses_in, reply_to}
-use Rattle.h5_laws.proofs.replies.TextReadLaws.{Leads, TagLeads, TokenLeads}
+use Rattle.h5_plain.proofs.replies.TextReadLaws.{Leads, TagLeads, TokenLeads}
 use Rattle.h5_rules.proofs.rows.RowTexts.{is_text}
 use Rattle.h5_reading.specs.Answers.{refuses}
 use Rattle.h5_tokenizer.specs.Front.{ReaderPlace}

@@ -6,7 +6,7 @@ use Rattle.h5_token.specs.declared.fault.BuildFault.{BuildFault}
 use Rattle.h5_token.specs.declared.fault.BuildFault.TheVariants.{AfterEnd, Failed, Memory, NotInText}
 use Rattle.h5_interface.specs.SinkChoices.{SinkChoices}
 use Rattle.h5_rules.specs.Run.{View, after_token, refuses_in, reply_to}
-use Rattle.h5_laws.proofs.cuts.RunLaws.{takes_text}
+use Rattle.h5_plain.proofs.cuts.RunLaws.{takes_text}
 use Rattle.h5_reading.specs.Answers.{refuses}
 use Rattle.h5_reading.specs.Lines.{line_behind}
 use Rattle.h5_reading.specs.Taking.{ClosesWith}

@@ -8,7 +8,7 @@ use Rattle.h5_token.specs.declared.fault.BuildFault.TheVariants.{AfterEnd, Faile
 use Rattle.h5_interface.specs.SinkChoices.{SinkChoices}
 use Rattle.h5_tables.specs.declared.modes.InsertionMode.TheVariants.{Text}
 use Rattle.h5_rules.specs.Run.{View, after_token, reply_to}
-use Rattle.h5_laws.proofs.cuts.RunLaws.{takes_text}
+use Rattle.h5_plain.proofs.cuts.RunLaws.{takes_text}
 use Rattle.h5_reading.specs.Answers.{goes_on, refuses}
 use Rattle.h5_reading.specs.Taking.{ClosesWith}
 use Rattle.h5_reading.specs.Told as told

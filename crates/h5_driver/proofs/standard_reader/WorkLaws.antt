@@ -9,7 +9,7 @@ use Rattle.h5_interface.specs.SinkChoices.{SinkChoices}
 use Rattle.h5_tables.specs.declared.modes.InsertionMode.{InsertionMode}
 use Rattle.h5_tables.specs.declared.modes.InsertionMode.TheVariants.{Text}
 use Rattle.h5_rules.specs.Run.{View, after_token, is_refused_in_text, reply_to}
-use Rattle.h5_laws.proofs.replies.TextReadLaws.{Leads, TagLeads, TokenLeads}
+use Rattle.h5_plain.proofs.replies.TextReadLaws.{Leads, TagLeads, TokenLeads}
 use Rattle.h5_reading.specs.Answers.{refuses}
 use Rattle.h5_states.specs.RawTexts.{IsRaw, RawBehind}
 use Rattle.h5_states.specs.States.{State}

@@ -7,9 +7,9 @@ use Rattle.h5_rules.specs.modes.ForeignContent.{dispatch}
 use Rattle.h5_rules.specs.Rows.{Follows}
 use Rattle.h5_rules.specs.Settle.{settle}
 use Rattle.h5_rules.specs.Sound.{Fits}
-use Rattle.h5_laws.proofs.kept.DispatchLaws.{fits_acknowledged, fits_again, fits_answered, fits_done}
-use Rattle.h5_laws.proofs.turns.FallsLaws.{rank_few}
-use Rattle.h5_laws.proofs.turns.SettleLaws.{rank_falls}
+use Rattle.h5_plain.proofs.kept.DispatchLaws.{fits_acknowledged, fits_again, fits_answered, fits_done}
+use Rattle.h5_plain.proofs.turns.FallsLaws.{rank_few}
+use Rattle.h5_plain.proofs.turns.SettleLaws.{rank_falls}
 use Rattle.h5_state.specs.Turn.{turn_result}
 use Rattle.h5_state.specs.View.{world}
 use Rattle.h5_tree_builder.specs.Chains.{CameTo, Left}

@@ -1,7 +1,7 @@
 use Rattle.std.proofs.Common.{◌≡◌, ◌<◌, ◌≤◌, ◌+◌, ◌-◌, length}
 use Rattle.h5_tables.specs.TurnText.{turn_text}
 use Rattle.h5_rules.specs.Sound.{Fits}
-use Rattle.h5_laws.proofs.turns.FallsLaws.{rank_of}
+use Rattle.h5_plain.proofs.turns.FallsLaws.{rank_of}
 use Rattle.h5_state.specs.Steps.{IsSound}
 use Rattle.h5_state.specs.View.{world}
 use Rattle.h5_tree_builder.specs.Chains.{Left}
