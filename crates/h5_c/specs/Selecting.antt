@@ -6,7 +6,7 @@ use Rattle.html_tree_builder.specs.Asking.{Asked, asked}
 use Rattle.html_tree_builder.specs.Counting.{Outcome, Found, Absent, TooMany}
 use Rattle.html_tree_builder.specs.Selected.{selected}
 use Rattle.html_tree_builder.specs.Types.{NodeId}
-use Rattle.h5_selector_text.specs.declared.formula.Formula.{Formula}
+use Rattle.h5_selectors.specs.declared.formula.Formula.{Formula}
 use Rattle.h5_flat.specs.Packed.{bytes_of_words}
 use Rattle.h5_flat.specs.SameTree.{IsTreeOf, place_of}
 use Rattle.h5_flat.specs.Unpacked.{id_of}

@@ -9,7 +9,7 @@ use Rattle.h5_selectors.specs.Holds.{matches}
 use Rattle.h5_selectors.specs.Query.{matches_by}
 use Rattle.h5_selectors.specs.Selected.{is_quirky, scope_in, selected}
 use Rattle.h5_selectors.specs.Ways.{below}
-use Rattle.h5_selector_text.specs.declared.formula.Formula.{Formula}
+use Rattle.h5_selectors.specs.declared.formula.Formula.{Formula}
 use Rattle.h5_selectors.specs.declared.holds.Query.{Query}
 
 -- one row more is taken, or is not

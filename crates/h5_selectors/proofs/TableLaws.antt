@@ -15,8 +15,8 @@ use Rattle.h5_arena.specs.Kin.{tree_parent}
 use Rattle.h5_selectors.specs.Rows.{AreBelow, IsBefore, IsBehind, IsKnown, node_in, nodes_in, with_below}
 use Rattle.h5_selectors.specs.Tables.{counted_at, leads_out, leads_up, link_to, there, told}
 use Rattle.h5_selectors.specs.Ways.{ancestors, before, behind, below, child_elements, elements, first_of, is_element, last_of, led, parent_element}
-use Rattle.h5_selector_text.specs.declared.formula.Way.{Way}
-use Rattle.h5_selector_text.specs.declared.formula.Way.TheVariants.{Ancestor, Below, Child, Earlier, Later, Next, Parent, Previous}
+use Rattle.h5_selectors.specs.declared.formula.Way.{Way}
+use Rattle.h5_selectors.specs.declared.formula.Way.TheVariants.{Ancestor, Below, Child, Earlier, Later, Next, Parent, Previous}
 use Rattle.h5_selectors.specs.declared.rows.Links.{Links}
 use Rattle.h5_selectors.specs.declared.rows.Rows.{Rows}
 use Rattle.h5_selectors.proofs.AncestorSteps.{ancestors_step}

@@ -7,12 +7,12 @@ use Rattle.h5_names.specs.Urls.{html_text}
 use Rattle.h5_names.specs.declared.qualified.QualName.{QualName}
 use Rattle.h5_interface.specs.Forest.{Forest, attrs_of}
 use Rattle.h5_arena.specs.ArenaModel.{value_of}
-use Rattle.h5_selector_text.specs.AnPlusB.{is_index}
+use Rattle.h5_selectors.specs.AnPlusB.{is_index}
 use Rattle.h5_selectors.specs.Values.{are_same, compares, includes}
 use Rattle.h5_selectors.specs.Ways.{counted, is_empty, is_root, led, name_of}
-use Rattle.h5_selector_text.specs.declared.formula.AttrTest.{AttrTest}
-use Rattle.h5_selector_text.specs.declared.formula.Formula.{Formula, Any, Name, Id, Class, Attr, Root, Scope, Empty, Link, NthOfType, Nth', Not', And', Or', Leads'}
-use Rattle.h5_selector_text.specs.declared.formula.Written.{Written}
+use Rattle.h5_selectors.specs.declared.formula.AttrTest.{AttrTest}
+use Rattle.h5_selectors.specs.declared.formula.Formula.{Formula, Any, Name, Id, Class, Attr, Root, Scope, Empty, Link, NthOfType, Nth', Not', And', Or', Leads'}
+use Rattle.h5_selectors.specs.declared.formula.Written.{Written}
 
 abbrev pub is_html : QualName → Bool
 is_html name = is_same_text name.ns html_text

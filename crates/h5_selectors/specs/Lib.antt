@@ -1,7 +1,16 @@
+pub mod AnPlusB
+pub mod Asking
+pub mod Attributes
+pub mod Counting
+pub mod Fault
+pub mod Grammar
 pub mod Holds
+pub mod Indices
 pub mod Query
+pub mod Reads
 pub mod Rows
 pub mod Selected
 pub mod Tables
+pub mod Tokens
 pub mod Values
 pub mod Ways

@@ -3,7 +3,7 @@ use Rattle.std.specs.Prelude.{ℕ, Bool, List, Option}
 use Rattle.h5_interface.specs.Forest.{Forest}
 use Rattle.h5_arena.specs.ArenaModel.{forest_seen, optional_place}
 use Rattle.h5_selectors.specs.Holds.{holds, matches}
-use Rattle.h5_selector_text.specs.declared.formula.Formula.{Formula}
+use Rattle.h5_selectors.specs.declared.formula.Formula.{Formula}
 use Rattle.h5_selectors.specs.declared.holds.Query.{Query}
 
 abbrev pub seen_by : Query → Forest

@@ -6,7 +6,7 @@ use Rattle.h5_interface.specs.declared.marks.QuirksMode.TheVariants.{LimitedQuir
 use Rattle.h5_arena.specs.ArenaModel.{ArenaView, forest_seen}
 use Rattle.h5_selectors.specs.Holds.{matches}
 use Rattle.h5_selectors.specs.Ways.{ancestors, below, elements, is_element}
-use Rattle.h5_selector_text.specs.declared.formula.Formula.{Formula}
+use Rattle.h5_selectors.specs.declared.formula.Formula.{Formula}
 
 -- ids and classes have no case in quirks mode
 abbrev pub is_quirky : QuirksMode → Bool

@@ -3,17 +3,17 @@ use Rattle.std.specs.Prelude.{◌≡◌, ◌<◌, ℕ, ◌+◌, ◌&&◌, ◌||�
 use Rattle.std.specs.List.{filter, list_any}
 use Rattle.h5_interface.specs.Forest.{Forest}
 use Rattle.h5_arena.specs.Kin as kin
-use Rattle.h5_selector_text.specs.AnPlusB.{is_index}
+use Rattle.h5_selectors.specs.AnPlusB.{is_index}
 use Rattle.h5_selectors.specs.Holds.{is_alike}
 use Rattle.h5_selectors.specs.Query.{holds_by, quirky_by, scope_by, seen_by}
 use Rattle.h5_selectors.specs.Rows.{node_of, with_below}
 use Rattle.h5_selectors.specs.Ways.{before, behind, counted, elements, is_element}
-use Rattle.h5_selector_text.specs.declared.formula.AnPlusB.{AnPlusB}
-use Rattle.h5_selector_text.specs.declared.formula.Formula.{Formula}
-use Rattle.h5_selector_text.specs.declared.formula.Side.{Side}
-use Rattle.h5_selector_text.specs.declared.formula.Side.TheVariants.{First, Last}
-use Rattle.h5_selector_text.specs.declared.formula.Way.{Way}
-use Rattle.h5_selector_text.specs.declared.formula.Way.TheVariants.{Ancestor, Below, Child, Earlier, Later, Next, Parent, Previous}
+use Rattle.h5_selectors.specs.declared.formula.AnPlusB.{AnPlusB}
+use Rattle.h5_selectors.specs.declared.formula.Formula.{Formula}
+use Rattle.h5_selectors.specs.declared.formula.Side.{Side}
+use Rattle.h5_selectors.specs.declared.formula.Side.TheVariants.{First, Last}
+use Rattle.h5_selectors.specs.declared.formula.Way.{Way}
+use Rattle.h5_selectors.specs.declared.formula.Way.TheVariants.{Ancestor, Below, Child, Earlier, Later, Next, Parent, Previous}
 use Rattle.h5_selectors.specs.declared.holds.Query.{Query}
 use Rattle.h5_selectors.specs.declared.rows.Links.{Links}
 use Rattle.h5_selectors.specs.declared.rows.Rows.{Rows}

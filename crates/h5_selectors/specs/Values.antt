@@ -2,8 +2,8 @@
 use Rattle.std.specs.Prelude.{ℕ, ◌-◌, ◌==◌, ◌&&◌, ◌||◌, Bool, true, false, bytes_eq, drop, if◌then◌else◌, length, List, [], ◌∷◌, ◌++◌, nat_le, not, take}
 use Rattle.std.specs.Str.{str_to_ascii_lowercase}
 use Rattle.std.specs.List.{list_any}
-use Rattle.h5_selector_text.specs.declared.formula.Operator.{Operator}
-use Rattle.h5_selector_text.specs.declared.formula.Operator.TheVariants.{Begins, Contains, Dash, Ends, Equals, Exists, Includes}
+use Rattle.h5_selectors.specs.declared.formula.Operator.{Operator}
+use Rattle.h5_selectors.specs.declared.formula.Operator.TheVariants.{Begins, Contains, Dash, Ends, Equals, Exists, Includes}
 
 -- a text as it is compared: without case, or as it is
 abbrev pub folded : Bool → List ℕ → List ℕ

@@ -7,10 +7,10 @@ use Rattle.h5_interface.specs.Forest.{Child, ChildNode, ChildText, DocumentNode,
 use Rattle.h5_arena.specs.ArenaModel.{name_of_kind}
 use Rattle.h5_arena.specs.Kin as kin
 use Rattle.h5_arena.specs.Kin.{children_around, children_before, children_behind, descendants, tree_parent}
-use Rattle.h5_selector_text.specs.declared.formula.Side.{Side}
-use Rattle.h5_selector_text.specs.declared.formula.Side.TheVariants.{First, Last}
-use Rattle.h5_selector_text.specs.declared.formula.Way.{Way}
-use Rattle.h5_selector_text.specs.declared.formula.Way.TheVariants.{Ancestor, Below, Child as ToChild, Earlier, Later, Next, Parent, Previous}
+use Rattle.h5_selectors.specs.declared.formula.Side.{Side}
+use Rattle.h5_selectors.specs.declared.formula.Side.TheVariants.{First, Last}
+use Rattle.h5_selectors.specs.declared.formula.Way.{Way}
+use Rattle.h5_selectors.specs.declared.formula.Way.TheVariants.{Ancestor, Below, Child as ToChild, Earlier, Later, Next, Parent, Previous}
 
 -- the name of an element
 abbrev pub name_of : Forest → ℕ → Option QualName

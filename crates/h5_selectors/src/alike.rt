@@ -2,12 +2,12 @@
 ghost use Rattle.std.specs.Prelude.{◌≡◌, ◌<◌, ℕ, IfOk, get_or, length, vec_len};
 ghost use Rattle.h5_selectors.specs.Rows.{AreRows};
 ghost use Rattle.h5_selectors.specs.Tables.{CountsAlike, IsAlikeBefore, IsAlikeBehind, one_more};
-ghost use Rattle.h5_selector_text.specs.declared.formula.Side.TheVariants.{First, Last};
+ghost use Rattle.h5_selectors.specs.declared.formula.Side.TheVariants.{First, Last};
 
 use super::holds::{Query, is_alike};
 use super::rows::Rows;
 use super::tables::{count_of, zeros};
-use h5_selector_text::Side;
+use crate::Side;
 use std::alloc::AllocError;
 
 // The nearest sibling before a row that has its name.

@@ -3,7 +3,7 @@ ghost use Rattle.std.specs.Prelude.{◌≡◌, ◌+◌, ◌&&◌, ◌≤◌, ◌
 ghost use Rattle.std.specs.List.{filter, list_any};
 ghost use Rattle.h5_arena.specs.ArenaModel.{IsHeld, optional_place, place};
 ghost use Rattle.h5_selectors.specs.Holds as h;
-ghost use Rattle.h5_selector_text.specs.AnPlusB.{is_index};
+ghost use Rattle.h5_selectors.specs.AnPlusB.{is_index};
 ghost use Rattle.h5_selectors.specs.Values.{are_same};
 ghost use Rattle.h5_selectors.specs.Query.{holds_by, quirky_by, scope_by, seen_by};
 ghost use Rattle.h5_selectors.specs.Ways.{ancestors, counted, led, parent_element};
@@ -12,10 +12,10 @@ use super::values::{compares, includes};
 use super::ways::{
     are_alike, counted, is_element, is_empty, is_root, led, name_of, parent_element, parent_of,
 };
+use crate::{AnPlusB, AttrTest, Formula, Side, Way, Written};
 use h5_arena::{Arena, NodeId};
 use h5_interface::QuirksMode;
 use h5_names::{KnownName, LocalName, Namespace, QualName};
-use h5_selector_text::{AnPlusB, AttrTest, Formula, Side, Way, Written};
 use std::alloc::{AllocError, Global};
 
 /// In what an element is asked: the arena, its mode, and the element below which is selected.

@@ -3,10 +3,10 @@ ghost use Rattle.std.specs.Prelude.{◌≡◌, ◌<◌, ℕ, All, Bool, IfErr, I
 ghost use Rattle.std.specs.List.{filter};
 ghost use Rattle.std.specs.Str.{chars};
 ghost use Rattle.h5_arena.specs.ArenaModel.{IsHeld, optional_place, place};
-ghost use Rattle.h5_selector_text.specs.Asking.{asked};
-ghost use Rattle.h5_selector_text.specs.Counting.{Found};
-ghost use Rattle.h5_selector_text.specs.Fault.{IsWithin, Tells};
-ghost use Rattle.h5_selector_text.specs.Grammar.{selectors_of};
+ghost use Rattle.h5_selectors.specs.Asking.{asked};
+ghost use Rattle.h5_selectors.specs.Counting.{Found};
+ghost use Rattle.h5_selectors.specs.Fault.{IsWithin, Tells};
+ghost use Rattle.h5_selectors.specs.Grammar.{selectors_of};
 ghost use Rattle.h5_selectors.specs.Query.{matches_by, seen_by};
 ghost use Rattle.h5_selectors.specs.Ways.{below};
 
@@ -14,9 +14,9 @@ use super::holds::{Query, holds};
 use super::rows::rows_of;
 use super::tables::unmatched;
 use super::ways::{ancestors, elements_below, is_element};
+use crate::{Formula, SelectorFault, parse};
 use h5_arena::{Arena, NodeId};
 use h5_interface::TreeSink;
-use h5_selector_text::{Formula, SelectorFault, parse};
 use std::alloc::{AllocError, Global};
 use std::marker::Model;
 
@@ -41,8 +41,8 @@ impl Drop for Selector {
 impl Model for Selector {
     ghost use Rattle.std.specs.Prelude.{List};
     ghost use Rattle.std.specs.Coded.{codes};
-    ghost use Rattle.h5_selector_text.specs.contracts.formula.Formula as formula;
-    ghost use Rattle.h5_selector_text.specs.declared.formula.Formula.{Formula};
+    ghost use Rattle.h5_selectors.specs.contracts.formula.Formula as formula;
+    ghost use Rattle.h5_selectors.specs.declared.formula.Formula.{Formula};
 
     ghost Value = { List Formula };
 

@@ -7,15 +7,15 @@ ghost use Rattle.h5_selectors.specs.Query.{holds_by, matches_by, seen_by};
 ghost use Rattle.h5_selectors.specs.Rows.{AreRows, node_of};
 ghost use Rattle.h5_selectors.specs.Tables.{Counts, CountsAlike, Narrows, Tells, TellsAhead, counted_at, is_nth_by, leads_out, link_to, there, told};
 ghost use Rattle.h5_selectors.specs.Ways.{is_element, led};
-ghost use Rattle.h5_selector_text.specs.declared.formula.Formula.{Formula as FormulaAt};
-ghost use Rattle.h5_selector_text.specs.declared.formula.Way.TheVariants.{Ancestor, Below, Earlier, Later, Parent};
+ghost use Rattle.h5_selectors.specs.declared.formula.Formula.{Formula as FormulaAt};
+ghost use Rattle.h5_selectors.specs.declared.formula.Way.TheVariants.{Ancestor, Below, Earlier, Later, Parent};
 ghost use Rattle.h5_selectors.specs.declared.rows.Links.{Links};
 
 use super::alike::counts_alike;
 use super::holds::{Query, holds, holds_along, is_nth, is_nth_of_type, more};
 use super::rows::{Links, Rows};
 use super::ways::is_element;
-use h5_selector_text::{AnPlusB, Formula, Side, Way};
+use crate::{AnPlusB, Formula, Side, Way};
 use std::alloc::{AllocError, Global};
 
 // So many answers of one kind.

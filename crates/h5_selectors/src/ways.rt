@@ -6,9 +6,9 @@ ghost use Rattle.h5_arena.specs.Kin.{tree_parent};
 ghost use Rattle.h5_selectors.specs.Holds.{are_alike};
 ghost use Rattle.h5_selectors.specs.Ways.{ancestors, before, behind, below, counted, elements, elements_among, first_of, is_element, is_empty, is_root, last_of, led, name_of, parent_element};
 
+use crate::{Side, Way};
 use h5_arena::{Arena, Child, Kind, NodeId};
 use h5_names::QualName;
-use h5_selector_text::{Side, Way};
 use std::alloc::{AllocError, Global};
 
 /// The name of an element.

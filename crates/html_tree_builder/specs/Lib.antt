@@ -22,10 +22,10 @@ pub use Rattle.h5_arena.specs.Html
 pub use Rattle.h5_arena.specs.Kin
 pub use Rattle.h5_arena.specs.Lent
 pub use Rattle.h5_arena.specs.NodeCalls
-pub use Rattle.h5_selector_text.specs.Asking
-pub use Rattle.h5_selector_text.specs.Counting
-pub use Rattle.h5_selector_text.specs.Fault
-pub use Rattle.h5_selector_text.specs.Grammar
+pub use Rattle.h5_selectors.specs.Asking
+pub use Rattle.h5_selectors.specs.Counting
+pub use Rattle.h5_selectors.specs.Fault
+pub use Rattle.h5_selectors.specs.Grammar
 pub use Rattle.h5_selectors.specs.Holds
 pub use Rattle.h5_selectors.specs.Selected
 pub use Rattle.h5_selectors.specs.Ways

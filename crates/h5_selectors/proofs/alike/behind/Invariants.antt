@@ -1,7 +1,7 @@
 use Rattle.std.proofs.Common.{◌≡◌, ℕ, ◌+◌, ◌<◌, ◌≤◌, get_or, length}
 use Rattle.h5_selectors.specs.Rows.{node_of}
 use Rattle.h5_selectors.specs.Tables.{count_alike}
-use Rattle.h5_selector_text.specs.declared.formula.Side.TheVariants.{Last}
+use Rattle.h5_selectors.specs.declared.formula.Side.TheVariants.{Last}
 use Rattle.h5_selectors.proofs.alike.behind.Given as goal
 
 abbrev pub invariant-loop-step : goal.invariant-loop-step

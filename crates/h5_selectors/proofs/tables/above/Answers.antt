@@ -2,7 +2,7 @@ use Rattle.std.proofs.Common.{◌≡◌, ◌∙◌, ap, arith, false, length, �
 use Rattle.h5_selectors.specs.Query.{holds_by, seen_by}
 use Rattle.h5_selectors.specs.Rows.{node_of}
 use Rattle.h5_selectors.specs.Tables.{there}
-use Rattle.h5_selector_text.specs.declared.formula.Way.TheVariants.{Ancestor}
+use Rattle.h5_selectors.specs.declared.formula.Way.TheVariants.{Ancestor}
 use Rattle.h5_selectors.proofs.TableLaws.{pushed}
 use Rattle.h5_selectors.proofs.tables.above.Goals as goal
 

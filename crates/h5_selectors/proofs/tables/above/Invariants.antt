@@ -2,7 +2,7 @@ use Rattle.std.proofs.Common.{◌≡◌, ℕ, ◌<◌, false, get_or, vec_len}
 use Rattle.h5_selectors.specs.Query.{holds_by, seen_by}
 use Rattle.h5_selectors.specs.Rows.{node_of}
 use Rattle.h5_selectors.specs.Tables.{there}
-use Rattle.h5_selector_text.specs.declared.formula.Way.TheVariants.{Ancestor}
+use Rattle.h5_selectors.specs.declared.formula.Way.TheVariants.{Ancestor}
 use Rattle.h5_selectors.proofs.tables.above.Given as goal
 
 abbrev pub invariant-loop-row : goal.invariant-loop-row

@@ -2,7 +2,7 @@ use Rattle.std.proofs.Common.{◌∙◌, ◌<◌, arith, false}
 use Rattle.h5_selectors.specs.Query.{seen_by}
 use Rattle.h5_selectors.specs.Rows.{node_of, nodes_in}
 use Rattle.h5_selectors.specs.Tables.{there}
-use Rattle.h5_selector_text.specs.declared.formula.Way.TheVariants.{Earlier}
+use Rattle.h5_selectors.specs.declared.formula.Way.TheVariants.{Earlier}
 use Rattle.h5_selectors.proofs.TableLaws.{behind_first, is_earlier, pushed}
 use Rattle.h5_selectors.proofs.tables.earlier.Goals as goal
 

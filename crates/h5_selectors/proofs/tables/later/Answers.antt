@@ -3,7 +3,7 @@ use Rattle.std.proofs.lemmas.List.{length-set}
 use Rattle.h5_selectors.specs.Query.{seen_by}
 use Rattle.h5_selectors.specs.Rows.{node_of, nodes_in}
 use Rattle.h5_selectors.specs.Tables.{there}
-use Rattle.h5_selector_text.specs.declared.formula.Way.TheVariants.{Later}
+use Rattle.h5_selectors.specs.declared.formula.Way.TheVariants.{Later}
 use Rattle.h5_selectors.proofs.TableLaws.{is_later, one_more_told, row_count}
 use Rattle.h5_selectors.proofs.tables.later.Goals as goal
 

@@ -1,7 +1,7 @@
 use Rattle.std.proofs.Common.{◌≡◌, ◌∙◌, ◌&&◌, ap, arith, false, get_or, sym, ℕ}
 use Rattle.h5_selectors.specs.Query.{holds_by}
 use Rattle.h5_selectors.specs.Rows.{node_of}
-use Rattle.h5_selector_text.specs.declared.formula.Formula as formula
+use Rattle.h5_selectors.specs.declared.formula.Formula as formula
 use Rattle.h5_selectors.proofs.TableLaws.{pushed}
 use Rattle.h5_selectors.proofs.tables.placed_alike.Goals as goal
 use Rattle.h5_selectors.proofs.tables.placed_alike.Goals.{then-set-at+in_ok-answer, else-set-at}

@@ -1,7 +1,7 @@
 use Rattle.std.proofs.Common.{◌≡◌, ℕ, ◌<◌, ◌&&◌, false, get_or, vec_len}
 use Rattle.h5_selectors.specs.Query.{holds_by}
 use Rattle.h5_selectors.specs.Rows.{node_of}
-use Rattle.h5_selector_text.specs.declared.formula.Formula as formula
+use Rattle.h5_selectors.specs.declared.formula.Formula as formula
 use Rattle.h5_selectors.proofs.tables.placed_alike.Given as goal
 
 abbrev pub invariant-loop-at : goal.invariant-loop-at

@@ -3,7 +3,7 @@ use Rattle.std.proofs.lemmas.List.{length-set}
 use Rattle.h5_selectors.specs.Query.{seen_by}
 use Rattle.h5_selectors.specs.Rows.{node_of, nodes_in}
 use Rattle.h5_selectors.specs.Tables.{there}
-use Rattle.h5_selector_text.specs.declared.formula.Way.TheVariants.{Below}
+use Rattle.h5_selectors.specs.declared.formula.Way.TheVariants.{Below}
 use Rattle.h5_selectors.proofs.TableLaws.{is_under, one_more_told, row_count}
 use Rattle.h5_selectors.proofs.tables.under.Goals as goal
 

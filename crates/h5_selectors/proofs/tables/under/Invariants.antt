@@ -2,7 +2,7 @@ use Rattle.std.proofs.Common.{◌≡◌, ℕ, ◌+◌, ◌<◌, ◌≤◌, Bool,
 use Rattle.h5_selectors.specs.Query.{seen_by}
 use Rattle.h5_selectors.specs.Rows.{node_of}
 use Rattle.h5_selectors.specs.Tables.{Tells, there}
-use Rattle.h5_selector_text.specs.declared.formula.Way.TheVariants.{Below}
+use Rattle.h5_selectors.specs.declared.formula.Way.TheVariants.{Below}
 use Rattle.h5_selectors.proofs.tables.under.Given as goal
 
 abbrev pub invariant-loop-step : goal.invariant-loop-step

@@ -1,3 +1,0 @@
-mod Linking
-mod Pieces
-mod Repeating

@@ -1,8 +1,0 @@
-use Rattle.std.proofs.Common.{◌≡◌, ◌-◌, [], ◌∷◌, map}
-use Rattle.h5_selector_text.specs.Asking.{asked}
-use Rattle.h5_selector_text.specs.Grammar.{comma_next, commas_at, joined_last, repeated, top_at}
-use Rattle.h5_selector_text.proofs.parser.more_selectors.Given as goal
-
-abbrev pub invariant-loop-step : goal.invariant-loop-step
-invariant-loop-step l =
-    repeated (comma_next joined_last top_at) (l._step-end - l._step) (map asked l.list.items) l.parser.parts l.parser.scan.rest.now ≡ commas_at joined_last top_at (asked l.fn.first ∷ []) l.fn.parser.parts l.fn.parser.scan.rest.now

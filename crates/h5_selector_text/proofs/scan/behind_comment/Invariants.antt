@@ -1,6 +1,0 @@
-use Rattle.std.proofs.Common.{◌≡◌, drop}
-use Rattle.h5_selector_text.specs.Tokens.{behind_comment}
-use Rattle.h5_selector_text.proofs.scan.behind_comment.Given as goal
-
-abbrev pub invariant-loop-at : goal.invariant-loop-at
-invariant-loop-at l = behind_comment (drop l.at l.within) ≡ behind_comment l.within

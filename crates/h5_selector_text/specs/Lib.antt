@@ -1,9 +1,0 @@
-pub mod AnPlusB
-pub mod Asking
-pub mod Attributes
-pub mod Counting
-pub mod Fault
-pub mod Grammar
-pub mod Indices
-pub mod Reads
-pub mod Tokens

@@ -1,0 +1,141 @@
+-- What the parts of a selector ask of an element: types, combinators and pseudo-classes by their names (Selectors Level 4, section 17, "Grammar").
+use Rattle.std.specs.Prelude.{ℕ, ◌==◌, ◌&&◌, ◌||◌, Bool, false, bytes_eq, codes, drop, if◌then◌else◌, List, [], ◌∷◌, not, Option, None, Some, string_bytes, unwrap_or}
+use Rattle.std.specs.Str.{str_to_ascii_lowercase}
+use Rattle.h5_selectors.specs.Attributes.{TestText, test_text}
+use Rattle.h5_selectors.specs.Indices.{indices}
+use Rattle.h5_selectors.specs.Reads.{◌>>=◌}
+use Rattle.h5_selectors.specs.Tokens.{Reading, begins, begins_with, behind_blanks, in_utf8, is_at_name, is_spaced, name_at, reading, unqualified_at}
+use Rattle.h5_selectors.specs.declared.formula.AnPlusB.{AnPlusB}
+use Rattle.h5_selectors.specs.declared.formula.Formula.{Formula, Any, Name, Id, Class, Attr, Root, Scope, Empty, Link, NthOfType, Nth', Not', And', Or', Leads'}
+use Rattle.h5_selectors.specs.declared.formula.Side.{Side}
+use Rattle.h5_selectors.specs.declared.formula.Side.TheVariants.{First, Last}
+use Rattle.h5_selectors.specs.declared.formula.Way.{Way}
+use Rattle.h5_selectors.specs.declared.formula.Way.TheVariants.{Ancestor, Below, Child as ToChild, Earlier, Later, Next, Parent, Previous}
+use Rattle.h5_selectors.specs.declared.parser.Combinator.{Combinator}
+use Rattle.h5_selectors.specs.declared.parser.Combinator.TheVariants as combinator
+use Rattle.h5_selectors.specs.declared.parser.Function.{Function}
+use Rattle.h5_selectors.specs.declared.parser.Function.TheVariants as function
+
+-- what is asked of an element, without where it lies in memory
+pub data Asked : Type 0 where
+  AskAny : Asked
+  AskName : (exact lower : List ℕ) → Asked
+  AskId : (text : List ℕ) → Asked
+  AskClass : (text : List ℕ) → Asked
+  AskAttr : (test : TestText) → Asked
+  AskRoot : Asked
+  AskScope : Asked
+  AskEmpty : Asked
+  AskLink : Asked
+  AskNthOfType : (indices : AnPlusB) → (side : Side) → Asked
+  AskNth : (indices : AnPlusB) → (side : Side) → (of : Asked) → Asked
+  AskNot : (inner : Asked) → Asked
+  AskAnd : (one other : Asked) → Asked
+  AskOr : (one other : Asked) → Asked
+  AskLeads : (way : Way) → (inner : Asked) → Asked
+
+abbrev pub asked : Formula → Asked
+asked Any = AskAny
+asked (Name written) = AskName written.exact written.lower
+asked (Id text) = AskId (string_bytes text)
+asked (Class text) = AskClass (string_bytes text)
+asked (Attr test) = AskAttr (test_text test)
+asked Root = AskRoot
+asked Scope = AskScope
+asked Empty = AskEmpty
+asked Link = AskLink
+asked (NthOfType indices side) = AskNthOfType indices side
+asked (Nth' indices side p of) = AskNth indices side (asked of)
+asked (Not' p inner) = AskNot (asked inner)
+asked (And' p one q other) = AskAnd (asked one) (asked other)
+asked (Or' p one q other) = AskOr (asked one) (asked other)
+asked (Leads' way p inner) = AskLeads way (asked inner)
+
+-- both; what asks nothing is left out
+abbrev pub both : Asked → Asked → Asked
+both AskAny other = other
+both one other = AskAnd one other
+
+-- `>`, `+` or `~`, and blanks behind it
+abbrev pub sign_at : List ℕ → Option (Reading Combinator)
+sign_at [] = None
+sign_at (c ∷ text) =
+    if c == 62 then Some (reading combinator.Child (behind_blanks text))
+    else (if c == 43 then Some (reading combinator.NextSibling (behind_blanks text))
+    else (if c == 126 then Some (reading combinator.SubsequentSibling (behind_blanks text)) else None))
+
+-- a blank is one where a compound selector may stand behind it
+abbrev pub descendant_at : (spaced : Bool) → List ℕ → Option (Reading Combinator)
+descendant_at spaced text = if spaced && begins (λ c. not (c == 44 || c == 41)) text then Some (reading combinator.Descendant text) else None
+
+abbrev pub sign_or : Option (Reading Combinator) → Option (Reading Combinator) → Option (Reading Combinator)
+sign_or None other = other
+sign_or (Some sign) other = Some sign
+
+unfoldable pub combinator_at : List ℕ → Option (Reading Combinator)
+combinator_at text = sign_or (sign_at (behind_blanks text)) (descendant_at (is_spaced text) (behind_blanks text))
+
+-- in front of a relative selector; a descendant is meant where none is written
+unfoldable pub leading_at : List ℕ → Reading Combinator
+leading_at text = unwrap_or (sign_at (behind_blanks text)) (reading combinator.Descendant (behind_blanks text))
+
+-- where a combinator leads from the element behind it, and from the one before it
+abbrev pub back : Combinator → Way
+back combinator.Descendant = Ancestor
+back combinator.Child = Parent
+back combinator.NextSibling = Previous
+back combinator.SubsequentSibling = Earlier
+
+abbrev pub forth : Combinator → Way
+forth combinator.Descendant = Below
+forth combinator.Child = ToChild
+forth combinator.NextSibling = Next
+forth combinator.SubsequentSibling = Later
+
+-- a type or `*`, if one stands here
+abbrev pub type_of : Reading (List ℕ) → Option (Reading (Option Asked))
+type_of name = do
+  plain ← unqualified_at name.rest
+  Some (reading (Some (AskName name.value (str_to_ascii_lowercase name.value))) plain.rest)
+
+abbrev pub star_of : List ℕ → Option (Reading (Option Asked))
+star_of text = do
+  plain ← unqualified_at text
+  if begins_with 42 plain.rest then Some (reading (Some AskAny) (drop 1 plain.rest)) else Some (reading None plain.rest)
+
+unfoldable pub type_at : List ℕ → Option (Reading (Option Asked))
+type_at text = if is_at_name text then type_of (in_utf8 (name_at text)) else star_of text
+
+-- the first child, or the last one
+abbrev pub first : AnPlusB
+first = indices 0 false 1 false
+
+abbrev pub end_child : Side → Asked
+end_child side = AskNth first side AskAny
+
+-- a pseudo-class without arguments, by its name in lower case
+unfoldable pub plain_of : List ℕ → Option Asked
+plain_of name =
+    if bytes_eq name (codes "root") then Some AskRoot
+    else (if bytes_eq name (codes "scope") then Some AskScope
+    else (if bytes_eq name (codes "empty") then Some AskEmpty
+    else (if bytes_eq name (codes "any-link") then Some AskLink
+    else (if bytes_eq name (codes "link") then Some AskLink
+    else (if bytes_eq name (codes "first-child") then Some (end_child First)
+    else (if bytes_eq name (codes "last-child") then Some (end_child Last)
+    else (if bytes_eq name (codes "only-child") then Some (AskAnd (end_child First) (end_child Last))
+    else (if bytes_eq name (codes "first-of-type") then Some (AskNthOfType first First)
+    else (if bytes_eq name (codes "last-of-type") then Some (AskNthOfType first Last)
+    else (if bytes_eq name (codes "only-of-type") then Some (AskAnd (AskNthOfType first First) (AskNthOfType first Last)) else None))))))))))
+
+-- one with arguments
+unfoldable pub function_of : List ℕ → Option Function
+function_of name =
+    if bytes_eq name (codes "not") then Some function.Not
+    else (if bytes_eq name (codes "is") then Some function.Is
+    else (if bytes_eq name (codes "where") then Some function.Is
+    else (if bytes_eq name (codes "has") then Some function.Has
+    else (if bytes_eq name (codes "nth-child") then Some (function.NthChild First)
+    else (if bytes_eq name (codes "nth-last-child") then Some (function.NthChild Last)
+    else (if bytes_eq name (codes "nth-of-type") then Some (function.NthOfType First)
+    else (if bytes_eq name (codes "nth-last-of-type") then Some (function.NthOfType Last) else None)))))))

@@ -1,0 +1,212 @@
+//! The text of an attribute selector (Selectors Level 4, section 6, "Attribute selectors").
+ghost use Rattle.std.specs.Prelude.{◌≡◌, IfOk, option_map, string_bytes};
+ghost use Rattle.std.specs.Str.{str_to_ascii_lowercase};
+ghost use Rattle.h5_selectors.specs.Attributes.{attribute_at, comparison, comparison_at, flag_at, is_caseless, operator_at, test_by, test_text, value_at};
+ghost use Rattle.h5_selectors.specs.Reads.{Reads};
+ghost use Rattle.h5_selectors.specs.Tokens.{reading};
+
+use super::fault::{Problem, Refusal};
+use super::formula::{AttrTest, Operator, Written};
+use super::scan::Scan;
+use h5_names::LocalName;
+use std::alloc::{AllocError, Global};
+
+// The attributes whose values HTML compares without case (HTML standard, section 4.16.2).
+static CASELESS: [&str; 46] = [
+    "accept",
+    "accept-charset",
+    "align",
+    "alink",
+    "axis",
+    "bgcolor",
+    "charset",
+    "checked",
+    "clear",
+    "codetype",
+    "color",
+    "compact",
+    "declare",
+    "defer",
+    "dir",
+    "direction",
+    "disabled",
+    "enctype",
+    "face",
+    "frame",
+    "hreflang",
+    "http-equiv",
+    "lang",
+    "language",
+    "link",
+    "media",
+    "method",
+    "multiple",
+    "nohref",
+    "noresize",
+    "noshade",
+    "nowrap",
+    "readonly",
+    "rel",
+    "rev",
+    "rules",
+    "scope",
+    "scrolling",
+    "selected",
+    "shape",
+    "target",
+    "text",
+    "type",
+    "valign",
+    "valuetype",
+    "vlink",
+];
+
+// Whether HTML compares the values of this attribute without case.
+#[tactic(auto, unfolding(crate::specs::Attributes::is_caseless))]
+fn is_caseless(name: &str) -> bool
+    ensures { result ≡ is_caseless name.now }
+{
+    CASELESS.contains(&name)
+}
+
+/// A name as it is written, and in lower case.
+pub(crate) fn written(alloc: Global, text: &str) -> Result<Written, AllocError>
+    ensures { IfOk result (λ written. (written.exact ≡ text.now) × (written.lower ≡ str_to_ascii_lowercase text.now)) }
+{
+    let lower = text.to_ascii_lowercase(alloc)?;
+    Ok(Written {
+        exact: LocalName::new(alloc, text)?,
+        lower: LocalName::from_string(lower)?,
+    })
+}
+
+// An operator at the front of a text, and what is left behind it.
+#[tactic(auto, unfolding(crate::specs::Attributes::operator_at))]
+fn operator_at(text: &[char]) -> Option<(Operator, &[char])>
+    ensures { option_map (λ found. reading found.0 found.1.now) result ≡ operator_at text.now }
+{
+    match text {
+        ['=', rest @ ..] => Some((Operator::Equals, rest)),
+        ['~', '=', rest @ ..] => Some((Operator::Includes, rest)),
+        ['|', '=', rest @ ..] => Some((Operator::Dash, rest)),
+        ['^', '=', rest @ ..] => Some((Operator::Begins, rest)),
+        ['$', '=', rest @ ..] => Some((Operator::Ends, rest)),
+        ['*', '=', rest @ ..] => Some((Operator::Contains, rest)),
+        _ => None,
+    }
+}
+
+// How the value of an attribute is compared: an operator, a text, and whether a flag says that case is ignored.
+#[derive(Drop)]
+struct Comparison {
+    operator: Operator,
+    text: String,
+    flag: Option<bool>,
+}
+
+impl<'a> Scan<'a> {
+    fn operator(&mut self) -> Result<Operator, Refusal>
+        ensures { Reads (λ operator. operator) result self.new.rest.now (operator_at self.old.rest.now) }
+    {
+        if let Some((operator, rest)) = operator_at(self.rest) {
+            self.rest = rest;
+            return Ok(operator);
+        }
+        if self.rest.is_empty() {
+            return Err(self.refusal(Problem::Unclosed));
+        }
+        Err(self.refusal(Problem::Operator))
+    }
+
+    // A string or a name.
+    #[tactic(auto, unfolding(crate::specs::Attributes::value_at, crate::specs::Tokens::named_at))]
+    fn value(&mut self, alloc: Global) -> Result<String, Refusal>
+        ensures { Reads string_bytes result self.new.rest.now (value_at self.old.rest.now) }
+    {
+        self.skip_blanks();
+        if let Some(quote) = self.peek() {
+            if quote == '"' || quote == '\'' {
+                self.skip();
+                return match self.string(alloc, quote)? {
+                    Some(text) => Ok(text),
+                    None => Err(self.refusal(Problem::Unclosed)),
+                };
+            }
+        }
+        if !self.is_at_name() {
+            return Err(self.refusal(Problem::Value));
+        }
+        let name = self.name_rest(alloc)?;
+        Ok(name)
+    }
+
+    // The flag behind a value: whether case is to be ignored, if that is said.
+    #[tactic(auto, unfolding(crate::specs::Attributes::flag_at))]
+    fn flag(&mut self, alloc: Global) -> Result<Option<bool>, Refusal>
+        ensures { Reads (λ flag. flag) result self.new.rest.now (flag_at self.old.rest.now) }
+    {
+        self.skip_blanks();
+        if !self.is_at_name() {
+            return Ok(None);
+        }
+        let here = *self;
+        let name = self.name_rest(alloc)?;
+        match name.as_str() {
+            "i" | "I" => Ok(Some(true)),
+            "s" | "S" => Ok(Some(false)),
+            _ => Err(here.refusal(Problem::Flag)),
+        }
+    }
+
+    // How a value is compared. It isn't where `]` stands.
+    #[tactic(auto, unfolding(crate::specs::Attributes::comparison_at))]
+    fn comparison(&mut self, alloc: Global) -> Result<Comparison, Refusal>
+        ensures { Reads (λ c. comparison c.operator (string_bytes c.text) c.flag) result self.new.rest.now (comparison_at self.old.rest.now) }
+    {
+        if self.peek() == Some(']') {
+            return Ok(Comparison {
+                operator: Operator::Exists,
+                text: String::new(alloc),
+                flag: None,
+            });
+        }
+        let operator = self.operator()?;
+        let text = self.value(alloc)?;
+        let flag = self.flag(alloc)?;
+        Ok(Comparison {
+            operator,
+            text,
+            flag,
+        })
+    }
+
+    /// The test of an attribute, from behind `[` to behind `]`.
+    #[tactic(auto, unfolding(crate::specs::Attributes::attribute_at))]
+    pub(crate) fn attribute(&mut self, alloc: Global) -> Result<AttrTest, Refusal>
+        ensures { Reads test_text result self.new.rest.now (attribute_at self.old.rest.now) }
+    {
+        self.skip_blanks();
+        self.no_namespace()?;
+        let text = self.name(alloc)?;
+        let name = written(alloc, text.as_str())?;
+        self.no_namespace()?;
+        self.skip_blanks();
+        let compared = self.comparison(alloc)?;
+        self.close(']')?;
+        Ok(test_of(name, compared))
+    }
+}
+
+// The test of a name.
+fn test_of(name: Written, compared: Comparison) -> AttrTest
+    ensures { test_text result ≡ test_by name.exact name.lower (comparison compared.operator (string_bytes compared.text) compared.flag) }
+{
+    let is_caseless = is_caseless(name.lower.as_str());
+    AttrTest {
+        name,
+        operator: compared.operator,
+        text: compared.text,
+        ignores_case: compared.flag.unwrap_or(false),
+        ignores_case_in_html: compared.flag.unwrap_or(is_caseless),
+    }
+}

@@ -1,0 +1,670 @@
+//! The text of a selector (Selectors Level 4, sections 4.1 and 17). Each combinator becomes a way: read backwards, or, inside `:has()`,
+//! forwards.
+ghost use Rattle.std.specs.Prelude.{◌≡◌, ◌-◌, ◌==◌, [], ◌∷◌, IfErr, IfNone, IfOk, MatchOption, MatchResult, None, OnOk, Some, bytes_eq, codes, false, length, map, option_map, string_bytes, true};
+ghost use Rattle.std.specs.Str.{chars};
+ghost use Rattle.h5_selectors.specs.Asking.{AskAnd, AskLeads, AskNot, AskNth, AskNthOfType, AskOr, asked, back, both, combinator_at, end_child, first, forth, function_of, leading_at, plain_of, sign_at, type_at};
+ghost use Rattle.h5_selectors.specs.Counting.{Found};
+ghost use Rattle.h5_selectors.specs.Fault.{IsWithin, Tells};
+ghost use Rattle.h5_selectors.specs.Grammar.{arguments_within, asked_too, backwards, both_if, commas_at, complex_at, compound_at, forwards, function_at, joined_last, link_asked, links_at, list_at, list_or_none_at, most_parts, nth_child_at, of_at, pseudo_class_at, relative_at, selector_at, selectors_of, simple_at, simples_at, top_at};
+ghost use Rattle.h5_selectors.specs.Reads.{Fails, Lacks, Reads, Takes};
+ghost use Rattle.h5_selectors.specs.Tokens.{behind_blanks, named_at, reading};
+ghost use Rattle.h5_selectors.specs.declared.fault.Refusal.TheVariants.{TooLong};
+ghost use Rattle.h5_selectors.specs.declared.formula.Side.TheVariants.{First, Last};
+
+use super::attributes::written;
+use super::fault::{Problem, Refusal, SelectorFault};
+use super::formula::{AnPlusB, Formula, Side, Way};
+use super::scan::Scan;
+use std::alloc::{AllocError, Global};
+
+// How many parts a selector may have, those of the selectors in it too: a compound selector is one, and so is each id, class, attribute
+// and pseudo-class in it.
+const MOST_PARTS: u32 = 1000;
+
+const FIRST: AnPlusB = AnPlusB {
+    step: 0,
+    falls: false,
+    offset: 1,
+    is_under: false,
+};
+
+fn boxed(alloc: Global, formula: Formula) -> Result<Box<Formula>, AllocError>
+    ensures { IfOk result (λ kept. kept.value ≡ formula) }
+{
+    let kept = Box::new(alloc, formula)?;
+    Ok(kept)
+}
+
+fn negated(alloc: Global, formula: Formula) -> Result<Formula, AllocError>
+    ensures { IfOk result (λ made. asked made ≡ AskNot (asked formula)) }
+{
+    Ok(Formula::Not(boxed(alloc, formula)?))
+}
+
+fn both(alloc: Global, one: Formula, other: Formula) -> Result<Formula, AllocError>
+    ensures { IfOk result (λ made. asked made ≡ both (asked one) (asked other)) }
+{
+    match one {
+        Formula::Any => Ok(other),
+        _ => Ok(Formula::And(boxed(alloc, one)?, boxed(alloc, other)?)),
+    }
+}
+
+fn either(alloc: Global, one: Formula, other: Formula) -> Result<Formula, AllocError>
+    ensures { IfOk result (λ made. asked made ≡ AskOr (asked one) (asked other)) }
+{
+    Ok(Formula::Or(boxed(alloc, one)?, boxed(alloc, other)?))
+}
+
+fn along(alloc: Global, way: Way, formula: Formula) -> Result<Formula, AllocError>
+    ensures { IfOk result (λ made. asked made ≡ AskLeads way (asked formula)) }
+{
+    Ok(Formula::Leads(way, boxed(alloc, formula)?))
+}
+
+fn nth(alloc: Global, indices: AnPlusB, side: Side, of: Formula) -> Result<Formula, AllocError>
+    ensures { IfOk result (λ made. asked made ≡ AskNth indices side (asked of)) }
+{
+    Ok(Formula::Nth(indices, side, boxed(alloc, of)?))
+}
+
+// The first child, or the last one.
+fn first_child(alloc: Global, side: Side) -> Result<Formula, AllocError>
+    ensures { IfOk result (λ made. asked made ≡ end_child side) }
+{
+    nth(alloc, FIRST, side, Formula::Any)
+}
+
+// What stands between two compound selectors.
+#[derive(Clone, Copy)]
+enum Combinator {
+    Descendant,
+    Child,
+    NextSibling,
+    SubsequentSibling,
+}
+
+impl Combinator {
+    fn back(self) -> Way
+        ensures { result ≡ back self }
+    {
+        match self {
+            Combinator::Descendant => Way::Ancestor,
+            Combinator::Child => Way::Parent,
+            Combinator::NextSibling => Way::Previous,
+            Combinator::SubsequentSibling => Way::Earlier,
+        }
+    }
+
+    fn forth(self) -> Way
+        ensures { result ≡ forth self }
+    {
+        match self {
+            Combinator::Descendant => Way::Below,
+            Combinator::Child => Way::Child,
+            Combinator::NextSibling => Way::Next,
+            Combinator::SubsequentSibling => Way::Later,
+        }
+    }
+}
+
+impl<'a> Scan<'a> {
+    // A type or `*`, if one stands here.
+    #[tactic(auto, unfolding(crate::specs::Asking::type_at))]
+    fn type_or_any(&mut self, alloc: Global) -> Result<Option<Formula>, Refusal>
+        ensures { Reads (option_map asked) result self.new.rest.now (type_at self.old.rest.now) }
+    {
+        if self.is_at_name() {
+            let name = self.name_rest(alloc)?;
+            self.no_namespace()?;
+            return Ok(Some(Formula::Name(written(alloc, name.as_str())?)));
+        }
+        self.no_namespace()?;
+        if self.take('*') {
+            return Ok(Some(Formula::Any));
+        }
+        Ok(None)
+    }
+
+    // `>`, `+` or `~`, and the blanks behind it, if one stands here.
+    fn sign(&mut self) -> Option<Combinator>
+        ensures sign { MatchOption result (sign_at self.old.rest.now ≡ None) (λ c. sign_at self.old.rest.now ≡ Some (reading c self.new.rest.now)) }
+        ensures none { IfNone result (self.new.rest.now ≡ self.old.rest.now) }
+    {
+        let found = match self.peek() {
+            Some('>') => Combinator::Child,
+            Some('+') => Combinator::NextSibling,
+            Some('~') => Combinator::SubsequentSibling,
+            _ => return None,
+        };
+        self.skip();
+        self.skip_blanks();
+        Some(found)
+    }
+
+    // A combinator, if one stands here.
+    #[tactic(auto, unfolding(crate::specs::Asking::combinator_at))]
+    fn combinator(&mut self) -> Option<Combinator>
+        ensures found { MatchOption result (combinator_at self.old.rest.now ≡ None) (λ c. combinator_at self.old.rest.now ≡ Some (reading c self.new.rest.now)) }
+        ensures none { IfNone result (self.new.rest.now ≡ behind_blanks self.old.rest.now) }
+    {
+        let is_blank = self.skip_blanks();
+        if let Some(found) = self.sign() {
+            return Some(found);
+        }
+        match self.peek() {
+            None | Some(',') | Some(')') => None,
+            _ if is_blank => Some(Combinator::Descendant),
+            _ => None,
+        }
+    }
+
+    // A combinator in front of a selector. It is a descendant's where none is written.
+    #[tactic(auto, unfolding(crate::specs::Asking::leading_at))]
+    fn leading_combinator(&mut self) -> Combinator
+        ensures found { result ≡ (leading_at self.old.rest.now).value }
+        ensures rest { self.new.rest.now ≡ (leading_at self.old.rest.now).rest }
+    {
+        self.skip_blanks();
+        match self.sign() {
+            Some(found) => found,
+            None => Combinator::Descendant,
+        }
+    }
+
+    // The name of a pseudo-class, which begins there.
+    #[tactic(auto, unfolding(crate::specs::Tokens::named_at))]
+    fn pseudo_name(&mut self, alloc: Global, begin: Scan<'a>) -> Result<String, Refusal>
+        ensures { Reads string_bytes result self.new.rest.now (named_at self.old.rest.now) }
+    {
+        if self.peek() == Some(':') {
+            return Err(begin.refusal(Problem::PseudoElement));
+        }
+        self.name(alloc)
+    }
+}
+
+// A pseudo-class without arguments, by its name in lower case.
+#[tactic(auto, unfolding(crate::specs::Asking::plain_of))]
+fn plain(alloc: Global, name: &str, begin: Scan<'_>) -> Result<Formula, Refusal>
+    ensures { MatchResult result (λ made. plain_of name.now ≡ Some (asked made)) (λ refusal. Fails refusal (plain_of name.now)) }
+{
+    match name {
+        "root" => Ok(Formula::Root),
+        "scope" => Ok(Formula::Scope),
+        "empty" => Ok(Formula::Empty),
+        "any-link" | "link" => Ok(Formula::Link),
+        "first-child" => Ok(first_child(alloc, Side::First)?),
+        "last-child" => Ok(first_child(alloc, Side::Last)?),
+        "only-child" => Ok(only_child(alloc)?),
+        "first-of-type" => Ok(Formula::NthOfType(FIRST, Side::First)),
+        "last-of-type" => Ok(Formula::NthOfType(FIRST, Side::Last)),
+        "only-of-type" => Ok(only_of_type(alloc)?),
+        "before" | "after" | "first-line" | "first-letter" => {
+            Err(begin.refusal(Problem::PseudoElement))
+        }
+        _ => Err(begin.refusal(Problem::PseudoClass)),
+    }
+}
+
+fn only_child(alloc: Global) -> Result<Formula, AllocError>
+    ensures { IfOk result (λ made. asked made ≡ AskAnd (end_child First) (end_child Last)) }
+{
+    both(
+        alloc,
+        first_child(alloc, Side::First)?,
+        first_child(alloc, Side::Last)?,
+    )
+}
+
+fn only_of_type(alloc: Global) -> Result<Formula, AllocError>
+    ensures { IfOk result (λ made. asked made ≡ AskAnd (AskNthOfType first First) (AskNthOfType first Last)) }
+{
+    both(
+        alloc,
+        Formula::NthOfType(FIRST, Side::First),
+        Formula::NthOfType(FIRST, Side::Last),
+    )
+}
+
+// A pseudo-class that has arguments.
+#[derive(Clone, Copy)]
+enum Function {
+    Not,
+    Is,
+    Has,
+    NthChild(Side),
+    NthOfType(Side),
+}
+
+// By its name in lower case.
+#[tactic(auto, unfolding(crate::specs::Asking::function_of))]
+fn function_of(name: &str) -> Option<Function>
+    ensures { result ≡ function_of name.now }
+{
+    match name {
+        "not" => Some(Function::Not),
+        "is" | "where" => Some(Function::Is),
+        "has" => Some(Function::Has),
+        "nth-child" => Some(Function::NthChild(Side::First)),
+        "nth-last-child" => Some(Function::NthChild(Side::Last)),
+        "nth-of-type" => Some(Function::NthOfType(Side::First)),
+        "nth-last-of-type" => Some(Function::NthOfType(Side::Last)),
+        _ => None,
+    }
+}
+
+// Whether a name is the one behind which selectors stand, in what `:nth-child()` takes.
+fn is_of(name: &[char]) -> bool
+    ensures { result ≡ bytes_eq name.now (codes "of") }
+{
+    matches!(name, ['o', 'f'])
+}
+
+// With what was asked of the same element before, if anything was.
+fn asked_too(alloc: Global, before: Option<Formula>, next: Formula) -> Result<Formula, AllocError>
+    ensures { IfOk result (λ made. asked made ≡ asked_too (option_map asked before) (asked next)) }
+{
+    match before {
+        Some(before) => both(alloc, before, next),
+        None => Ok(next),
+    }
+}
+
+// With what else is asked of the same element, if anything is.
+fn both_if(alloc: Global, one: Formula, other: Option<Formula>) -> Result<Formula, AllocError>
+    ensures { IfOk result (λ made. asked made ≡ both_if (asked one) (option_map asked other)) }
+{
+    match other {
+        Some(other) => both(alloc, one, other),
+        None => Ok(one),
+    }
+}
+
+// A combinator, and what is asked behind it.
+#[derive(Drop)]
+struct Link {
+    combinator: Combinator,
+    compound: Formula,
+}
+
+// What a selector asks of its last element, and from there backwards.
+fn backwards(alloc: Global, first: Formula, links: Vec<Link>) -> Result<Formula, AllocError>
+    ensures { IfOk result (λ made. asked made ≡ backwards (asked first) (map link_asked links.items)) }
+{
+    let mut all = first;
+    for link in links {
+        let before = along(alloc, link.combinator.back(), all)?;
+        all = both(alloc, link.compound, before)?;
+    }
+    Ok(all)
+}
+
+// What is asked along combinators, from the first element on.
+fn forwards(alloc: Global, links: Vec<Link>) -> Result<Option<Formula>, AllocError>
+    ensures { IfOk result (λ made. option_map asked made ≡ forwards (map link_asked links.items) None) }
+{
+    let mut links = links;
+    let mut further = None;
+    while let Some(link) = links.pop() {
+        let all = both_if(alloc, link.compound, further)?;
+        further = Some(along(alloc, link.combinator.forth(), all)?);
+    }
+    Ok(further)
+}
+
+// Where a selector stands.
+#[derive(Clone, Copy)]
+struct Nesting {
+    // How deep selectors may still be nested in it.
+    room: u32,
+    is_in_has: bool,
+}
+
+// What is being read, and how many parts may still be.
+#[derive(Drop)]
+struct Parser<'a> {
+    scan: Scan<'a>,
+    parts: u32,
+    alloc: Global,
+}
+
+impl<'a> Parser<'a> {
+    fn count_part(&mut self) -> Result<(), Refusal>
+        ensures refused { IfErr result (λ refusal. (refusal ≡ TooLong (length self.old.scan.rest.now)) × ((self.old.parts == 0) ≡ true)) }
+        ensures counted { OnOk result ((self.old.parts == 0) ≡ false) }
+        ensures parts { OnOk result (self.new.parts ≡ self.old.parts - 1) }
+        ensures scan { self.new.scan ≡ self.old.scan }
+    {
+        if self.parts == 0 {
+            return Err(self.scan.too_long());
+        }
+        self.parts -= 1;
+        Ok(())
+    }
+
+    // What stands between the brackets of a pseudo-class, which begins there.
+    #[cycle(parse)]
+    #[tactic(auto, unfolding(crate::specs::Grammar::arguments_within, crate::specs::Grammar::arguments_by))]
+    fn arguments(
+        &mut self,
+        function: Function,
+        begin: Scan<'a>,
+        nesting: Nesting,
+    ) -> Result<Formula, Refusal>
+        ensures { Takes asked result self.new.parts self.new.scan.rest.now (arguments_within nesting.room nesting.is_in_has function self.old.parts self.old.scan.rest.now) }
+    {
+        if nesting.room == 0 {
+            return Err(begin.too_long());
+        }
+        let inner = Nesting {
+            room: nesting.room - 1,
+            is_in_has: nesting.is_in_has,
+        };
+        match function {
+            Function::Not => {
+                let list = self.list(false, inner)?;
+                Ok(negated(self.alloc, list)?)
+            }
+            Function::Is => self.list_or_none(inner),
+            Function::Has if nesting.is_in_has => Err(begin.refusal(Problem::NestedHas)),
+            Function::Has => self.list(
+                true,
+                Nesting {
+                    room: inner.room,
+                    is_in_has: true,
+                },
+            ),
+            Function::NthChild(side) => self.nth_child(side, inner),
+            Function::NthOfType(side) => {
+                Ok(Formula::NthOfType(self.scan.indices(self.alloc)?, side))
+            }
+        }
+    }
+
+    // What `:nth-child()` asks, or `:nth-last-child()`.
+    #[cycle(parse)]
+    #[tactic(auto, unfolding(crate::specs::Grammar::nth_child_at))]
+    fn nth_child(&mut self, side: Side, nesting: Nesting) -> Result<Formula, Refusal>
+        ensures { Takes asked result self.new.parts self.new.scan.rest.now (nth_child_at (arguments_within nesting.room nesting.is_in_has) side self.old.parts self.old.scan.rest.now) }
+    {
+        let indices = self.scan.indices(self.alloc)?;
+        let of = self.of(nesting)?;
+        Ok(nth(self.alloc, indices, side, of)?)
+    }
+
+    // What is asked of those that are counted.
+    #[cycle(parse)]
+    #[tactic(auto, unfolding(crate::specs::Grammar::of_at))]
+    fn of(&mut self, nesting: Nesting) -> Result<Formula, Refusal>
+        ensures { Takes asked result self.new.parts self.new.scan.rest.now (of_at (arguments_within nesting.room nesting.is_in_has) self.old.parts self.old.scan.rest.now) }
+    {
+        self.scan.skip_blanks();
+        if !self.scan.is_at_name() {
+            return Ok(Formula::Any);
+        }
+        let here = self.scan;
+        let name = self.scan.lower_name(self.alloc)?;
+        if !is_of(name.as_slice()) {
+            return Err(here.refusal(Problem::AnPlusB));
+        }
+        self.list(false, nesting)
+    }
+
+    // A pseudo-class with arguments, by its name in lower case, from behind its `(` to its `)`.
+    #[cycle(parse)]
+    #[tactic(auto, unfolding(crate::specs::Grammar::function_at))]
+    fn function(
+        &mut self,
+        name: &str,
+        begin: Scan<'a>,
+        nesting: Nesting,
+    ) -> Result<Formula, Refusal>
+        ensures { Takes asked result self.new.parts self.new.scan.rest.now (function_at (arguments_within nesting.room nesting.is_in_has) name.now self.old.parts self.old.scan.rest.now) }
+    {
+        let Some(function) = function_of(name) else {
+            return Err(begin.refusal(Problem::PseudoClass));
+        };
+        let formula = self.arguments(function, begin, nesting)?;
+        self.scan.close(')')?;
+        Ok(formula)
+    }
+
+    // A pseudo-class, from behind its `:`.
+    #[cycle(parse)]
+    #[tactic(auto, unfolding(crate::specs::Grammar::pseudo_class_at))]
+    fn pseudo_class(&mut self, begin: Scan<'a>, nesting: Nesting) -> Result<Formula, Refusal>
+        ensures { Takes asked result self.new.parts self.new.scan.rest.now (pseudo_class_at (arguments_within nesting.room nesting.is_in_has) self.old.parts self.old.scan.rest.now) }
+    {
+        let name = self.scan.pseudo_name(self.alloc, begin)?;
+        let lower = name.as_str().to_ascii_lowercase(self.alloc)?;
+        if self.scan.take('(') {
+            return self.function(lower.as_str(), begin, nesting);
+        }
+        plain(self.alloc, lower.as_str(), begin)
+    }
+
+    // An id, a class, an attribute or a pseudo-class, if one stands here.
+    #[cycle(parse)]
+    #[tactic(auto, unfolding(crate::specs::Grammar::simple_at))]
+    fn simple(&mut self, nesting: Nesting) -> Result<Option<Formula>, Refusal>
+        ensures { Takes (option_map asked) result self.new.parts self.new.scan.rest.now (simple_at (arguments_within nesting.room nesting.is_in_has) self.old.parts self.old.scan.rest.now) }
+    {
+        let begin = self.scan;
+        let Some(c) = begin.peek() else {
+            return Ok(None);
+        };
+        if !matches!(c, '#' | '.' | '[' | ':') {
+            return Ok(None);
+        }
+        self.scan.skip();
+        self.count_part()?;
+        let formula = match c {
+            '#' => Formula::Id(self.scan.name(self.alloc)?),
+            '.' => Formula::Class(self.scan.name(self.alloc)?),
+            '[' => Formula::Attr(self.scan.attribute(self.alloc)?),
+            _ => self.pseudo_class(begin, nesting)?,
+        };
+        Ok(Some(formula))
+    }
+
+    // All of them that stand here, with what was asked before.
+    #[cycle(parse)]
+    fn simples(
+        &mut self,
+        before: Option<Formula>,
+        nesting: Nesting,
+    ) -> Result<Option<Formula>, Refusal>
+        ensures { Takes (option_map asked) result self.new.parts self.new.scan.rest.now
+            (simples_at (arguments_within nesting.room nesting.is_in_has) (option_map asked before) self.old.parts self.old.scan.rest.now) }
+    {
+        let mut all = before;
+        for _step in 0..self.scan.rest.len() {
+            self.scan.skip_comments();
+            let Some(next) = self.simple(nesting)? else {
+                return Ok(all);
+            };
+            all = Some(asked_too(self.alloc, all, next)?);
+        }
+        Ok(all)
+    }
+
+    // All that is asked of one element.
+    #[cycle(parse)]
+    #[tactic(auto, unfolding(crate::specs::Grammar::compound_at))]
+    fn compound(&mut self, nesting: Nesting) -> Result<Formula, Refusal>
+        ensures { Takes asked result self.new.parts self.new.scan.rest.now (compound_at (arguments_within nesting.room nesting.is_in_has) self.old.parts self.old.scan.rest.now) }
+    {
+        self.count_part()?;
+        let begun = self.scan.type_or_any(self.alloc)?;
+        match self.simples(begun, nesting)? {
+            Some(all) => Ok(all),
+            None => Err(self.scan.refusal(Problem::Selector)),
+        }
+    }
+
+    // Combinators, each with a compound selector behind it.
+    #[cycle(parse)]
+    fn links(&mut self, nesting: Nesting) -> Result<Vec<Link>, Refusal>
+        ensures { Takes (λ links. map link_asked links.items) result self.new.parts self.new.scan.rest.now (links_at (arguments_within nesting.room nesting.is_in_has) self.old.parts self.old.scan.rest.now) }
+    {
+        let mut links = Vec::new(self.alloc);
+        for _step in 0..self.scan.rest.len() {
+            let Some(combinator) = self.scan.combinator() else {
+                return Ok(links);
+            };
+            let compound = self.compound(nesting)?;
+            links.push(Link {
+                combinator,
+                compound,
+            })?;
+        }
+        Ok(links)
+    }
+
+    // A selector without a comma.
+    #[cycle(parse)]
+    #[tactic(auto, unfolding(crate::specs::Grammar::complex_at))]
+    fn complex(&mut self, nesting: Nesting) -> Result<Formula, Refusal>
+        ensures { Takes asked result self.new.parts self.new.scan.rest.now (complex_at (arguments_within nesting.room nesting.is_in_has) self.old.parts self.old.scan.rest.now) }
+    {
+        self.scan.skip_blanks();
+        let first = self.compound(nesting)?;
+        let links = self.links(nesting)?;
+        Ok(backwards(self.alloc, first, links)?)
+    }
+
+    // A selector of what an element leads to.
+    #[cycle(parse)]
+    #[tactic(auto, unfolding(crate::specs::Grammar::relative_at))]
+    fn relative(&mut self, nesting: Nesting) -> Result<Formula, Refusal>
+        ensures { Takes asked result self.new.parts self.new.scan.rest.now (relative_at (arguments_within nesting.room nesting.is_in_has) self.old.parts self.old.scan.rest.now) }
+    {
+        let leading = self.scan.leading_combinator();
+        let first = self.compound(nesting)?;
+        let links = self.links(nesting)?;
+        let further = forwards(self.alloc, links)?;
+        let all = both_if(self.alloc, first, further)?;
+        Ok(along(self.alloc, leading.forth(), all)?)
+    }
+
+    // One of several, with commas between them.
+    #[cycle(parse)]
+    fn selector(&mut self, is_relative: bool, nesting: Nesting) -> Result<Formula, Refusal>
+        ensures { Takes asked result self.new.parts self.new.scan.rest.now (selector_at (arguments_within nesting.room nesting.is_in_has) is_relative self.old.parts self.old.scan.rest.now) }
+    {
+        if is_relative {
+            return self.relative(nesting);
+        }
+        self.complex(nesting)
+    }
+
+    // Those behind the first, each behind a comma.
+    #[cycle(parse)]
+    fn others(
+        &mut self,
+        first: Formula,
+        is_relative: bool,
+        nesting: Nesting,
+    ) -> Result<Formula, Refusal>
+        ensures { Takes asked result self.new.parts self.new.scan.rest.now (commas_at AskOr (selector_at (arguments_within nesting.room nesting.is_in_has) is_relative)
+            (asked first) self.old.parts self.old.scan.rest.now) }
+    {
+        let mut all = first;
+        for _step in 0..self.scan.rest.len() {
+            if !self.scan.take(',') {
+                return Ok(all);
+            }
+            let next = self.selector(is_relative, nesting)?;
+            all = either(self.alloc, all, next)?;
+        }
+        Ok(all)
+    }
+
+    // Selectors with commas between them.
+    #[cycle(parse)]
+    #[tactic(auto, unfolding(crate::specs::Grammar::list_at))]
+    fn list(&mut self, is_relative: bool, nesting: Nesting) -> Result<Formula, Refusal>
+        ensures { Takes asked result self.new.parts self.new.scan.rest.now (list_at (arguments_within nesting.room nesting.is_in_has) is_relative self.old.parts self.old.scan.rest.now) }
+    {
+        let first = self.selector(is_relative, nesting)?;
+        self.others(first, is_relative, nesting)
+    }
+
+    // There may be none.
+    #[cycle(parse)]
+    #[tactic(auto, unfolding(crate::specs::Grammar::list_or_none_at))]
+    fn list_or_none(&mut self, nesting: Nesting) -> Result<Formula, Refusal>
+        ensures { Takes asked result self.new.parts self.new.scan.rest.now (list_or_none_at (arguments_within nesting.room nesting.is_in_has) self.old.parts self.old.scan.rest.now) }
+    {
+        self.scan.skip_blanks();
+        if self.scan.peek() == Some(')') {
+            return Ok(negated(self.alloc, Formula::Any)?);
+        }
+        self.list(false, nesting)
+    }
+}
+
+// Where no selector is nested.
+const TOP: Nesting = Nesting {
+    room: MOST_PARTS,
+    is_in_has: false,
+};
+
+// Those behind the first, each behind a comma. Each has parts of its own.
+fn more_selectors(parser: &mut Parser<'_>, first: Formula) -> Result<Vec<Formula>, Refusal>
+    ensures { Takes (λ list. map asked list.items) result parser.new.parts parser.new.scan.rest.now
+        (commas_at joined_last top_at (asked first ∷ []) parser.old.parts parser.old.scan.rest.now) }
+{
+    let mut list = Vec::new(parser.alloc);
+    list.push(first)?;
+    for _step in 0..parser.scan.rest.len() {
+        if !parser.scan.take(',') {
+            return Ok(list);
+        }
+        parser.parts = MOST_PARTS;
+        list.push(parser.complex(TOP)?)?;
+    }
+    Ok(list)
+}
+
+// The selectors of a whole text.
+#[tactic(auto, unfolding(crate::specs::Grammar::selectors_of))]
+fn selectors(alloc: Global, characters: &[char]) -> Result<Vec<Formula>, Refusal>
+    ensures { MatchResult result (λ list. selectors_of characters.now ≡ Found (map asked list.items)) (λ refusal. Lacks refusal (selectors_of characters.now)) }
+{
+    let mut parser = Parser {
+        scan: Scan { rest: characters },
+        parts: MOST_PARTS,
+        alloc,
+    };
+    let first = parser.complex(TOP)?;
+    let list = more_selectors(&mut parser, first)?;
+    if !parser.scan.rest.is_empty() {
+        return Err(parser.scan.refusal(Problem::Rest));
+    }
+    Ok(list)
+}
+
+// The characters of a text.
+fn characters_of(alloc: Global, text: &str) -> Result<Vec<char>, AllocError>
+    ensures { IfOk result (λ characters. characters.items ≡ chars text.now) }
+{
+    text.chars().collect(alloc)
+}
+
+/// What the selectors of a list ask, by its text (Selectors Level 4, section 17, "Grammar"). `Invalid` tells what is wrong, and behind how many
+/// characters; it is `TooLong` where one of the selectors has more than 1,000 parts. Where memory is refused, it is `Memory`.
+pub fn parse(alloc: Global, text: &str) -> Result<Vec<Formula>, SelectorFault>
+    ensures selectors { IfOk result (λ list. selectors_of (chars text.now) ≡ Found (map asked list.items)) }
+    ensures place { IfErr result (IsWithin (length (chars text.now))) }
+    ensures fault { IfErr result (λ fault. Tells fault (selectors_of (chars text.now))) }
+{
+    let Ok(characters) = characters_of(alloc, text) else {
+        return Err(SelectorFault::Memory);
+    };
+    match selectors(alloc, characters.as_slice()) {
+        Ok(list) => Ok(list),
+        Err(refusal) => Err(refusal.in_text(characters.len())),
+    }
+}
