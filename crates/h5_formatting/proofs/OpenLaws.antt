@@ -10,7 +10,7 @@ use Rattle.h5_rules.specs.formatting.Adoption.{block_or, furthest_block, newer_t
 use Rattle.h5_rules.specs.stack.Order.{IsIn}
 use Rattle.h5_rules.proofs.entries.PassLaws.{stack_split}
 use Rattle.h5_rules.specs.World.{World, name_in}
-use Rattle.h5_stack.specs.Numbered.{values}
+use Rattle.h5_state.specs.Numbered.{values}
 use Rattle.h5_state.specs.declared.open_element.OpenElements.{OpenElements}
 use Rattle.h5_state.specs.View.{elements_of, open_node, stack_under}
 use Rattle.h5_state.specs.declared.open_element.OpenElement.{OpenElement}

@@ -4,8 +4,8 @@ use Rattle.std.specs.List.{insert, remove}
 use Rattle.std.specs.Result.{OnErr}
 use Rattle.std.proofs.lemmas.List.{get_or_default}
 use Rattle.h5_tables.specs.declared.entry.FormatEntry.{FormatEntry}
-use Rattle.h5_stack.specs.Numbered.{Numbered}
-use Rattle.h5_stack.proofs.StackLaws.{item_at}
+use Rattle.h5_state.specs.Numbered.{Numbered}
+use Rattle.h5_state.proofs.NumberedStackLaws.{item_at}
 use Rattle.h5_list.specs.declared.index.Index.{Index}
 use Rattle.h5_list.specs.declared.keys.KeyNumbers.{KeyNumbers}
 use Rattle.h5_list.specs.Keys.{AreKept, IsIndexOf, IsIndexed}

@@ -9,7 +9,7 @@ use Rattle.h5_tables.specs.declared.entry.FormatEntry.{FormatEntry}
 use Rattle.h5_tables.specs.declared.entry.FormatEntry.TheVariants.{Element, Marker}
 use Rattle.h5_rules.specs.formatting.FormattingList.{is_alike}
 use Rattle.h5_rules.proofs.entries.AlikeLaws.{alike_told}
-use Rattle.h5_stack.specs.Numbered.{Numbered, numbers, one_of}
+use Rattle.h5_state.specs.Numbered.{Numbered, numbers, one_of}
 use Rattle.h5_list.specs.declared.keys.KeyNumbers.{KeyNumbers}
 use Rattle.h5_list.specs.Keys.{AreKept, AreKeyed, AreOthers, HasKeyNumber, IsKeyed, IsNumberOfAlike, StayKeyed, key_number}
 use Rattle.h5_list.specs.Listed.{is_alike_entry, with_handle}

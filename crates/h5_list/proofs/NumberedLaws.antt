@@ -2,8 +2,8 @@
 use Rattle.std.proofs.Common.{◌≡◌, ◌<◌, ℕ, suc, List, [], ◌∷◌, ◌++◌, drop, get_or, length, map, set, take, refl, ap, sym, ◌∙◌, arith}
 use Rattle.std.specs.List.{insert, remove}
 use Rattle.std.proofs.lemmas.List.{drop-map, get_or-map, length-map, map-append, map-set, set-get_or, take-map}
-use Rattle.h5_stack.specs.Numbered.{Numbered, numbers, one_of}
-use Rattle.h5_stack.proofs.StackLaws.{item_at}
+use Rattle.h5_state.specs.Numbered.{Numbered, numbers, one_of}
+use Rattle.h5_state.proofs.NumberedStackLaws.{item_at}
 use Rattle.h5_tables.specs.declared.entry.FormatEntry.{FormatEntry}
 use Rattle.h5_tables.specs.declared.entry.FormatEntry.TheVariants.{Element, Marker}
 use Rattle.h5_list.specs.Listed.{with_handle}

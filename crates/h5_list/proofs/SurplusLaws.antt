@@ -6,7 +6,7 @@ use Rattle.h5_token.specs.TokenText.{TagText}
 use Rattle.h5_tables.specs.declared.entry.FormatEntry.{FormatEntry}
 use Rattle.h5_tables.specs.declared.entry.FormatEntry.TheVariants.{Element, Marker}
 use Rattle.h5_rules.specs.formatting.FormattingList.{Entry}
-use Rattle.h5_stack.specs.Numbered.{newest_of}
+use Rattle.h5_state.specs.Numbered.{newest_of}
 use Rattle.h5_list.specs.declared.surplus.Alike.{Alike}
 use Rattle.h5_list.specs.Keys.{AreOthers}
 use Rattle.h5_list.specs.Listed.{alike_from, entries_of, entry_of, is_alike_entry, none_found}

@@ -8,8 +8,8 @@ use Rattle.h5_tables.specs.declared.entry.FormatEntry.{FormatEntry}
 use Rattle.h5_tables.specs.declared.entry.FormatEntry.TheVariants.{Element, Marker}
 use Rattle.h5_rules.specs.formatting.Adoption.{FormattingElement, newest_named}
 use Rattle.h5_rules.specs.formatting.FormattingList.{ElementEntry, Entry, MarkerEntry}
-use Rattle.h5_stack.specs.Numbered.{Numbered, newest_of, numbers}
-use Rattle.h5_stack.proofs.NewestLaws.{newest_at, none_above}
+use Rattle.h5_state.specs.Numbered.{Numbered, newest_of, numbers}
+use Rattle.h5_state.proofs.NumberedNewestLaws.{newest_at, none_above}
 use Rattle.h5_list.specs.Listed.{IsNewestNamedAt, entries_of, entry_of, is_named}
 use Rattle.h5_list.specs.Numbers.{AreNumbered, IsAfterMarkers, entry_number, name_number}
 use Rattle.h5_list.proofs.NumberedLaws.{number_is}

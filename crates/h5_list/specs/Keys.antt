@@ -5,8 +5,8 @@ use Rattle.h5_token.specs.Keys.{IsKeyOf}
 use Rattle.h5_token.specs.TokenText.{IsAlike, TagText, tag_text}
 use Rattle.h5_tables.specs.declared.entry.FormatEntry.{FormatEntry}
 use Rattle.h5_tables.specs.declared.entry.FormatEntry.TheVariants.{Element, Marker}
-use Rattle.h5_stack.specs.Numbered.{Numbered, numbers}
-use Rattle.h5_stack.specs.Numbering.{number_of}
+use Rattle.h5_state.specs.Numbered.{Numbered, numbers}
+use Rattle.h5_state.specs.Numbering.{number_of}
 use Rattle.h5_list.specs.declared.index.Index.{Index}
 use Rattle.h5_list.specs.declared.keys.KeyNumbers.{KeyNumbers}
 use Rattle.h5_list.specs.Listed.{is_alike_entry}

@@ -5,7 +5,7 @@ use Rattle.h5_names.specs.KnownNames.{known_name_of}
 use Rattle.h5_names.specs.contracts.known_name.KnownName.{the_type}
 use Rattle.h5_tables.specs.declared.entry.FormatEntry.{FormatEntry}
 use Rattle.h5_tables.specs.declared.entry.FormatEntry.TheVariants.{Element, Marker}
-use Rattle.h5_stack.specs.Numbered.{Numbered, numbers}
+use Rattle.h5_state.specs.Numbered.{Numbered, numbers}
 
 -- a number of a name: equal names have equal numbers, and others may share one
 unfoldable pub name_number : List ℕ → ℕ

@@ -11,7 +11,7 @@ use super::index::{Index, build_index, move_index, push_index, remove_index, tru
 use super::named::{find_newest_named, pass_others};
 use super::surplus::find_alike;
 use h5_names::LocalName;
-use h5_stack::move_up;
+use h5_state::move_up;
 use h5_tables::FormatEntry;
 use h5_token::Tag;
 use std::alloc::{AllocError, Global};

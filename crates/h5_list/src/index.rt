@@ -3,14 +3,14 @@
 //! A short list has none: to walk over it takes less than to keep an index.
 ghost use Rattle.std.specs.Prelude.{◌≡◌, ◌<◌, ◌≤◌, ◌∷◌, ◌++◌, [], List, IfOk, OnErr, OnOk, length, slice_index_or, take, vec_len};
 ghost use Rattle.std.specs.List.{insert, remove};
-ghost use Rattle.h5_stack.specs.Numbered.{Numbered};
+ghost use Rattle.h5_state.specs.Numbered.{Numbered};
 ghost use Rattle.h5_tables.specs.declared.entry.FormatEntry.{FormatEntry as EntryAt};
 ghost use Rattle.h5_list.specs.Keys.{IsIndexOf, IsIndexed};
 
 use super::keys::KeyNumbers;
 use super::numbers::{MARKER, entry_number};
 use super::stacks::push_both;
-use h5_stack::NumberedStack;
+use h5_state::NumberedStack;
 use h5_tables::FormatEntry;
 use std::alloc::AllocError;
 

@@ -1,8 +1,8 @@
 //! The numbers of keys. Entries whose tags are alike have the same key, so an entry with another isn't alike.
 ghost use Rattle.std.specs.Prelude.{◌≡◌, ◌<◌, IfOk, length};
-ghost use Rattle.h5_stack.specs.Numbering.{base_of};
+ghost use Rattle.h5_state.specs.Numbering.{base_of};
 
-use h5_stack::Numbering;
+use h5_state::Numbering;
 use h5_tables::FormatEntry;
 use h5_token::{Tag, tag_key};
 use std::alloc::{AllocError, Global};

@@ -1,8 +1,8 @@
 //! The two stacks of numbers beside the entries: they grow together, or not at all.
 ghost use Rattle.std.specs.Prelude.{◌≡◌, ◌∷◌, ◌++◌, [], OnErr, OnOk};
-ghost use Rattle.h5_stack.specs.Numbered.{one_of};
+ghost use Rattle.h5_state.specs.Numbered.{one_of};
 
-use h5_stack::NumberedStack;
+use h5_state::NumberedStack;
 use std::alloc::AllocError;
 
 /// A number becomes the newest of each. Where memory is refused both are what they were.

@@ -1,6 +1,6 @@
 //! Which entries after the last marker are alike to a tag.
 ghost use Rattle.std.specs.Prelude.{◌≡◌, ◌≢◌, ◌<◌, ◌≤◌, ◌+◌, ◌^◌, ◌∷◌, ℕ, List, length};
-ghost use Rattle.h5_stack.specs.Numbered.{numbers};
+ghost use Rattle.h5_state.specs.Numbered.{numbers};
 ghost use Rattle.h5_token.specs.TokenText.{tag_text};
 ghost use Rattle.h5_rules.specs.formatting.FormattingList.{Entry as EntryText};
 ghost use Rattle.h5_list.specs.Keys.{AreOthers, IsIndexOf, IsIndexed};
@@ -10,7 +10,7 @@ ghost use Rattle.h5_list.specs.Numbers.{IsAfterMarkers, entry_number};
 use super::index::Index;
 use super::keys::{FEW, NO_KEY};
 use super::numbers::{MARKER, after_markers};
-use h5_stack::NumberedStack;
+use h5_state::NumberedStack;
 use h5_tables::FormatEntry;
 use h5_token::Tag;
 

@@ -9,9 +9,9 @@ use Rattle.h5_rules.specs.formatting.Adoption.{older_than}
 use Rattle.h5_rules.specs.stack.Order.{IsIn, is_in}
 use Rattle.h5_rules.specs.World.{name_in}
 use Rattle.h5_rules.proofs.entries.PairLaws.{is_in_telling, is_in_true}
-use Rattle.h5_stack.specs.Numbered.{newest_of, newest_under, numbers, values}
-use Rattle.h5_stack.proofs.ItemLaws.{length-numbers, length-values}
-use Rattle.h5_stack.proofs.PlaceLaws.{newest_here, newest_other}
+use Rattle.h5_state.specs.Numbered.{newest_of, newest_under, numbers, values}
+use Rattle.h5_state.proofs.ItemLaws.{length-numbers, length-values}
+use Rattle.h5_state.proofs.PlaceLaws.{newest_here, newest_other}
 use Rattle.h5_state.specs.Numbers.{name_number}
 use Rattle.h5_state.specs.Summaries.{IsKept}
 use Rattle.h5_state.specs.View.{open_node}

@@ -1,10 +1,16 @@
 pub mod AttributeLaws
 pub mod ChainLaws
 pub mod FoundLaws
+pub mod ItemLaws
 pub mod NewestLaws
 pub mod NumberLaws
+pub mod NumberedNewestLaws
+pub mod NumberedStackLaws
+pub mod NumberingLaws
 pub mod OverLaws
+pub mod PlaceLaws
 pub mod RenewLaws
+pub mod ReplaceLaws
 pub mod ReplacedLaws
 pub mod SeenLaws
 pub mod StackLaws

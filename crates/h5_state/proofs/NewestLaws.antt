@@ -4,7 +4,7 @@ use Rattle.std.proofs.lemmas.Bool.{eqb-false, eqb-true, le-leb, le-ltb, lt-leb, 
 use Rattle.std.proofs.lemmas.List.{length-append, length-map}
 use Rattle.std.specs.List.{list_any}
 use Rattle.h5_names.specs.declared.qualified.QualName.{QualName}
-use Rattle.h5_stack.specs.Numbered.{newest_of}
+use Rattle.h5_state.specs.Numbered.{newest_of}
 use Rattle.h5_rules.specs.stack.Scope.{cut_above, cut_through, in_scope, oldest_of, oldest_passing}
 use Rattle.std.proofs.lemmas.List.Folds.{list_any-append}
 use Rattle.std.proofs.lemmas.Slice.Eq.{bytes_eq-Decides}

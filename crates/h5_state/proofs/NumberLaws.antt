@@ -14,7 +14,7 @@ use Rattle.h5_names.specs.declared.known_name.KnownName.{KnownName}
 use Rattle.h5_names.specs.declared.known_name.KnownName.TheVariants.{A, Other}
 use Rattle.h5_names.specs.declared.qualified.QualName.{QualName}
 use Rattle.h5_names.proofs.KnownNameLemmas.{same_known, same_tests}
-use Rattle.h5_stack.specs.Numbering.{number_of}
+use Rattle.h5_state.specs.Numbering.{number_of}
 use Rattle.h5_tables.specs.TagSets.{html_namespace, is_html_named}
 use Rattle.h5_rules.specs.insertion.Foreign.{is_named_in_any_case}
 use Rattle.h5_state.specs.Newest.{is_foreign_named}

@@ -6,9 +6,9 @@ use Rattle.std.specs.List.{remove}
 use Rattle.std.proofs.lemmas.List.{drop-map, length-take, map-append, map-set, set-get_or, take-map, take_more, take_more_set}
 use Rattle.h5_interface.specs.Forest.{Forest}
 use Rattle.h5_rules.specs.World.{name_in}
-use Rattle.h5_stack.specs.Numbered.{Numbered, numbers, one_of, values}
+use Rattle.h5_state.specs.Numbered.{Numbered, numbers, one_of, values}
 use Rattle.h5_names.specs.declared.qualified.QualName.{QualName}
-use Rattle.h5_stack.proofs.ItemLaws.{length-values}
+use Rattle.h5_state.proofs.ItemLaws.{length-values}
 use Rattle.h5_state.specs.Numbers.{name_number}
 use Rattle.h5_state.specs.Summaries.{IsKept, all_open, summaries, summary_of}
 use Rattle.h5_state.specs.View.{open_node}

@@ -6,7 +6,7 @@ use Rattle.h5_interface.specs.Forest.{Forest}
 use Rattle.h5_rules.specs.World.{name_in}
 use Rattle.h5_rules.specs.stack.Order.{IsIn}
 use Rattle.h5_rules.proofs.entries.PairLaws.{in_left, in_right}
-use Rattle.h5_stack.specs.Numbered.{Numbered, numbers, one_of, values}
+use Rattle.h5_state.specs.Numbered.{Numbered, numbers, one_of, values}
 use Rattle.h5_state.specs.Numbers.{name_number}
 use Rattle.h5_state.specs.Replaced.{AreNumbered, IsPut, StayNumbered, names_in}
 use Rattle.h5_state.specs.Stamps.{OpenStamp, stamp_of}

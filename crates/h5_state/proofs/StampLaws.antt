@@ -10,7 +10,7 @@ use Rattle.h5_tables.specs.declared.entry.FormatEntry.{FormatEntry}
 use Rattle.h5_tables.specs.declared.entry.FormatEntry.TheVariants.{Element, Marker}
 use Rattle.h5_rules.specs.stack.Order.{Distinct, IsIn, is_in}
 use Rattle.h5_rules.proofs.entries.PairLaws.{is_in_false}
-use Rattle.h5_stack.specs.Numbered.{values}
+use Rattle.h5_state.specs.Numbered.{values}
 use Rattle.h5_state.specs.Stamps.{AreStamped, IsAbove, IsStamped, MayStandBelow, NoneLower, OpenStamp, stamp_of, stamps_of}
 use Rattle.h5_state.specs.View.{open_node}
 use Rattle.h5_state.specs.declared.open_element.Listed.{Listed}

@@ -16,7 +16,7 @@ use Rattle.h5_state.specs.declared.name_numbers.NameNumbers.{NameNumbers}
 use Rattle.h5_state.specs.declared.open_element.OpenElement.{OpenElement}
 use Rattle.h5_state.specs.declared.open_element.OpenElements.{OpenElements}
 use Rattle.h5_state.specs.declared.open_element.Summary.{Summary}
-use Rattle.h5_stack.specs.Numbered.{Numbered, numbers, one_of, values}
+use Rattle.h5_state.specs.Numbered.{Numbered, numbers, one_of, values}
 use Rattle.h5_state.proofs.SeenLaws.{same_tail}
 use Rattle.h5_state.proofs.StackLaws.{last_split, seen_pushed}
 use Rattle.h5_state.specs.Numbers.{name_number}

@@ -1,7 +1,13 @@
+pub mod Items
 pub mod Newest
+pub mod Numbered
+pub mod Numbering
+pub mod Numberings
 pub mod Numbers
 pub mod OpenPlaces
+pub mod Places
 pub mod Replaced
+pub mod Replacing
 pub mod Stamps
 pub mod Steps
 pub mod Summaries

@@ -8,7 +8,7 @@ use Rattle.h5_names.specs.KnownNames.{known_name_of}
 use Rattle.h5_names.specs.contracts.known_name.KnownName.{the_type}
 use Rattle.h5_names.specs.declared.known_name.KnownName.TheVariants.{Other}
 use Rattle.h5_names.specs.declared.qualified.QualName.{QualName}
-use Rattle.h5_stack.specs.Numbering.{number_of}
+use Rattle.h5_state.specs.Numbering.{number_of}
 use Rattle.h5_tables.specs.TagSets.{html_namespace}
 use Rattle.h5_state.specs.declared.name_numbers.NameNumbers.{NameNumbers}
 

@@ -3,7 +3,7 @@ use Rattle.std.specs.Prelude.{◌≡◌, ℕ, List, Some, map, reverse, slice_se
 use Rattle.h5_names.specs.declared.qualified.QualName.{QualName}
 use Rattle.h5_interface.specs.Forest.{Forest}
 use Rattle.h5_rules.specs.World.{name_in}
-use Rattle.h5_stack.specs.Numbered.{numbers, one_of, values}
+use Rattle.h5_state.specs.Numbered.{numbers, one_of, values}
 use Rattle.h5_state.specs.Numbers.{name_number}
 use Rattle.h5_state.specs.Summaries.{summary_of}
 use Rattle.h5_state.specs.View.{open_node}

@@ -5,7 +5,7 @@ use Rattle.std.specs.Prelude.{◌≡◌, ◌≤◌, ℕ, All, List, [], ◌∷�
 use Rattle.h5_tables.specs.declared.entry.FormatEntry.{FormatEntry}
 use Rattle.h5_tables.specs.declared.entry.FormatEntry.TheVariants.{Element, Marker}
 use Rattle.h5_rules.specs.stack.Order.{IsIn}
-use Rattle.h5_stack.specs.Numbered.{values}
+use Rattle.h5_state.specs.Numbered.{values}
 use Rattle.h5_state.specs.declared.open_element.Listed.{Listed}
 use Rattle.h5_state.specs.declared.open_element.OpenElement.{OpenElement}
 use Rattle.h5_state.specs.declared.open_element.OpenElements.{OpenElements}

@@ -3,7 +3,7 @@ use Rattle.std.specs.Prelude.{◌≡◌, ◌<◌, ◌^◌, ◌||◌, ℕ, List, 
 use Rattle.std.specs.List.{count_by}
 use Rattle.h5_names.specs.declared.qualified.QualName.{QualName}
 use Rattle.h5_interface.specs.NewElement.{is_html_template}
-use Rattle.h5_stack.specs.Numbered.{numbers, values}
+use Rattle.h5_state.specs.Numbered.{numbers, values}
 use Rattle.h5_tables.specs.NameSets.{has_flag}
 use Rattle.h5_tables.specs.TagSets.{is_body_end_ok, is_button_scope, is_default_scope, is_html_named, is_implied, is_special}
 use Rattle.h5_tables.specs.declared.name_sets.NameSet.TheVariants as set

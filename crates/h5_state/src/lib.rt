@@ -11,17 +11,33 @@
 //! It stands on the definitions in `h5_rules`, and on `h5_stack` and `h5_list`. `h5_insertion` and `h5_closing` stand on
 //! it, and so do all crates with code of rules, and the builder. Begin with `specs/View.antt` (what state and sink mean
 //! together) and `specs/Steps.antt` (what a step does to that world), then `src/state.rt` and `src/steps.rt`.
+//!
+//! A stack of numbered values, which knows of each number where its newest value stands, without a walk; and numbers
+//! for texts.
+//!
+//! `numbered_stack` has the stack, and `item` a value with what is kept beside it. `places` keeps the places right: it
+//! takes items from the table of places, the newest first, and puts them back, the oldest first; one that gets another number
+//! needs no more than the next newer ones of both. `numbering` gives texts their numbers. `moves` moves a value within a vector.
+//!
+//! It stands on no other crate. Begin with `specs/Numbered.antt` (what contracts see of a stack, and where the newest
+//! value of a number stands) and `src/numbered_stack.rt`; then `specs/Places.antt`, `specs/Replacing.antt` and `src/places.rt`. Callers' proofs
+//! find in `proofs/NewestLaws.antt` what it says that the newest value of a number stands at a place.
 #![tactic(auto)]
 
 mod blanks;
 mod errors;
 mod find;
+mod item;
+mod moves;
 mod name_numbers;
 mod name_test;
 mod newest;
+mod numbered_stack;
+mod numbering;
 mod open_element;
 mod open_elems;
 mod pending_text;
+mod places;
 mod push;
 mod renew;
 mod replace;
@@ -34,9 +50,12 @@ mod turn;
 pub use blanks::{first_run, is_blank_text, set_frameset_ok_by_text};
 pub use errors::{tell_error, tell_message, unexpected, unexpected_tag};
 pub use find::{find_listed, find_open, handle_at, is_node_in_scope};
+pub use moves::move_up;
 pub use name_numbers::NameNumbers;
 pub use name_test::{FosterParent, Known, Local, NameTest, NewestTest, Nothing};
 pub use newest::{newest_among, newest_foreign, newest_html, newest_named, newest_scope_end};
+pub use numbered_stack::{MAX_LEN, NumberedStack};
+pub use numbering::Numbering;
 pub use open_element::{AllOpen, Listed, OpenElement, OpenElements, Summary};
 pub use open_elems::{
     all_open, check_body_end, find_named, generate_implied_end_except, has_body_in_scope,

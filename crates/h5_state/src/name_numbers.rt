@@ -3,10 +3,10 @@ ghost use Rattle.std.specs.Prelude.{◌≡◌, ◌<◌, ◌≤◌, ◌+◌, ◌^
 ghost use Rattle.std.specs.Str.{str_to_ascii_lowercase};
 ghost use Rattle.std.specs.String.{string_bytes};
 ghost use Rattle.h5_names.specs.declared.qualified.QualName.{QualName as NameText};
-ghost use Rattle.h5_stack.specs.Numbering.{base_of, next_of, number_of};
+ghost use Rattle.h5_state.specs.Numbering.{base_of, next_of, number_of};
 
+use crate::Numbering;
 use h5_names::{KnownName, LocalName, QualName};
-use h5_stack::Numbering;
 use std::alloc::{AllocError, Global};
 
 // Texts have numbers from here on. Elements have twice those, or one more: the numbers below are those of the names that HTML

@@ -7,8 +7,8 @@ ghost use Rattle.h5_rules.specs.stack.Closing.{ends_item_search};
 ghost use Rattle.h5_state.specs.Summaries.{AreSetsOf, all_open, summary_of};
 
 use super::name_numbers::NameNumbers;
+use crate::NumberedStack;
 use h5_names::{KnownName, QualName};
-use h5_stack::NumberedStack;
 use h5_tables::{NameSet, NameSets, sets_of};
 use std::alloc::Global;
 

@@ -1,7 +1,7 @@
 //! What is kept beside open elements is made anew, where the elements below them changed.
 ghost use Rattle.std.specs.Prelude.{◌≡◌, ◌<◌, ◌≤◌, ◌+◌, ◌^◌, List, Some, drop, length, map, reverse};
 ghost use Rattle.h5_names.specs.declared.qualified.QualName.{QualName as NameText};
-ghost use Rattle.h5_stack.specs.Numbered.{numbers};
+ghost use Rattle.h5_state.specs.Numbered.{numbers};
 ghost use Rattle.h5_rules.specs.Sound.{Sound};
 ghost use Rattle.h5_rules.specs.World.{names_of};
 ghost use Rattle.h5_state.specs.Numbers.{name_number};

@@ -1,6 +1,6 @@
 //! Open elements come to stand where others stood.
 ghost use Rattle.std.specs.Prelude.{◌≡◌, ◌<◌, ◌≤◌, ◌+◌, ◌-◌, ◌^◌, ◌++◌, ℕ, All, OnErr, OnOk, drop, length, map, reverse, take, vec_len};
-ghost use Rattle.h5_stack.specs.Numbered.{values};
+ghost use Rattle.h5_state.specs.Numbered.{values};
 ghost use Rattle.h5_interface.specs.Forest.{IsElement};
 ghost use Rattle.h5_rules.specs.Sound.{Sound};
 ghost use Rattle.h5_rules.specs.World.{names_of};

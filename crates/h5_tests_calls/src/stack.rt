@@ -1,5 +1,5 @@
 //! A stack of numbered values, and numbers for texts.
-use h5_stack::{NumberedStack, Numbering};
+use h5_state::{NumberedStack, Numbering};
 use std::alloc::{AllocError, Global};
 use std::process::Abort;
 use std::test::Fail;

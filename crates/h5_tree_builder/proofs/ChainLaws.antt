@@ -21,7 +21,7 @@ use Rattle.h5_rules.specs.Sound.{Fits, HasHtmlRoot, Sound, situation_of}
 use Rattle.h5_rules.specs.World.{World, names_of}
 use Rattle.h5_plain.proofs.turns.SettleLaws.{acknowledged_here, answered_here, ends_here, goes_on}
 use Rattle.h5_interface.specs.declared.sink.TreeSink.{Ghosts}
-use Rattle.h5_stack.proofs.ItemLaws.{length-values}
+use Rattle.h5_state.proofs.ItemLaws.{length-values}
 use Rattle.h5_state.specs.Steps.{IsSound}
 use Rattle.h5_state.specs.View.{elements_of, open_node, world}
 use Rattle.h5_state.proofs.AttributeLaws.{open_length}

@@ -8,7 +8,7 @@ use Rattle.h5_rules.specs.World.{World}
 use Rattle.h5_rules.specs.formatting.FormattingList.{Entry}
 use Rattle.h5_rules.specs.formatting.Lists.{Lists}
 use Rattle.h5_rules.specs.stack.Order.{but_first}
-use Rattle.h5_stack.proofs.ItemLaws.{length-values}
+use Rattle.h5_state.proofs.ItemLaws.{length-values}
 use Rattle.h5_state.specs.View.{elements_of, open_node, world}
 use Rattle.h5_state.specs.declared.state.State.{State}
 use Rattle.h5_state.proofs.AttributeLaws.{open_length}

@@ -42,7 +42,7 @@ pub struct TreeBuilder<Handle: Drop, Sink: TreeSink<Handle = Handle> + Drop> {
 
 impl<Handle: Drop, Sink: TreeSink<Handle = Handle> + Drop> Model for TreeBuilder<Handle, Sink> {
     ghost use Rattle.std.specs.Coded.{codes};
-    ghost use Rattle.h5_stack.specs.contracts.numbering.Numbering as numbering;
+    ghost use Rattle.h5_state.specs.contracts.numbering.Numbering as numbering;
     ghost use Rattle.h5_tree_builder.specs.Held.{Held, IsKept};
 
     ghost Value = { Held Sink Handle };

@@ -6,7 +6,7 @@ use Rattle.h5_interface.proofs.HangingLaws.{detach_rearranges}
 use Rattle.h5_interface.specs.Changes.{detach}
 use Rattle.h5_rules.specs.Changes.{detach_known}
 use Rattle.h5_rules.proofs.changes.SoundLaws.{element_is_node, rearranged_or_not}
-use Rattle.h5_stack.proofs.ItemLaws.{length-values}
+use Rattle.h5_state.proofs.ItemLaws.{length-values}
 use Rattle.h5_state.specs.View.{elements_of, open_node, world}
 use Rattle.h5_insertion.proofs.PutLaws.{onok_then}
 use Rattle.h5_state.proofs.StackLaws.{element_at}

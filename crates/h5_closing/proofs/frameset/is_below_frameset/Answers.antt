@@ -2,7 +2,7 @@ use Rattle.std.proofs.Common.{◌≡◌, ◌-◌, length, get_or, ap, codes, map
 use Rattle.std.proofs.lemmas.List.{length-map, length-reverse}
 use Rattle.h5_tables.specs.TagSets.{is_html_named}
 use Rattle.h5_rules.specs.World.{names_of}
-use Rattle.h5_stack.proofs.ItemLaws.{length-values}
+use Rattle.h5_state.proofs.ItemLaws.{length-values}
 use Rattle.h5_state.specs.View.{elements_of, open_node, world}
 use Rattle.h5_state.proofs.StackLaws.{element_at, named}
 use Rattle.h5_closing.proofs.FramesetLaws.{below_named}

@@ -1,6 +1,6 @@
 use Rattle.std.proofs.Common.{◌≡◌, nat_eq, length, ap, ◌∙◌, arith}
 use Rattle.h5_rules.specs.World.{name_in, names_of}
-use Rattle.h5_stack.proofs.ItemLaws.{length-values}
+use Rattle.h5_state.proofs.ItemLaws.{length-values}
 use Rattle.h5_state.specs.View.{elements_of, open_node, world}
 use Rattle.h5_insertion.proofs.ShadowPlaceLaws.{alone_by_length}
 use Rattle.h5_closing.proofs.frameset.is_root_alone.Goals as goal

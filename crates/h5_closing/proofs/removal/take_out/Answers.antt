@@ -5,8 +5,8 @@ use Rattle.h5_rules.specs.Sound.{AllStand}
 use Rattle.h5_rules.specs.World.{name_in, names_of}
 use Rattle.h5_rules.specs.formatting.Adoption.{newer_than, older_than, without_node}
 use Rattle.h5_rules.proofs.entries.PassLaws.{stack_split, without_node_split}
-use Rattle.h5_stack.specs.Numbered.{numbers, values}
-use Rattle.h5_stack.proofs.ItemLaws.{length-numbers, length-values}
+use Rattle.h5_state.specs.Numbered.{numbers, values}
+use Rattle.h5_state.proofs.ItemLaws.{length-numbers, length-values}
 use Rattle.h5_state.specs.Numbers.{name_number}
 use Rattle.h5_state.specs.Summaries.{summaries}
 use Rattle.h5_state.specs.View.{elements_of, kept_under, names_under, open_node, with_stack, world}

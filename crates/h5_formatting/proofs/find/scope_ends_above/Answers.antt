@@ -5,7 +5,7 @@ use Rattle.h5_rules.specs.formatting.Adoption.{newer_than, older_than}
 use Rattle.h5_rules.specs.World.{name_in, names_of}
 use Rattle.h5_rules.proofs.entries.PassLaws.{stack_split}
 use Rattle.h5_state.specs.Newest.{newest_where}
-use Rattle.h5_stack.proofs.ItemLaws.{length-values}
+use Rattle.h5_state.proofs.ItemLaws.{length-values}
 use Rattle.h5_state.specs.View.{elements_of, open_node, world}
 use Rattle.h5_state.proofs.AttributeLaws.{open_length}
 use Rattle.h5_state.proofs.NewestLaws.{newer_than_rest}

@@ -1,7 +1,7 @@
 use Rattle.std.proofs.Common.{List, ap, append_assoc, arith, length, length-append, map, reverse, subst, sym, ◌++◌, ◌<◌, ◌∙◌, ◌∷◌, ◌≡◌}
 use Rattle.std.specs.List.{remove}
 use Rattle.std.proofs.lemmas.List.{length-map, length-reverse}
-use Rattle.h5_stack.proofs.StackLaws.{item_at}
+use Rattle.h5_state.proofs.NumberedStackLaws.{item_at}
 use Rattle.h5_rules.specs.formatting.FormattingList.{Entry}
 use Rattle.h5_list.specs.Listed.{entry_of}
 use Rattle.h5_state.specs.View.{listed_node, world}

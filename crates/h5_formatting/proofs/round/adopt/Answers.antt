@@ -7,7 +7,7 @@ use Rattle.h5_rules.specs.formatting.AdoptionAgency.{Nest, adopt}
 use Rattle.h5_rules.specs.Sound.{AllStand}
 use Rattle.h5_rules.specs.World.{World}
 use Rattle.h5_rules.proofs.adoption.AdoptionForest.{block_is_open}
-use Rattle.h5_stack.specs.Numbered.{values}
+use Rattle.h5_state.specs.Numbered.{values}
 use Rattle.h5_state.specs.Steps.{world_of}
 use Rattle.h5_state.specs.View.{elements_of, open_node, stack_over, stack_under, world}
 use Rattle.h5_state.specs.declared.open_element.OpenElements.{OpenElements}

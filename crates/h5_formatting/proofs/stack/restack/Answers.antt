@@ -1,5 +1,5 @@
 use Rattle.std.proofs.Common.{All, arith, drop, map, subst, vec_len, ◌+◌, ◌-◌, ◌≡◌}
-use Rattle.h5_stack.proofs.ItemLaws.{length-values}
+use Rattle.h5_state.proofs.ItemLaws.{length-values}
 use Rattle.h5_state.specs.Stamps.{MayStandBelow, stamps_of}
 use Rattle.h5_state.specs.View.{elements_of, open_node, world}
 use Rattle.h5_state.proofs.AttributeLaws.{open_length}

@@ -4,7 +4,7 @@ use Rattle.h5_interface.specs.Changes.{add_missing_attributes}
 use Rattle.h5_interface.specs.Seen.{changed}
 use Rattle.h5_rules.specs.Changes.{add_attrs_at, add_attrs_to_second}
 use Rattle.h5_rules.proofs.changes.SoundLaws.{errors_or_not}
-use Rattle.h5_stack.proofs.ItemLaws.{length-values}
+use Rattle.h5_state.proofs.ItemLaws.{length-values}
 use Rattle.h5_state.specs.View.{elements_of, open_node, world}
 use Rattle.h5_state.proofs.AttributeLaws.{on_ok, open_length, second_at, second_missing, added_rearranges}
 use Rattle.h5_insertion.proofs.PutLaws.{same_world}

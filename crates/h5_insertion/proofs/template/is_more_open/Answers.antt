@@ -1,5 +1,5 @@
 use Rattle.std.proofs.Common.{◌≡◌, nat_lt, length, ap, ◌∙◌, arith}
-use Rattle.h5_stack.proofs.ItemLaws.{length-values}
+use Rattle.h5_state.proofs.ItemLaws.{length-values}
 use Rattle.h5_state.specs.View.{elements_of, open_node, world}
 use Rattle.h5_insertion.proofs.ShadowPlaceLaws.{more_by_length}
 use Rattle.h5_insertion.proofs.template.is_more_open.Goals as goal

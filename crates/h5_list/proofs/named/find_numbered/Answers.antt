@@ -1,5 +1,5 @@
 use Rattle.std.proofs.Common.{◌-◌, ap, is_some, reverse, sym, ◌∙◌, arith}
-use Rattle.h5_stack.specs.Numbered.{newest_of, numbers}
+use Rattle.h5_state.specs.Numbered.{newest_of, numbers}
 use Rattle.h5_list.proofs.NumberedLaws.{as_many}
 use Rattle.h5_list.proofs.WalkLaws.{walk_begins, walk_ends, walk_finds, walk_goes_on}
 use Rattle.h5_list.proofs.named.find_numbered.Goals as goal

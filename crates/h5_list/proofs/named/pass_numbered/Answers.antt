@@ -1,5 +1,5 @@
 use Rattle.std.proofs.Common.{ap, arith, length, reverse, subst, sym, take, ◌<◌, ◌≤◌, ◌∙◌, ◌≡◌}
-use Rattle.h5_stack.specs.Numbered.{newest_of, numbers}
+use Rattle.h5_state.specs.Numbered.{newest_of, numbers}
 use Rattle.h5_list.specs.Numbers.{name_number}
 use Rattle.h5_list.proofs.NumberedLaws.{as_many}
 use Rattle.h5_list.proofs.WalkLaws.{above_all, above_newest, as_long, otherwise_named}

@@ -1,7 +1,7 @@
 use Rattle.std.proofs.Common.{◌-◌, arith}
 use Rattle.std.proofs.lemmas.List.{length-map}
 use Rattle.h5_token.specs.TokenText.{tag_text}
-use Rattle.h5_stack.specs.Numbered.{Numbered, numbers}
+use Rattle.h5_state.specs.Numbered.{Numbered, numbers}
 use Rattle.h5_list.proofs.SurplusLaws.{keys_begin, keys_end, keys_go_on}
 use Rattle.h5_list.proofs.surplus.find_by_key.Goals as goal
 

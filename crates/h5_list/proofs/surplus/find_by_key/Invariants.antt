@@ -1,5 +1,5 @@
 use Rattle.std.proofs.Common.{◌+◌}
-use Rattle.h5_stack.specs.Numbered.{numbers}
+use Rattle.h5_state.specs.Numbered.{numbers}
 use Rattle.h5_token.specs.TokenText.{tag_text}
 use Rattle.h5_list.proofs.SurplusLaws.{WalksKeys}
 use Rattle.h5_list.proofs.surplus.find_by_key.Given as goal

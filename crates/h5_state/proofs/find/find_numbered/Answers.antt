@@ -2,7 +2,7 @@ use Rattle.std.proofs.Common.{◌≡◌, ◌-◌, ◌+◌, ap, arith, sym, ◌�
 use Rattle.h5_rules.specs.stack.Order.{is_in}
 use Rattle.h5_rules.specs.World.{names_of}
 use Rattle.h5_rules.proofs.entries.PairLaws.{is_in_telling}
-use Rattle.h5_stack.proofs.ItemLaws.{length-values}
+use Rattle.h5_state.proofs.ItemLaws.{length-values}
 use Rattle.h5_state.specs.View.{elements_of, open_node, stack_under, world}
 use Rattle.h5_state.proofs.AttributeLaws.{open_length}
 use Rattle.h5_state.proofs.ChainLaws.{under, walk_begins, walk_finds, walk_goes_on}

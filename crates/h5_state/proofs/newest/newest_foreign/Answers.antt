@@ -1,5 +1,5 @@
 use Rattle.std.proofs.Common.{reverse, sym, ◌∙◌}
-use Rattle.h5_stack.specs.Numbered.{numbers}
+use Rattle.h5_state.specs.Numbered.{numbers}
 use Rattle.h5_rules.specs.World.{names_of}
 use Rattle.h5_state.specs.View.{world}
 use Rattle.h5_state.proofs.NewestLaws.{newest_of_foreign, none_of_foreign}

@@ -1,7 +1,7 @@
 use Rattle.std.proofs.Common.{ap, arith, codes, sym, ◌∙◌}
 use Rattle.h5_tables.specs.TagSets.{is_html_named}
 use Rattle.h5_rules.specs.World.{names_of}
-use Rattle.h5_stack.proofs.ItemLaws.{length-values}
+use Rattle.h5_state.proofs.ItemLaws.{length-values}
 use Rattle.h5_state.specs.View.{elements_of, open_node, world}
 use Rattle.h5_state.proofs.AttributeLaws.{open_length}
 use Rattle.h5_state.proofs.StackLaws.{element_at, named, second_named, second_none}

@@ -3,8 +3,8 @@ use Rattle.std.proofs.lemmas.Result.{err_from_is_err_and}
 use Rattle.h5_rules.specs.Sound.{AllStand}
 use Rattle.h5_rules.specs.World.{name_in, names_of}
 use Rattle.h5_rules.proofs.changes.PopLaws.{names_length}
-use Rattle.h5_stack.specs.Numbered.{values}
-use Rattle.h5_stack.proofs.ItemLaws.{length-values}
+use Rattle.h5_state.specs.Numbered.{values}
+use Rattle.h5_state.proofs.ItemLaws.{length-values}
 use Rattle.h5_state.specs.Numbers.{name_number}
 use Rattle.h5_state.specs.Stamps.{stamp_of}
 use Rattle.h5_state.specs.Summaries.{IsKept, summary_of}

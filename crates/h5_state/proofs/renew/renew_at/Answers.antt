@@ -4,7 +4,7 @@ use Rattle.std.proofs.lemmas.List.{drop-set-lt}
 use Rattle.h5_interface.specs.Forest.{IsElement}
 use Rattle.h5_rules.specs.World.{name_in}
 use Rattle.h5_rules.proofs.changes.SoundLaws.{element_is_node}
-use Rattle.h5_stack.proofs.ItemLaws.{length-values}
+use Rattle.h5_state.proofs.ItemLaws.{length-values}
 use Rattle.h5_state.specs.Stamps.{OpenStamp, stamp_of}
 use Rattle.h5_state.specs.Summaries.{summaries, summary_of}
 use Rattle.h5_state.specs.View.{elements_of, kept_under, names_under, open_node, world}

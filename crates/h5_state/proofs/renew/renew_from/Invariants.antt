@@ -1,5 +1,5 @@
 use Rattle.std.proofs.Common.{◌≡◌, ◌-◌, ◌≤◌, length}
-use Rattle.h5_stack.specs.Numbered.{numbers}
+use Rattle.h5_state.specs.Numbered.{numbers}
 use Rattle.h5_state.specs.Stamps.{AreStamped}
 use Rattle.h5_state.specs.Summaries.{summaries}
 use Rattle.h5_state.specs.View.{names_under, world}

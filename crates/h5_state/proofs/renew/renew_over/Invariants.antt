@@ -1,6 +1,6 @@
 use Rattle.std.proofs.Common.{◌≡◌, ◌-◌, ◌≤◌, List, drop, length}
 use Rattle.h5_names.specs.declared.qualified.QualName.{QualName}
-use Rattle.h5_stack.specs.Numbered.{numbers}
+use Rattle.h5_state.specs.Numbered.{numbers}
 use Rattle.h5_state.specs.Stamps.{AreStamped}
 use Rattle.h5_state.specs.Summaries.{all_open, summaries}
 use Rattle.h5_state.specs.View.{IsKeptOver, elements_of, kept_under, names_under, world}

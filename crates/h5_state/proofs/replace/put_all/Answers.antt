@@ -5,7 +5,7 @@ use Rattle.std.specs.Vec.Iter.{into_iter_items}
 use Rattle.h5_interface.specs.Forest.{IsElement}
 use Rattle.h5_rules.specs.World.{names_of}
 use Rattle.h5_rules.specs.stack.Order.{IsIn}
-use Rattle.h5_stack.proofs.ItemLaws.{length-values}
+use Rattle.h5_state.proofs.ItemLaws.{length-values}
 use Rattle.h5_state.specs.Stamps.{stamp_of, stamped_as}
 use Rattle.h5_state.specs.View.{elements_of, kept_under, names_under, open_node, with_stack, world}
 use Rattle.h5_state.specs.declared.open_element.OpenElement.{OpenElement}

@@ -6,12 +6,12 @@ use Rattle.std.proofs.lemmas.Simd.{map-map}
 use Rattle.h5_rules.specs.Sound.{Sound}
 use Rattle.h5_rules.specs.World.{names_of}
 use Rattle.h5_rules.proofs.entries.PairLaws.{in_left, in_right}
-use Rattle.h5_stack.specs.Numbered.{values}
+use Rattle.h5_state.specs.Numbered.{values}
 use Rattle.h5_state.specs.Stamps.{AreStamped, MayStandBelow, OpenStamp, stamp_of, stamped_as, stamps_of}
 use Rattle.h5_state.specs.View.{IsKeptOver, elements_of, kept_under, names_under, open_node, stack_over, stack_under, with_stack, world}
 use Rattle.h5_state.specs.declared.open_element.OpenElement.{OpenElement}
 use Rattle.h5_state.specs.declared.open_element.OpenElements.{OpenElements}
-use Rattle.h5_stack.proofs.ItemLaws.{length-values}
+use Rattle.h5_state.proofs.ItemLaws.{length-values}
 use Rattle.h5_state.proofs.AttributeLaws.{open_length}
 use Rattle.h5_state.proofs.OverLaws.{over_cut}
 use Rattle.h5_state.proofs.ReplacedLaws.{in_reverse, stack_put}

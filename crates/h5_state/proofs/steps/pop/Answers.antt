@@ -3,7 +3,7 @@ use Rattle.h5_interface.specs.Seen.{Seen}
 use Rattle.h5_rules.specs.Sound.{AllStand}
 use Rattle.h5_rules.specs.World.{names_of}
 use Rattle.h5_rules.proofs.changes.PopLaws.{names-pop}
-use Rattle.h5_stack.specs.Numbered.{values}
+use Rattle.h5_state.specs.Numbered.{values}
 use Rattle.h5_state.specs.Summaries.{IsKept}
 use Rattle.h5_state.specs.View.{elements_of, open_node, world}
 use Rattle.h5_state.proofs.StackLaws.{all_popped, popped_world}

@@ -1,5 +1,5 @@
 use Rattle.std.proofs.Common.{List, ap, arith, length, subst, sym}
-use Rattle.h5_stack.proofs.StackLaws.{item_at}
+use Rattle.h5_state.proofs.NumberedStackLaws.{item_at}
 use Rattle.h5_tables.specs.declared.entry.FormatEntry.{FormatEntry}
 use Rattle.h5_list.specs.Keys.{IsIndexed}
 use Rattle.h5_list.proofs.formatting_list.FormattingList.move_up.Goals as goal

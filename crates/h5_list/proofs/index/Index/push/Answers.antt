@@ -1,5 +1,5 @@
 use Rattle.std.proofs.Common.{[], ap, refl, ◌++◌, ◌∷◌, ◌∙◌}
-use Rattle.h5_stack.specs.Numbered.{one_of}
+use Rattle.h5_state.specs.Numbered.{one_of}
 use Rattle.h5_list.proofs.IndexLaws.{on_err}
 use Rattle.h5_list.proofs.KeyLaws.{kept_still, keyed_more}
 use Rattle.h5_list.proofs.NumberedLaws.{numbered_more}
