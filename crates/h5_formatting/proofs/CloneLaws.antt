@@ -13,7 +13,7 @@ use Rattle.h5_rules.specs.Sound.{AllStand}
 use Rattle.h5_rules.proofs.adoption.AdoptionForest.{wrapped_all, wrapped_kinds, wrapped_loose}
 use Rattle.h5_state.specs.Steps.{IsSound, world_of}
 use Rattle.h5_state.specs.View.{listed_node, world}
-use Rattle.h5_list.specs.Listed.{entry_of}
+use Rattle.h5_state.specs.Listed.{entry_of}
 use Rattle.h5_state.specs.declared.state.State.{State}
 use Rattle.h5_formatting.specs.Hanging.{IsLooseOver, with_clone, with_clone_by}
 use Rattle.h5_formatting.specs.Places.{IsEntryAt}

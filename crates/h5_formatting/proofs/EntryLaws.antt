@@ -7,7 +7,7 @@ use Rattle.std.proofs.lemmas.Bool.{ne_eqb}
 use Rattle.h5_rules.specs.stack.Order.{IsIn, is_in}
 use Rattle.h5_rules.proofs.entries.EntryLaws.{nodes_of-append}
 use Rattle.h5_rules.proofs.entries.PairLaws.{in_split}
-use Rattle.h5_list.specs.Listed.{entry_of}
+use Rattle.h5_state.specs.Listed.{entry_of}
 use Rattle.h5_state.specs.declared.state.State.{State}
 use Rattle.h5_state.specs.View.{listed_node}
 use Rattle.h5_formatting.specs.View.{list_under}

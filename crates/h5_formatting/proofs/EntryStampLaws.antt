@@ -9,7 +9,7 @@ use Rattle.h5_tables.specs.declared.entry.FormatEntry.TheVariants.{Element, Mark
 use Rattle.h5_rules.specs.formatting.FormattingList.{nodes_of}
 use Rattle.h5_rules.specs.stack.Order.{IsIn}
 use Rattle.h5_token.specs.TokenText.{tag_text}
-use Rattle.h5_list.specs.Listed.{entries_of, entry_of, with_handle}
+use Rattle.h5_state.specs.Listed.{entries_of, entry_of, with_handle}
 use Rattle.h5_state.specs.Stamps.{AreStamped, IsAbove, IsStamped, MayStandBelow, NoneLower, stamps_of}
 use Rattle.h5_state.specs.View.{listed_node}
 use Rattle.h5_state.specs.declared.open_element.Listed.{Listed}

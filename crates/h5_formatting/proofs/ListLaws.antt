@@ -8,7 +8,7 @@ use Rattle.h5_tables.specs.declared.entry.FormatEntry.{FormatEntry}
 use Rattle.h5_tables.specs.declared.entry.FormatEntry.TheVariants.{Element, Marker}
 use Rattle.h5_rules.specs.formatting.FormattingList.{EachEntry, ElementEntry, Entry, MarkerEntry, count_alike, push_formatting, without_earliest}
 use Rattle.h5_rules.proofs.entries.PushLaws.{push_full}
-use Rattle.h5_list.specs.Listed.{entries_of, entry_of, with_handle, without_place}
+use Rattle.h5_state.specs.Listed.{entries_of, entry_of, with_handle, without_place}
 use Rattle.h5_state.proofs.StackLaws.{seen_pushed}
 use Rattle.h5_formatting.specs.EntryPlaces.{entry_at, entry_for, with_node_at}
 

@@ -14,8 +14,8 @@ use Rattle.h5_rules.specs.formatting.FormattingNames.{IsOfTag, html_name}
 use Rattle.h5_rules.specs.stack.Order.{first_or, is_in}
 use Rattle.h5_rules.specs.stack.Scope.{first_passes}
 use Rattle.h5_rules.specs.World.{name_in, name_of_found}
-use Rattle.h5_list.specs.Listed.{AreOtherwiseNamed, entries_of, entry_of, is_named}
-use Rattle.h5_list.proofs.WalkLaws.{cut_at, under, under_more}
+use Rattle.h5_state.specs.Listed.{AreOtherwiseNamed, entries_of, entry_of, is_named}
+use Rattle.h5_state.proofs.ListWalkLaws.{cut_at, under, under_more}
 use Rattle.h5_formatting.specs.EntryPlaces.{is_entry_of}
 use Rattle.h5_formatting.proofs.EntryLaws.{other_entry}
 

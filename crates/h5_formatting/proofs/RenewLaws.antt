@@ -19,7 +19,7 @@ use Rattle.h5_rules.specs.World.{World, current, names_of}
 use Rattle.h5_rules.proofs.changes.FormattingLaws.{all_listed, kind-insert_for, made_nodes, reconstruct_as_made, sound_insert_for}
 use Rattle.h5_tables.specs.declared.entry.FormatEntry.{FormatEntry}
 use Rattle.h5_tables.specs.declared.entry.FormatEntry.TheVariants.{Element}
-use Rattle.h5_list.specs.Listed.{IsHandedOver, entries_of, with_handle}
+use Rattle.h5_state.specs.Listed.{IsHandedOver, entries_of, with_handle}
 use Rattle.h5_state.specs.Stamps.{AreStamped, IsAbove, IsStamped, stamps_of}
 use Rattle.h5_state.specs.Steps.{IsSound, world_of}
 use Rattle.h5_state.specs.Summaries.{IsKept}

@@ -7,7 +7,7 @@ use Rattle.h5_tables.specs.TagSets.{is_special}
 use Rattle.h5_rules.specs.formatting.Adoption.{FurthestBlock, furthest_block, newer_than}
 use Rattle.h5_rules.specs.formatting.FormattingList.{ElementEntry, Entry, MarkerEntry, nodes_of}
 use Rattle.h5_rules.specs.stack.Order.{IsIn}
-use Rattle.h5_list.specs.Listed.{IsNewestNamedAt}
+use Rattle.h5_state.specs.Listed.{IsNewestNamedAt}
 use Rattle.h5_rules.specs.World.{World, name_in}
 
 -- the entry of an element, the newest one where it has more, stands at this place

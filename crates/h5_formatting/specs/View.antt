@@ -1,7 +1,7 @@
 -- The list of active formatting elements, and what is kept beside open elements, as far as some place.
 use Rattle.std.specs.Prelude.{ℕ, List, take}
 use Rattle.h5_rules.specs.formatting.FormattingList.{Entry}
-use Rattle.h5_list.specs.Listed.{entries_of}
+use Rattle.h5_state.specs.Listed.{entries_of}
 use Rattle.h5_state.specs.View.{listed_node}
 use Rattle.h5_state.specs.declared.state.State.{State}
 

@@ -4,14 +4,13 @@ ghost use Rattle.h5_token.specs.TokenText.{tag_text};
 ghost use Rattle.h5_tables.specs.TagSets.{formatting_names, is_one_of};
 ghost use Rattle.h5_rules.specs.formatting.FormattingList.{push_formatting};
 ghost use Rattle.h5_rules.specs.Rows.{CreateFormattingElement};
-ghost use Rattle.h5_list.specs.Listed.{entries_of};
+ghost use Rattle.h5_state.specs.Listed.{entries_of};
 ghost use Rattle.h5_state.specs.Steps.{IsSound, MakesIfOk};
 ghost use Rattle.h5_formatting.specs.Restacks.{IsPushed};
 
 use h5_insertion::insert_element;
 use h5_interface::TreeSink;
-use h5_list::FormattingList;
-use h5_state::{State, current_listed};
+use h5_state::{FormattingList, State, current_listed};
 use h5_tables::FormatEntry;
 use h5_token::Tag;
 use std::alloc::AllocError;

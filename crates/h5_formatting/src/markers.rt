@@ -3,12 +3,11 @@ ghost use Rattle.std.specs.Prelude.{◌≡◌, ◌++◌, ℕ, List, OnErr};
 ghost use Rattle.h5_tables.specs.declared.entry.FormatEntry.{FormatEntry as EntryAt};
 ghost use Rattle.h5_rules.specs.formatting.FormattingList.{clear_to_marker};
 ghost use Rattle.h5_rules.specs.Rows.{ClearActiveFormattingToMarker, InsertMarker};
-ghost use Rattle.h5_list.specs.Listed.{entries_of};
+ghost use Rattle.h5_state.specs.Listed.{entries_of};
 ghost use Rattle.h5_state.specs.Steps.{IsSound, Makes, MakesIfOk, world_of};
 
 use h5_interface::TreeSink;
-use h5_list::FormattingList;
-use h5_state::State;
+use h5_state::{FormattingList, State};
 use h5_tables::FormatEntry;
 use std::alloc::AllocError;
 

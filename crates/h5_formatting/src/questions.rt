@@ -8,7 +8,7 @@ ghost use Rattle.h5_rules.specs.stack.Order.{is_in};
 ghost use Rattle.h5_rules.specs.World.{name_in};
 ghost use Rattle.h5_state.specs.View.{listed_node};
 ghost use Rattle.h5_state.specs.Steps.{IsSound, world_of};
-ghost use Rattle.h5_list.specs.Listed.{entry_of};
+ghost use Rattle.h5_state.specs.Listed.{entry_of};
 ghost use Rattle.h5_formatting.specs.EntryPlaces.{entry_at, is_entry_of};
 ghost use Rattle.h5_formatting.specs.Places.{IsNodeIn};
 

@@ -3,7 +3,7 @@ ghost use Rattle.std.specs.Prelude.{◌≡◌, ◌<◌, ◌≤◌, ℕ, length, 
 ghost use Rattle.h5_rules.specs.formatting.FormattingList.{open_rest};
 ghost use Rattle.h5_rules.specs.Rows.{ReconstructActiveFormattingElements};
 ghost use Rattle.h5_formatting.specs.EntryPlaces.{entry_at, is_staying, renewed, with_node_at};
-ghost use Rattle.h5_list.specs.Listed.{entries_of};
+ghost use Rattle.h5_state.specs.Listed.{entries_of};
 ghost use Rattle.h5_state.specs.Steps.{IsSound, MakesIfOk, errors_of, world_of};
 
 use super::walk::entry_count;

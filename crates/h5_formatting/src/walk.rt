@@ -10,7 +10,7 @@ ghost use Rattle.h5_rules.specs.World.{name_in};
 ghost use Rattle.h5_state.specs.View.{listed_node};
 ghost use Rattle.h5_state.specs.Stamps.{AreStamped, IsAbove, IsStamped, stamps_of};
 ghost use Rattle.h5_state.specs.Steps.{world_of};
-ghost use Rattle.h5_list.specs.Listed.{entry_of};
+ghost use Rattle.h5_state.specs.Listed.{entry_of};
 ghost use Rattle.h5_formatting.specs.View.{list_under};
 
 use h5_interface::TreeSink;

@@ -1,9 +1,14 @@
+pub mod AlikeLaws
 pub mod AttributeLaws
 pub mod ChainLaws
 pub mod FoundLaws
+pub mod IndexLaws
 pub mod ItemLaws
+pub mod KeyLaws
+pub mod ListWalkLaws
 pub mod NewestLaws
 pub mod NumberLaws
+pub mod NumberedLaws
 pub mod NumberedNewestLaws
 pub mod NumberedStackLaws
 pub mod NumberingLaws
@@ -17,5 +22,6 @@ pub mod StackLaws
 pub mod StampLaws
 pub mod StepLaws
 pub mod SummaryLaws
+pub mod SurplusLaws
 pub mod TextLaws
 pub mod WalkLaws

@@ -1,4 +1,7 @@
 pub mod Items
+pub mod Keys
+pub mod ListNumbers
+pub mod Listed
 pub mod Newest
 pub mod Numbered
 pub mod Numbering

@@ -5,7 +5,7 @@ use Rattle.h5_interface.specs.Forest.{Forest}
 use Rattle.h5_interface.specs.Seen.{Seen}
 use Rattle.h5_rules.specs.World.{World, name_in}
 use Rattle.h5_state.specs.Numbered.{values}
-use Rattle.h5_list.specs.Listed.{entries_of}
+use Rattle.h5_state.specs.Listed.{entries_of}
 use Rattle.h5_state.specs.Summaries.{summaries}
 use Rattle.h5_state.specs.declared.open_element.Listed.{Listed}
 use Rattle.h5_state.specs.declared.open_element.OpenElement.{OpenElement}

@@ -22,18 +22,36 @@
 //! It stands on no other crate. Begin with `specs/Numbered.antt` (what contracts see of a stack, and where the newest
 //! value of a number stands) and `src/numbered_stack.rt`; then `specs/Places.antt`, `specs/Replacing.antt` and `src/places.rt`. Callers' proofs
 //! find in `proofs/NewestLaws.antt` what it says that the newest value of a number stands at a place.
+//!
+//! The list of active formatting elements (HTML standard, section 13.2.4.3). A long one has an index: of each name it knows where
+//! its newest entry stands, and of each entry which others may be alike, without a walk over all entries.
+//!
+//! `formatting_list` has the list, and `index` its index. `numbers` has the numbers by which entries are found: each has that of
+//! its tag's name, and a marker one of its own. `keys` has the numbers of keys: entries that are alike have the same key, so
+//! where many entries stand after the last marker most are told from a tag without a comparison. `named` finds the newest entry
+//! of a name, and `surplus` those that are alike to a tag, each by the index and in a walk. Two stacks of numbers (`h5_stack`,
+//! `stacks`) are the index, in each a number for each entry.
+//!
+//! It stands on the definitions of `h5_rules` and on `h5_stack`; the state of a builder (`h5_state`) has such a list. Begin with
+//! `specs/Listed.antt` (what contracts see of an entry) and `src/formatting_list.rt`; then `specs/Numbers.antt`
+//! and `specs/Keys.antt`.
 #![tactic(auto)]
 
 mod blanks;
 mod errors;
 mod find;
+mod formatting_list;
+mod index;
 mod item;
+mod keys;
 mod moves;
 mod name_numbers;
 mod name_test;
+mod named;
 mod newest;
 mod numbered_stack;
 mod numbering;
+mod numbers;
 mod open_element;
 mod open_elems;
 mod pending_text;
@@ -43,13 +61,16 @@ mod renew;
 mod replace;
 mod scopes;
 mod set_test;
+mod stacks;
 mod state;
 mod steps;
+mod surplus;
 mod turn;
 
 pub use blanks::{first_run, is_blank_text, set_frameset_ok_by_text};
 pub use errors::{tell_error, tell_message, unexpected, unexpected_tag};
 pub use find::{find_listed, find_open, handle_at, is_node_in_scope};
+pub use formatting_list::FormattingList;
 pub use moves::move_up;
 pub use name_numbers::NameNumbers;
 pub use name_test::{FosterParent, Known, Local, NameTest, NewestTest, Nothing};

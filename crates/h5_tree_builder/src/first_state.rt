@@ -6,8 +6,7 @@ ghost use Rattle.h5_state.specs.Summaries.{IsKept};
 ghost use Rattle.h5_tree_builder.specs.Builder.{first_world};
 
 use h5_interface::TreeSink;
-use h5_list::FormattingList;
-use h5_state::{OpenElements, PendingText, State};
+use h5_state::{FormattingList, OpenElements, PendingText, State};
 use h5_tables::{InsertionMode, Token, TreeBuilderOpts};
 use h5_token::TokenSinkResult;
 use std::alloc::Global;

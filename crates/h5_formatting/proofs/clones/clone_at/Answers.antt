@@ -4,7 +4,7 @@ use Rattle.h5_rules.specs.formatting.FormattingList.{ElementEntry}
 use Rattle.h5_rules.specs.formatting.AdoptionAgency.{tag_in}
 use Rattle.h5_state.specs.Steps.{world_of}
 use Rattle.h5_state.specs.View.{listed_node, world}
-use Rattle.h5_list.specs.Listed.{entry_of}
+use Rattle.h5_state.specs.Listed.{entry_of}
 use Rattle.h5_formatting.specs.Hanging.{nest_of, with_clone_by}
 use Rattle.h5_formatting.proofs.CloneLaws.{EntryIs, entry_is, entry_no_marker, entry_tag, newest_same, clone_told, tag_none}
 use Rattle.h5_formatting.proofs.NodeLaws.{listed_nodes, open_nodes}

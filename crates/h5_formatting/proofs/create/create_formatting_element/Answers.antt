@@ -6,7 +6,7 @@ use Rattle.h5_rules.specs.Sound.{Sound}
 use Rattle.h5_rules.specs.World.{World, current, names_of}
 use Rattle.h5_rules.proofs.changes.FormattingLaws.{sound_format}
 use Rattle.h5_state.specs.View.{listed_node, world}
-use Rattle.h5_list.specs.Listed.{entries_of}
+use Rattle.h5_state.specs.Listed.{entries_of}
 use Rattle.h5_formatting.proofs.RenewLaws.{both_ok, ok_or_err, ok_then, sound_with_list, with_list}
 use Rattle.h5_tables.specs.declared.entry.FormatEntry.TheVariants.{Element}
 use Rattle.h5_state.specs.Stamps.{AreStamped}

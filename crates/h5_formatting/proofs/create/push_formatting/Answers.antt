@@ -4,7 +4,7 @@ use Rattle.h5_token.specs.TokenText.{tag_text}
 use Rattle.h5_tables.specs.declared.entry.FormatEntry.{FormatEntry}
 use Rattle.h5_tables.specs.declared.entry.FormatEntry.TheVariants.{Element}
 use Rattle.h5_rules.proofs.entries.PushLaws.{push_free}
-use Rattle.h5_list.specs.Listed.{entries_of, without_place}
+use Rattle.h5_state.specs.Listed.{entries_of, without_place}
 use Rattle.h5_formatting.proofs.ListLaws.{entries_pushed, entry_removed, left_parts, length_entries, pushed_full}
 use Rattle.h5_formatting.proofs.create.push_formatting.Goals as goal
 

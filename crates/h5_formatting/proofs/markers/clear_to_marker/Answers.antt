@@ -2,7 +2,7 @@ use Rattle.std.proofs.Common.{◌≡◌, ℕ, zero, suc, List, [], ◌∷◌, �
 use Rattle.std.proofs.lemmas.List.{append-nil, nil_from_length}
 use Rattle.std.proofs.lemmas.Bool.{false≢true}
 use Rattle.h5_tables.specs.declared.entry.FormatEntry.{FormatEntry}
-use Rattle.h5_list.specs.Listed.{entries_of, entry_of}
+use Rattle.h5_state.specs.Listed.{entries_of, entry_of}
 use Rattle.h5_rules.specs.formatting.FormattingList.{clear_to_marker}
 use Rattle.h5_formatting.proofs.ListLaws.{entries_pushed}
 use Rattle.h5_formatting.proofs.markers.clear_to_marker.Goals as goal

@@ -1,7 +1,7 @@
 use Rattle.std.proofs.Common.{◌≡◌, ◌++◌, ℕ, List, length}
 use Rattle.h5_tables.specs.declared.entry.FormatEntry.{FormatEntry}
 use Rattle.h5_rules.specs.formatting.FormattingList.{clear_to_marker}
-use Rattle.h5_list.specs.Listed.{entries_of}
+use Rattle.h5_state.specs.Listed.{entries_of}
 use Rattle.h5_formatting.proofs.markers.clear_to_marker.Given as goal
 
 -- what is left gives what was to come at first

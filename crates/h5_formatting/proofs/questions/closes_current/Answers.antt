@@ -5,7 +5,7 @@ use Rattle.h5_rules.specs.World.{current}
 use Rattle.h5_rules.specs.formatting.FormattingList.{ElementEntry, nodes_of}
 use Rattle.h5_state.specs.Steps.{world_of}
 use Rattle.h5_state.specs.View.{listed_node, world}
-use Rattle.h5_list.specs.Listed.{entry_of}
+use Rattle.h5_state.specs.Listed.{entry_of}
 use Rattle.h5_formatting.specs.EntryPlaces.{is_entry_of}
 use Rattle.h5_formatting.specs.View.{list_under}
 use Rattle.h5_formatting.proofs.EntryLaws.{list_cut}

@@ -2,8 +2,8 @@ use Rattle.std.proofs.Common.{ap, arith, length, sym, ◌+◌, ◌-◌, ◌<◌,
 use Rattle.h5_rules.specs.formatting.FormattingList.{nodes_of}
 use Rattle.h5_rules.specs.stack.Order.{is_in}
 use Rattle.h5_state.specs.View.{listed_node, world}
-use Rattle.h5_list.specs.Listed.{entry_of}
-use Rattle.h5_list.proofs.WalkLaws.{under, under_all, under_more}
+use Rattle.h5_state.specs.Listed.{entry_of}
+use Rattle.h5_state.proofs.ListWalkLaws.{under, under_all, under_more}
 use Rattle.h5_formatting.specs.View.{list_under}
 use Rattle.h5_formatting.proofs.ListLaws.{entries_cut}
 use Rattle.h5_formatting.proofs.NodeLaws.{entry_in, entry_is_node, listed_nodes}

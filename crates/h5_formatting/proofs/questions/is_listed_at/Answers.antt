@@ -3,7 +3,7 @@ use Rattle.std.proofs.lemmas.Bool.{le-ltb}
 use Rattle.h5_rules.specs.formatting.FormattingList.{nodes_of}
 use Rattle.h5_state.specs.Steps.{world_of}
 use Rattle.h5_state.specs.View.{listed_node, world}
-use Rattle.h5_list.specs.Listed.{entry_of}
+use Rattle.h5_state.specs.Listed.{entry_of}
 use Rattle.h5_formatting.specs.EntryPlaces.{entry_at, is_entry_of}
 use Rattle.h5_formatting.specs.View.{list_under}
 use Rattle.h5_formatting.proofs.EntryLaws.{list_cut}

@@ -4,7 +4,7 @@ use Rattle.h5_rules.specs.formatting.Formatting.{insert_for}
 use Rattle.h5_rules.specs.World.{World}
 use Rattle.h5_rules.proofs.changes.FormattingLaws.{formatting-insert_for}
 use Rattle.h5_state.specs.View.{listed_node, world}
-use Rattle.h5_list.specs.Listed.{entry_of, with_handle}
+use Rattle.h5_state.specs.Listed.{entry_of, with_handle}
 use Rattle.h5_formatting.specs.EntryPlaces.{renewed_by, with_node_at}
 use Rattle.h5_formatting.proofs.ListLaws.{entry_handed, entry_set, entry_there, length_entries}
 use Rattle.h5_formatting.proofs.RenewLaws.{sound_with_current, with_current_at, with_list}

@@ -1,6 +1,6 @@
 use Rattle.std.proofs.Common.{ap, arith, refl}
 use Rattle.h5_token.specs.TokenText.{tag_text}
-use Rattle.h5_list.specs.Listed.{entry_of}
+use Rattle.h5_state.specs.Listed.{entry_of}
 use Rattle.h5_state.specs.View.{listed_node, world}
 use Rattle.h5_formatting.proofs.ListLaws.{entries_cut, length_entries}
 use Rattle.h5_formatting.proofs.NodeLaws.{entry_in, listed_nodes}

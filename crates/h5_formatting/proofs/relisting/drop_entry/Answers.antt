@@ -1,6 +1,6 @@
 use Rattle.std.proofs.Common.{ap, arith, map, subst, sym, ◌∙◌}
 use Rattle.std.proofs.lemmas.List.{length-map, length-reverse}
-use Rattle.h5_list.specs.Listed.{entry_of}
+use Rattle.h5_state.specs.Listed.{entry_of}
 use Rattle.h5_state.specs.View.{listed_node, world}
 use Rattle.h5_state.proofs.SeenLaws.{seen_removed}
 use Rattle.h5_formatting.proofs.ListLaws.{left_parts}

@@ -3,7 +3,7 @@ use Rattle.std.specs.List.{remove}
 use Rattle.std.proofs.lemmas.List.{length-map, length-reverse}
 use Rattle.h5_state.proofs.NumberedStackLaws.{item_at}
 use Rattle.h5_rules.specs.formatting.FormattingList.{Entry}
-use Rattle.h5_list.specs.Listed.{entry_of}
+use Rattle.h5_state.specs.Listed.{entry_of}
 use Rattle.h5_state.specs.View.{listed_node, world}
 use Rattle.h5_state.proofs.SeenLaws.{seen_inserted, seen_removed, seen_value}
 use Rattle.h5_formatting.proofs.ListLaws.{left_parts}

@@ -1,7 +1,7 @@
 use Rattle.std.proofs.Common.{ap, arith, length, length-append, map, subst, sym, ◌++◌, ◌<◌, ◌∙◌, ◌∷◌}
 use Rattle.std.proofs.lemmas.List.{length-map, length-reverse}
 use Rattle.h5_rules.specs.formatting.FormattingList.{ElementEntry}
-use Rattle.h5_list.specs.Listed.{entries_of, entry_of, with_handle}
+use Rattle.h5_state.specs.Listed.{entries_of, entry_of, with_handle}
 use Rattle.h5_state.specs.View.{elements_of, listed_node, open_node, stack_under, world}
 use Rattle.h5_state.proofs.SeenLaws.{seen_replaced, seen_value, set_cut}
 use Rattle.h5_formatting.specs.EntryPlaces.{entry_for}

@@ -2,7 +2,7 @@ use Rattle.std.proofs.Common.{◌≡◌, ap, subst, ◌∙◌}
 use Rattle.h5_token.specs.TokenText.{tag_text}
 use Rattle.h5_rules.specs.formatting.FormattingList.{ElementEntry, MarkerEntry}
 use Rattle.h5_state.specs.View.{listed_node, world}
-use Rattle.h5_list.specs.Listed.{entry_of}
+use Rattle.h5_state.specs.Listed.{entry_of}
 use Rattle.h5_formatting.proofs.CloneLaws.{entry_here}
 use Rattle.h5_tables.specs.declared.entry.FormatEntry.TheVariants.{Element}
 use Rattle.h5_state.specs.Stamps.{IsStamped, stamps_of}

@@ -1,3 +1,0 @@
-pub mod Keys
-pub mod Listed
-pub mod Numbers
