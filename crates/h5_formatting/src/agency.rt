@@ -19,7 +19,7 @@ use super::find::{find_block, find_formatting_element, scope_ends_above};
 use super::questions::{is_current_unlisted, is_listed_at};
 use super::round::adopt;
 use super::walk::{element_at, listed_at};
-use h5_closing::remove_from_stack;
+use h5_insertion::remove_from_stack;
 use h5_interface::TreeSink;
 use h5_names::{KnownName, LocalName};
 use h5_state::{Listed, State, find_listed, pop};

@@ -1,5 +1,11 @@
 pub mod CurrentLaws
+pub mod EndLaws
 pub mod FormLaws
+pub mod FramesetLaws
+pub mod ItemLaws
+pub mod LeaveLaws
 pub mod PutLaws
+pub mod ResetLaws
+pub mod SearchLaws
 pub mod ShadowLaws
 pub mod ShadowPlaceLaws

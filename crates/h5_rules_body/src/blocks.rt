@@ -7,12 +7,11 @@ ghost use Rattle.h5_rules.specs.World.{names_of};
 ghost use Rattle.h5_state.specs.Steps.{IsSound, TellsErrors, errors_of, world_of};
 ghost use Rattle.h5_state.specs.Turn.{TakesTag};
 
-use h5_closing::{
+use h5_insertion::{
     close_p_element, close_p_element_in_button_scope, expect_to_close, find_heading_in_scope,
-    find_in_default_scope, generate_implied_end_tags, is_current_heading, pop_heading,
-    pop_until_heading,
+    find_in_default_scope, generate_implied_end_tags, insert_element, insert_phantom,
+    is_current_heading, pop_heading, pop_until_heading,
 };
-use h5_insertion::{insert_element, insert_phantom};
 use h5_interface::TreeSink;
 use h5_names::KnownName;
 use h5_state::{

@@ -5,7 +5,7 @@ ghost use Rattle.h5_state.specs.Steps.{IsSound};
 ghost use Rattle.h5_state.specs.Turn.{TakesTag};
 
 use super::opens::open_control;
-use h5_closing::{find_in_default_scope, generate_implied_end_tags};
+use h5_insertion::{find_in_default_scope, generate_implied_end_tags};
 use h5_interface::TreeSink;
 use h5_names::{KnownName, LocalName};
 use h5_state::{State, Turn, pop_until_named, tell_error};

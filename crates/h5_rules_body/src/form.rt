@@ -6,11 +6,10 @@ ghost use Rattle.h5_rules.specs.Sound.{HasHtmlRoot};
 ghost use Rattle.h5_state.specs.Steps.{IsSound, world_of};
 ghost use Rattle.h5_state.specs.Turn.{TakesTag};
 
-use h5_closing::{
+use h5_insertion::{
     close_p_element_in_button_scope, expect_to_close, find_in_default_scope,
-    generate_implied_end_tags, remove_from_stack,
+    generate_implied_end_tags, insert_form, remove_from_stack,
 };
-use h5_insertion::insert_form;
 use h5_interface::TreeSink;
 use h5_names::{KnownName, LocalName};
 use h5_state::{

@@ -5,16 +5,15 @@ ghost use Rattle.h5_rules.specs.stack.Scope.{cut_through, is_implied_but};
 ghost use Rattle.h5_rules.specs.modes.InBody.{in_body_end_description, in_body_end_li, in_body_start_item};
 ghost use Rattle.h5_rules.specs.Rows.{GenerateImpliedEndExcept, PopUntilNamed, apply_all};
 ghost use Rattle.h5_rules.specs.World.{names_of};
-ghost use Rattle.h5_closing.specs.Items.{item_names};
+ghost use Rattle.h5_insertion.specs.Items.{item_names};
 ghost use Rattle.h5_state.specs.Steps.{IsSound, errors_of, world_of};
 ghost use Rattle.h5_state.specs.Turn.{TakesTag};
 ghost use Rattle.h5_rules.specs.stack.Expected.{is_expected};
 
-use h5_closing::{
+use h5_insertion::{
     ItemKind, close_list_item, close_p_element_in_button_scope, expect_to_close,
-    find_in_default_scope, find_li_in_list_item_scope,
+    find_in_default_scope, find_li_in_list_item_scope, insert_element,
 };
-use h5_insertion::insert_element;
 use h5_interface::TreeSink;
 use h5_names::{KnownName, LocalName};
 use h5_state::{

@@ -8,8 +8,7 @@ ghost use Rattle.h5_rules.specs.stack.Scope.{first_passes};
 ghost use Rattle.h5_tables.specs.TagSets.{is_html_named};
 ghost use Rattle.h5_rules.specs.World.{names_of};
 
-use h5_closing::generate_implied_end_tags;
-use h5_insertion::insert_element;
+use h5_insertion::{generate_implied_end_tags, insert_element};
 use h5_interface::TreeSink;
 use h5_names::{KnownName, LocalName};
 use h5_state::{

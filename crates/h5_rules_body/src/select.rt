@@ -8,7 +8,7 @@ ghost use Rattle.h5_state.specs.Turn.{TakesTag};
 ghost use Rattle.h5_rules.specs.World.{names_of};
 
 use super::opens::{open_control, open_element};
-use h5_closing::{
+use h5_insertion::{
     copy_closed_option, expect_to_close, find_in_default_scope, generate_implied_end_tags,
     oldest_option,
 };

@@ -17,9 +17,9 @@ use super::html_start_tag::in_body_start_html;
 use super::ignored::ignored_tag;
 use super::in_head_start_tags::in_head_start_tag;
 use super::template::in_head_end_template;
-use h5_closing::remove_from_stack;
 use h5_insertion::{
     append_comment, append_text, insert_element, insert_phantom, known_head, push_head,
+    remove_from_stack,
 };
 use h5_interface::TreeSink;
 use h5_names::KnownName;

@@ -10,7 +10,7 @@ ghost use Rattle.h5_state.specs.Steps.{IsSound, TellsErrors, errors_of, world_of
 use super::names::is_breakout_end;
 use super::start_tags::unexpected_in_foreign_content;
 use super::step::ForeignStep;
-use h5_closing::{EndSearch, is_current_in_any_case, pop_until_named_in_any_case, search_end};
+use h5_insertion::{EndSearch, is_current_in_any_case, pop_until_named_in_any_case, search_end};
 use h5_interface::TreeSink;
 use h5_names::LocalName;
 use h5_state::{State, open_count, unexpected_tag};

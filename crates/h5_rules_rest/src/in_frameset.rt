@@ -5,8 +5,10 @@ ghost use Rattle.h5_rules.specs.modes.InFrameset.{in_frameset, in_frameset_end, 
 ghost use Rattle.h5_state.specs.Steps.{IsOpen, IsSound};
 ghost use Rattle.h5_state.specs.Turn.{TakesTag, TakesToken};
 
-use h5_closing::{is_below_frameset, is_root_alone};
-use h5_insertion::{append_comment, append_text, insert_and_pop_element, insert_element};
+use h5_insertion::{
+    append_comment, append_text, insert_and_pop_element, insert_element, is_below_frameset,
+    is_root_alone,
+};
 use h5_interface::TreeSink;
 use h5_names::KnownName;
 use h5_rules_head::{ignored_tag, in_body_start_html, in_head_start_tag};

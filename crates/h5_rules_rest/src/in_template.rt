@@ -6,7 +6,7 @@ ghost use Rattle.h5_rules.specs.Sound.{HasHtmlRoot};
 ghost use Rattle.h5_state.specs.Steps.{IsSound, world_of};
 ghost use Rattle.h5_state.specs.Turn.{TakesTag, TakesToken};
 
-use h5_closing::switch_template_mode;
+use h5_insertion::switch_template_mode;
 use h5_interface::TreeSink;
 use h5_names::KnownName;
 use h5_rules_body::step_in_body;

@@ -10,8 +10,7 @@ ghost use Rattle.h5_state.specs.Turn.{TakesTag};
 
 use super::names::breaks_out;
 use super::step::ForeignStep;
-use h5_closing::leave_foreign_content;
-use h5_insertion::{adjusted_current_node, insert_foreign_for};
+use h5_insertion::{adjusted_current_node, insert_foreign_for, leave_foreign_content};
 use h5_interface::TreeSink;
 use h5_names::Namespace;
 use h5_state::{State, Turn, unexpected_tag};

@@ -5,7 +5,7 @@ ghost use Rattle.h5_rules.specs.Rows.{PopUntilCurrent};
 ghost use Rattle.h5_state.specs.Steps.{IsSound, Makes, world_of};
 ghost use Rattle.h5_tables.specs.TagSets.{is_table_body_context, is_table_row_context, is_table_scope};
 
-use h5_closing::{find_in_table_scope, pop_until_current};
+use h5_insertion::{find_in_table_scope, pop_until_current};
 use h5_interface::TreeSink;
 use h5_state::{NewestTest, State};
 use h5_tables::ElementSet;

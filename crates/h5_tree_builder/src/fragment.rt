@@ -7,8 +7,7 @@ ghost use Rattle.h5_state.specs.Steps.{IsSound, errors_of, world_of};
 ghost use Rattle.h5_tree_builder.specs.Fragment.{context_modes, context_world, fragment_world, state_in_context, state_of_local};
 
 use super::first_state::first_state;
-use h5_closing::reset_insertion_mode;
-use h5_insertion::create_root;
+use h5_insertion::{create_root, reset_insertion_mode};
 use h5_interface::TreeSink;
 use h5_names::{KnownName, LocalName, QualName};
 use h5_state::{State, set_mode};

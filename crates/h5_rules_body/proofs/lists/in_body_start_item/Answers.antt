@@ -3,7 +3,7 @@ use Rattle.h5_rules.specs.stack.Expected.{is_expected_item, is_expected_p, names
 use Rattle.h5_rules.specs.World.{names_of}
 use Rattle.h5_rules.proofs.BoolLaws.{and_both}
 use Rattle.h5_rules.proofs.changes.ExpectedLaws.{told_either}
-use Rattle.h5_closing.specs.Items.{item_names}
+use Rattle.h5_insertion.specs.Items.{item_names}
 use Rattle.h5_state.specs.Steps.{errors_of, world_of}
 use Rattle.h5_rules_body.proofs.lists.in_body_start_item.Goals as goal
 

@@ -1,3 +1,0 @@
-pub mod EndSearches
-pub mod Items
-pub mod Reset
