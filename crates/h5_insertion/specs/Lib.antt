@@ -1,7 +1,14 @@
 pub mod EndSearches
+pub mod EntryPlaces
 pub mod ForeignInserts
+pub mod FormattingPlaces
+pub mod Hanging
 pub mod Items
 pub mod Leaving
 pub mod Notices
 pub mod Places
+pub mod Relists
 pub mod Reset
+pub mod Restacks
+pub mod Rounds
+pub mod View

@@ -21,31 +21,60 @@
 //!
 //! It stands on `h5_state`, and on `h5_insertion` for whether the current node is foreign. The contract of each
 //! operation is a change of the world. Begin with `src/implied_ends.rt`, then `src/reset.rt`.
+//!
+//! The list of active formatting elements (HTML standard, section 13.2.4.3), and the adoption agency (section
+//! 13.2.6.4.7).
+//!
+//! `create` makes an element and lists it, with three alike at most; `markers` lists a marker and clears the list up to
+//! one; `reconstruct` makes anew what is listed and not open. The agency is in `agency`: `find` has what it looks for,
+//! `clones`, `hang` and `moved_block` what a round does to the tree, `relisting` and `stack` what becomes of list and
+//! stack, `round` the whole round. `ends` takes elements off the stack and out of the list, `walk` walks over entries,
+//! and `questions` asks what would be closed.
+//!
+//! It stands on `h5_insertion` and `h5_closing`. Begin with `src/create.rt` and `src/reconstruct.rt`, then
+//! `src/agency.rt`; the definitions are `Formatting*.antt` and `Adoption*.antt` beside those of the rules, and `specs/`
+//! has them over places.
 #![tactic(auto)]
 
+mod agency;
 mod attributes;
+mod clones;
+mod create;
+mod ends;
 mod expected;
+mod find;
 mod foreign_content;
 mod foreign_element;
 mod form_owner;
 mod frameset;
+mod hang;
 mod head;
 mod implied_ends;
 mod insert;
 mod leaving_foreign;
 mod list_items;
+mod markers;
+mod moved_block;
 mod options;
 mod place;
 mod put;
+mod questions;
+mod reconstruct;
+mod relisting;
 mod removal;
 mod reset;
+mod round;
+mod stack;
 mod table_text;
 mod tables;
 mod template;
 mod template_modes;
 mod thorough_ends;
+mod walk;
 
+pub use agency::{adoption_agency, handle_misnested_a_tags};
 pub use attributes::{add_attrs_to_html, add_attrs_to_second};
+pub use create::create_formatting_element;
 pub use expected::expect_to_close;
 pub use foreign_content::{
     adjusted_current_node, is_current_left, is_current_node_surely_html, is_foreign,
@@ -71,9 +100,12 @@ pub use leaving_foreign::{
     search_end,
 };
 pub use list_items::{ItemKind, close_list_item, find_li_in_list_item_scope};
+pub use markers::{clear_active_formatting_to_marker, insert_marker};
 pub use options::{copy_closed_option, oldest_option};
 pub use place::{InsertionPoint, appropriate_place_for_insertion};
 pub use put::insert_at;
+pub use questions::{closes_one, is_named_listed};
+pub use reconstruct::reconstruct_active_formatting_elements;
 pub use removal::remove_from_stack;
 pub use reset::reset_insertion_mode;
 pub use table_text::{append_pending_text, take_pending_text};

@@ -5,8 +5,7 @@ ghost use Rattle.h5_rules.specs.modes.Shared.{in_body_text};
 ghost use Rattle.h5_state.specs.Steps.{IsSound};
 ghost use Rattle.h5_state.specs.Turn.{FollowsRule};
 
-use h5_formatting::reconstruct_active_formatting_elements;
-use h5_insertion::append_text;
+use h5_insertion::{append_text, reconstruct_active_formatting_elements};
 use h5_interface::TreeSink;
 use h5_state::{State, Turn, set_frameset_ok_by_text};
 use h5_tables::{ProcessResult, SplitStatus};

@@ -4,8 +4,7 @@ ghost use Rattle.h5_rules.specs.modes.InBody.{in_body_start_foreign};
 ghost use Rattle.h5_state.specs.Steps.{IsSound};
 ghost use Rattle.h5_state.specs.Turn.{TakesTag};
 
-use h5_formatting::reconstruct_active_formatting_elements;
-use h5_insertion::insert_foreign_for;
+use h5_insertion::{insert_foreign_for, reconstruct_active_formatting_elements};
 use h5_interface::TreeSink;
 use h5_names::{Namespace, namespaces};
 use h5_state::{State, Turn};

@@ -11,11 +11,10 @@ ghost use Rattle.h5_rules.specs.World.{names_of};
 ghost use Rattle.h5_state.specs.Steps.{IsSound, TellsErrors, errors_of, world_of};
 ghost use Rattle.h5_state.specs.Turn.{TakesTag};
 
-use h5_formatting::{
+use h5_insertion::{
     adoption_agency, closes_one, create_formatting_element, handle_misnested_a_tags,
-    is_named_listed, reconstruct_active_formatting_elements,
+    insert_and_pop_element, is_named_listed, reconstruct_active_formatting_elements,
 };
-use h5_insertion::insert_and_pop_element;
 use h5_interface::TreeSink;
 use h5_names::{Attribute, KnownName, LocalName};
 use h5_state::{State, Turn, in_scope_named, set_frameset_not_ok, tell_error, unexpected_tag};

@@ -35,10 +35,10 @@ use super::ruby::{in_body_start_ruby_base, in_body_start_ruby_text};
 use super::select::{
     in_body_end_option, in_body_start_optgroup, in_body_start_option, in_body_start_select,
 };
-use h5_formatting::reconstruct_active_formatting_elements;
 use h5_insertion::{
     ItemKind, add_attrs_to_second, append_comment, close_p_element_in_button_scope,
-    expect_to_close, has_template_mode, insert_element, remove_body,
+    expect_to_close, has_template_mode, insert_element, reconstruct_active_formatting_elements,
+    remove_body,
 };
 use h5_interface::TreeSink;
 use h5_names::KnownName;

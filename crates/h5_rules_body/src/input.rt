@@ -10,10 +10,9 @@ ghost use Rattle.h5_rules.specs.World.{names_of};
 
 use super::hidden::is_type_hidden;
 use super::select::is_option_in_scope;
-use h5_formatting::reconstruct_active_formatting_elements;
 use h5_insertion::{
     close_p_element_in_button_scope, expect_to_close, find_in_default_scope,
-    generate_implied_end_in_select, insert_and_pop_element,
+    generate_implied_end_in_select, insert_and_pop_element, reconstruct_active_formatting_elements,
 };
 use h5_interface::TreeSink;
 use h5_names::{KnownName, LocalName};

@@ -10,11 +10,10 @@ ghost use Rattle.h5_state.specs.Steps.{IsSound, errors_of, world_of};
 ghost use Rattle.h5_state.specs.Turn.{TakesTag};
 ghost use Rattle.h5_rules.specs.stack.Expected.{is_expected};
 
-use h5_formatting::{
-    clear_active_formatting_to_marker, insert_marker, reconstruct_active_formatting_elements,
-};
 use h5_insertion::{
-    expect_to_close, find_in_default_scope, generate_implied_end_tags, insert_element,
+    clear_active_formatting_to_marker, expect_to_close, find_in_default_scope,
+    generate_implied_end_tags, insert_element, insert_marker,
+    reconstruct_active_formatting_elements,
 };
 use h5_interface::TreeSink;
 use h5_names::LocalName;

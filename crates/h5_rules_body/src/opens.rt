@@ -6,8 +6,7 @@ ghost use Rattle.h5_rules.specs.modes.InBody.{in_body_opens};
 ghost use Rattle.h5_rules.specs.Rows.{apply_all};
 ghost use Rattle.h5_state.specs.Steps.{IsSound, errors_of, world_of};
 
-use h5_formatting::reconstruct_active_formatting_elements;
-use h5_insertion::insert_element;
+use h5_insertion::{insert_element, reconstruct_active_formatting_elements};
 use h5_interface::TreeSink;
 use h5_state::{State, set_frameset_not_ok};
 use h5_token::Tag;

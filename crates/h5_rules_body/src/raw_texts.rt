@@ -4,8 +4,10 @@ ghost use Rattle.h5_rules.specs.modes.InBody.{in_body_start_iframe, in_body_star
 ghost use Rattle.h5_state.specs.Steps.{IsSound};
 ghost use Rattle.h5_state.specs.Turn.{TakesTag};
 
-use h5_formatting::reconstruct_active_formatting_elements;
-use h5_insertion::{close_p_element_in_button_scope, expect_to_close, insert_element};
+use h5_insertion::{
+    close_p_element_in_button_scope, expect_to_close, insert_element,
+    reconstruct_active_formatting_elements,
+};
 use h5_interface::TreeSink;
 use h5_rules_head::{parse_raw_data, to_raw_text_mode};
 use h5_state::{State, Turn, is_scripting, set_answer, set_frameset_not_ok, set_ignore_lf};

@@ -6,10 +6,9 @@ ghost use Rattle.h5_rules.specs.Rows.{ClearActiveFormattingToMarker, PopTemplate
 ghost use Rattle.h5_state.specs.Steps.{IsSound, world_of};
 ghost use Rattle.h5_state.specs.Turn.{TakesTag, TakesToken};
 
-use h5_formatting::{clear_active_formatting_to_marker, insert_marker};
 use h5_insertion::{
-    expect_to_close, generate_implied_end_thoroughly, insert_template, pop_template_mode,
-    push_template_mode, reset_insertion_mode,
+    clear_active_formatting_to_marker, expect_to_close, generate_implied_end_thoroughly,
+    insert_marker, insert_template, pop_template_mode, push_template_mode, reset_insertion_mode,
 };
 use h5_interface::TreeSink;
 use h5_names::{KnownName, LocalName};

@@ -13,8 +13,10 @@ ghost use Rattle.h5_state.specs.Steps.{IsSound, errors_of, world_of};
 ghost use Rattle.h5_state.specs.Turn.{TakesTag, TakesToken};
 ghost use Rattle.h5_rules.specs.stack.Expected.{is_expected};
 
-use h5_formatting::clear_active_formatting_to_marker;
-use h5_insertion::{expect_to_close, find_in_table_scope, generate_implied_end_tags};
+use h5_insertion::{
+    clear_active_formatting_to_marker, expect_to_close, find_in_table_scope,
+    generate_implied_end_tags,
+};
 use h5_interface::TreeSink;
 use h5_names::{KnownName, LocalName};
 use h5_rules_body::{in_body_tag, step_in_body};

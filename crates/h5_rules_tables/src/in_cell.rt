@@ -10,10 +10,9 @@ ghost use Rattle.h5_state.specs.Steps.{IsSound, world_of};
 ghost use Rattle.h5_state.specs.Turn.{TakesTag, TakesToken};
 
 use super::parts::has_in_table_scope;
-use h5_formatting::clear_active_formatting_to_marker;
 use h5_insertion::{
-    expect_to_close, find_cell, find_in_table_scope, generate_implied_end_tags, is_current_cell,
-    pop_until_cell,
+    clear_active_formatting_to_marker, expect_to_close, find_cell, find_in_table_scope,
+    generate_implied_end_tags, is_current_cell, pop_until_cell,
 };
 use h5_interface::TreeSink;
 use h5_names::KnownName;

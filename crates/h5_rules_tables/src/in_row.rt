@@ -9,8 +9,7 @@ ghost use Rattle.h5_state.specs.Turn.{TakesTag, TakesToken};
 
 use super::in_table::{in_table_tag, step_in_table};
 use super::parts::{clear_to_table_row_context, has_in_table_scope};
-use h5_formatting::insert_marker;
-use h5_insertion::insert_element;
+use h5_insertion::{insert_element, insert_marker};
 use h5_interface::TreeSink;
 use h5_names::KnownName;
 use h5_rules_head::ignored_tag;

@@ -11,10 +11,9 @@ ghost use Rattle.h5_state.specs.Turn.{TakesTag, TakesToken};
 
 use super::foster::foster_parent_in_body;
 use super::parts::clear_to_table_context;
-use h5_formatting::insert_marker;
 use h5_insertion::{
     append_comment, find_in_table_scope, insert_and_pop_element, insert_and_pop_form,
-    insert_element, insert_phantom, is_current_table_outer, reset_insertion_mode,
+    insert_element, insert_marker, insert_phantom, is_current_table_outer, reset_insertion_mode,
 };
 use h5_interface::TreeSink;
 use h5_names::{KnownName, LocalName};

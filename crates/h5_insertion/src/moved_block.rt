@@ -1,0 +1,70 @@
+//! Where the furthest block goes with its clones, and what becomes of its children.
+ghost use Rattle.std.specs.Prelude.{◌≡◌, IfOk, OnOk};
+ghost use Rattle.h5_token.specs.TokenText.{tag_text};
+ghost use Rattle.h5_interface.specs.Changes.{detach, reparent};
+ghost use Rattle.h5_interface.specs.Forest.{ChildNode, IsNode};
+ghost use Rattle.h5_interface.specs.Seen.{changed, with_last_child};
+ghost use Rattle.h5_rules.specs.formatting.AdoptionAgency.{make_for, KeepsKinds};
+ghost use Rattle.h5_rules.specs.insertion.Place.{appropriate_place, put};
+ghost use Rattle.h5_rules.specs.World.{root};
+ghost use Rattle.h5_rules.specs.stack.Order.{IsIn, first_or};
+ghost use Rattle.h5_state.specs.Steps.{IsSound, errors_of, world_of};
+ghost use Rattle.h5_state.specs.View.{stack_under};
+ghost use Rattle.h5_insertion.specs.Hanging.{MayMove};
+
+use super::hang::make_for;
+use crate::{appropriate_place_for_insertion, insert_at};
+use h5_interface::{NodeOrText, TreeSink};
+use h5_state::{State, handle_at};
+use h5_token::Tag;
+use std::alloc::AllocError;
+
+/// The outermost of the clones around the furthest block, or the block itself, goes to the appropriate place for inserting
+/// a node into the element that is next older than the formatting element, which stands at this place. An Err leaves it
+/// where it is, or without parent.
+pub fn move_block<S: TreeSink>(
+    sink: &mut S,
+    state: &State<S::Handle>,
+    place: usize,
+    outermost: &S::Handle,
+) -> Result<(), AllocError>
+    requires sound { IsSound S.TreeSink sink.old state.now }
+    requires may { MayMove place (S.node outermost.now) (world_of S.TreeSink sink.old state.now) }
+    ensures done { OnOk result (S.sees sink.new ≡ changed (λ f.
+        put (appropriate_place (world_of S.TreeSink sink.old state.now) (first_or (root (world_of S.TreeSink sink.old state.now)) (stack_under S.node state.now place)))
+        (ChildNode (S.node outermost.now)) (detach (S.node outermost.now) f)) (S.sees sink.old)) }
+    ensures quiet { errors_of S.TreeSink sink.new ≡ errors_of S.TreeSink sink.old }
+    ensures sound { IsSound S.TreeSink sink.new state.now }
+    ensures kinds { KeepsKinds (S.sees sink.old).forest (S.sees sink.new).forest }
+{
+    let target = handle_at(sink, state, place - 1);
+    let point = appropriate_place_for_insertion(sink, state, target);
+    sink.remove_from_parent(outermost)?;
+    let child = NodeOrText::AppendNode(sink.clone_handle(outermost));
+    insert_at(sink, &point, child)
+}
+
+/// The children of the furthest block go below a new element for the formatting element's tag, which becomes the block's
+/// child. An Err leaves what was done so far.
+pub fn refill<S: TreeSink>(
+    sink: &mut S,
+    state: &State<S::Handle>,
+    tag: &Tag,
+    block: &S::Handle,
+) -> Result<S::Handle, AllocError>
+    requires sound { IsSound S.TreeSink sink.old state.now }
+    requires block { IsIn (S.node block.now) (world_of S.TreeSink sink.old state.now).stack }
+    ensures handle { IfOk result (λ clone. S.node clone ≡ S.choices.fresh (S.sees sink.old).forest) }
+    ensures node { IfOk result (λ clone. IsNode (S.sees sink.new).forest (S.node clone)) }
+    ensures done { OnOk result (S.sees sink.new ≡ changed (λ f.
+        with_last_child (S.node block.now) (ChildNode (S.choices.fresh f)) (reparent (S.node block.now) (S.choices.fresh f) (make_for S.choices (tag_text tag.now) f))) (S.sees sink.old)) }
+    ensures quiet { errors_of S.TreeSink sink.new ≡ errors_of S.TreeSink sink.old }
+    ensures sound { IsSound S.TreeSink sink.new state.now }
+    ensures kinds { KeepsKinds (S.sees sink.old).forest (S.sees sink.new).forest }
+{
+    let clone = make_for(sink, tag)?;
+    sink.reparent_children(block, &clone)?;
+    let child = NodeOrText::AppendNode(sink.clone_handle(&clone));
+    sink.append(block, child)?;
+    Ok(clone)
+}
