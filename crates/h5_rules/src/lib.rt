@@ -1,7 +1,7 @@
 //! What the rules of tree construction say, without code: the definitions, and the lemmas that the crates of code prove
 //! their contracts by (HTML standard, section 13.2). A rule says what a token does to a world, which is the forest, the
 //! stack of open elements, the insertion mode and the flags. It stands on names, tokens, the forest and its changes, and
-//! the tables of names and doctypes; the laws of turns and of whole runs are in `h5_laws`, above it.
+//! the tables of names and doctypes; the laws of turns and of whole runs are in `h5_plain`, above it.
 //!
 //! Begin with `specs/World.antt` and `specs/Rows.antt`, then one mode, as `specs/modes/InFrameset.antt`. `specs/Settle.antt`
 //! has the turns of a token, `specs/Run.antt` the run of a list of tokens. Of the folders of `specs/`, `modes` has the rules,

@@ -7,8 +7,8 @@
 //! `end_tags` end tags. `names` tells which tags leave foreign content. Whether a token is for foreign content is asked in
 //! `h5_insertion`.
 //!
-//! It stands on `h5_rules_head` and `h5_rules_body`, by whose rules tokens go, and on `h5_insertion` and `h5_closing`;
-//! the builder stands on it. The contract of each step is the rule of its mode. The rules are in `h5_rules`: begin with
+//! It stands on `h5_rules_head` and `h5_rules_body`, by whose rules tokens go, and on `h5_insertion`; the builder stands
+//! on it. The contract of each step is the rule of its mode. The rules are in `h5_rules`: begin with
 //! `specs/modes/InFrameset.antt` there and `src/in_frameset.rt`, then `specs/modes/ForeignContent.antt` there,
 //! `specs/ForeignSteps.antt`, what a token came to, and `src/step.rt`.
 #![tactic(auto)]

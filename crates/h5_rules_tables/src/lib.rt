@@ -4,8 +4,8 @@
 //! `in_row` and `in_cell`. `parts` has what they share: a part of a table is put into the nearest element that may hold
 //! it. `foster` has foster parenting (section 13.2.6.1).
 //!
-//! It stands on `h5_rules_head` and `h5_rules_body`, by whose rules many tokens go, and on `h5_insertion`, `h5_closing` and `h5_formatting`; the builder stands on it. The contract of each step
-//! is the rule of its mode. The rules are in `h5_rules`: begin with `specs/modes/InTable.antt` and
+//! It stands on `h5_rules_head` and `h5_rules_body`, by whose rules many tokens go, and on `h5_insertion`; the builder
+//! stands on it. The contract of each step is the rule of its mode. The rules are in `h5_rules`: begin with `specs/modes/InTable.antt` and
 //! `specs/modes/Tables.antt` there, then `src/in_table.rt`.
 #![tactic(auto)]
 

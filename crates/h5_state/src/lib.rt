@@ -8,33 +8,26 @@
 //! leaves for what follows it; `errors` tells parse errors (section 13.2.2), `blanks` cuts texts into runs, and
 //! `pending_text` keeps text of a table back (section 13.2.6.4.10).
 //!
-//! It stands on the definitions in `h5_rules`, and on `h5_stack` and `h5_list`. `h5_insertion` and `h5_closing` stand on
-//! it, and so do all crates with code of rules, and the builder. Begin with `specs/View.antt` (what state and sink mean
-//! together) and `specs/Steps.antt` (what a step does to that world), then `src/state.rt` and `src/steps.rt`.
+//! `formatting_list` has the list of active formatting elements (section 13.2.4.3). A long one has an index, in `index`: of
+//! each name it knows where its newest entry stands, and of each entry which others may be alike, without a walk over all
+//! entries. `numbers` has the numbers by which entries are found: each has that of its tag's name, and a marker one of its own.
+//! `keys` has the numbers of keys: entries that are alike have the same key, so where many entries stand after the last
+//! marker most are told from a tag without a comparison. `named` finds the newest entry of a name, and `surplus` those
+//! that are alike to a tag, each by the index and in a walk. Two stacks of numbers (`stacks`) are the index, in each a
+//! number for each entry.
 //!
-//! A stack of numbered values, which knows of each number where its newest value stands, without a walk; and numbers
-//! for texts.
+//! Under both, `numbered_stack` has a stack of numbered values, which knows of each number where its newest value stands,
+//! without a walk, and `item` a value with what is kept beside it. `places` keeps the places right: it takes items from
+//! the table of places, the newest first, and puts them back, the oldest first; one that gets another number needs no more
+//! than the next newer ones of both. `numbering` gives texts their numbers. `moves` moves a value within a vector.
 //!
-//! `numbered_stack` has the stack, and `item` a value with what is kept beside it. `places` keeps the places right: it
-//! takes items from the table of places, the newest first, and puts them back, the oldest first; one that gets another number
-//! needs no more than the next newer ones of both. `numbering` gives texts their numbers. `moves` moves a value within a vector.
-//!
-//! It stands on no other crate. Begin with `specs/Numbered.antt` (what contracts see of a stack, and where the newest
-//! value of a number stands) and `src/numbered_stack.rt`; then `specs/Places.antt`, `specs/Replacing.antt` and `src/places.rt`. Callers' proofs
-//! find in `proofs/NewestLaws.antt` what it says that the newest value of a number stands at a place.
-//!
-//! The list of active formatting elements (HTML standard, section 13.2.4.3). A long one has an index: of each name it knows where
-//! its newest entry stands, and of each entry which others may be alike, without a walk over all entries.
-//!
-//! `formatting_list` has the list, and `index` its index. `numbers` has the numbers by which entries are found: each has that of
-//! its tag's name, and a marker one of its own. `keys` has the numbers of keys: entries that are alike have the same key, so
-//! where many entries stand after the last marker most are told from a tag without a comparison. `named` finds the newest entry
-//! of a name, and `surplus` those that are alike to a tag, each by the index and in a walk. Two stacks of numbers (`h5_stack`,
-//! `stacks`) are the index, in each a number for each entry.
-//!
-//! It stands on the definitions of `h5_rules` and on `h5_stack`; the state of a builder (`h5_state`) has such a list. Begin with
-//! `specs/Listed.antt` (what contracts see of an entry) and `src/formatting_list.rt`; then `specs/Numbers.antt`
-//! and `specs/Keys.antt`.
+//! It stands on the definitions in `h5_rules`. `h5_insertion` stands on it, and so do all crates with code of rules, and
+//! the builder. Begin with `specs/View.antt` (what state and sink mean together) and `specs/Steps.antt` (what a step does
+//! to that world), then `src/state.rt` and `src/steps.rt`. Of the list begin with `specs/Listed.antt` (what contracts see
+//! of an entry) and `src/formatting_list.rt`; then `specs/ListNumbers.antt` and `specs/Keys.antt`. Of numbered stacks begin
+//! with `specs/Numbered.antt` (what contracts see of a stack, and where the newest value of a number stands) and
+//! `src/numbered_stack.rt`; then `specs/Places.antt`, `specs/Replacing.antt` and `src/places.rt`. Callers' proofs find in
+//! `proofs/NumberedNewestLaws.antt` what it says that the newest value of a number stands at a place.
 #![tactic(auto)]
 
 mod blanks;

@@ -1,5 +1,5 @@
-//! Tests: each public call of `h5_names`, `h5_token`, `h5_tables`, `h5_markup`, `h5_references`, `h5_stack` and of the
-//! program's crates once, with ample memory.
+//! Tests: each public call of `h5_names`, `h5_token`, `h5_tables`, `h5_markup`, of the search for references in
+//! `h5_machine`, of the stack of numbered values in `h5_state`, and of the program's crates once, with ample memory.
 //!
 //! Most modules have the name of what they test, as `names`, `token`, `lines` or `commands`; `constructs`
 //! has the parts of texts, tags and doctypes. `running` runs the program over memory, `deep` does so with deep

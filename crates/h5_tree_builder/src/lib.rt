@@ -5,7 +5,7 @@
 //! `doctype` takes doctypes, `refusal` tells which tokens don't come in a text, and `end` has the end. `first_state` and `fragment` have where a
 //! builder of a document or of a fragment begins (section 13.4), and `queries` what a builder is asked.
 //!
-//! It stands on `h5_state`, on the crates of rules, whose steps it takes, and on `h5_laws` and `h5_plain`. The parser
+//! It stands on `h5_state`, on the crates of rules, whose steps it takes, and on the laws in `h5_plain`. The parser
 //! in `h5_driver` stands on it. Begin with `specs/Held.antt` and `specs/Builder.antt` (what contracts see of a
 //! builder), then `src/builder.rt` and `src/dispatch.rt`.
 #![tactic(auto)]
