@@ -1,6 +1,6 @@
 //! What can go wrong.
+use h5_input::InputFault;
 use html_tree_builder::serialize::SerializeFault;
-use html_tree_builder::token::BuildFault;
 use std::alloc::AllocError;
 use std::io;
 
@@ -21,14 +21,16 @@ impl From<AllocError> for Fault {
     }
 }
 
-// A parser that hasn't failed meets no other fault.
-impl From<BuildFault> for Fault {
-    fn from(_fault: BuildFault) -> Fault {
-        Fault::Memory
+impl From<InputFault> for Fault {
+    fn from(fault: InputFault) -> Fault {
+        match fault {
+            InputFault::Read(error) => Fault::Read(error),
+            InputFault::Memory => Fault::Memory,
+        }
     }
 }
 
-// Nor does a serializer over memory.
+// A serializer over memory fails with nothing else.
 impl From<SerializeFault> for Fault {
     fn from(_fault: SerializeFault) -> Fault {
         Fault::Memory

@@ -1,25 +1,21 @@
 //! The program `hengaruto`: what a page is made of, for people.
 //!
-//! `h5_command_line` has the command line, `page` reads pages, whose bytes `decoding` makes texts, `tokens` writes down tokens on
-//! their way, `answer` has what is printed of a page, `parts` hands on HTML in parts, `policy_file` reads the policies by which pages
-//! are cleaned, `select` writes what a selector matches, `errors` has the parse errors of a page with their places, `records` answers
-//! pages that come in lines of JSON, `dress` writes lines as a terminal shows them, and `progress` tells how far a long input is. It
-//! stands on the library `html_tree_builder`, whose standard reader reads all of HTML. Begin with `src/run.rt`.
+//! `h5_command_line` has the command line, `h5_input` reads pages, and `h5_policy` the policies by which they are cleaned.
+//! `policy_file` opens the file of a policy. `answer` prints what is asked of a tree, `parts` writes HTML in parts, `select` prints what
+//! a selector matches, `errors` prints parse errors, `records` answers pages in lines of JSON, `dress` prepares lines for a terminal, and
+//! `progress` shows how far a long input is read. Begin with `src/run.rt`.
 #![tactic(auto)]
 
 mod answer;
-mod decoding;
 mod dress;
 mod errors;
 mod fault;
-mod page;
 mod parts;
 mod policy_file;
 mod progress;
 mod records;
 mod run;
 mod select;
-mod tokens;
 
 use h5_command_line::command;
 use run::run;

@@ -1,43 +1,75 @@
-//! How far a long input is, on a terminal.
-use std::io::{IsTerminal, Write};
+//! How far a long input is read, on a terminal.
+use std::io::{self, IsTerminal, Read, Write};
 
-// The first is told at so many bytes, and the others so many bytes later each.
+// The first report comes at this many bytes, and each later one this many bytes after the one before.
 const FIRST: u64 = 100_000_000;
 
 const STEP: u64 = 10_000_000;
 
-/// How much of an input was read, and how much of that was told.
-#[derive(Drop)]
-pub struct Progress {
+/// An input that reports on standard error how much of it was read, if that is a terminal. A report that can't be written is left out.
+pub struct Watched<'a, R: Read> {
+    rt: &'a HostRuntime,
+    input: &'a mut R,
     read: u64,
     next: u64,
     on_terminal: bool,
 }
 
-impl Progress {
-    /// Nothing was read. It is told only if standard error is a terminal.
-    pub fn new(rt: &HostRuntime) -> Progress {
-        Progress {
+impl<'a, R: Read> Drop for Watched<'a, R> {
+    fn drop(self) {
+        let Watched {
+            rt: _rt,
+            input: _input,
+            read: _read,
+            next: _next,
+            on_terminal: _on_terminal,
+        } = self;
+    }
+}
+
+impl<'a, R: Read> Watched<'a, R> {
+    /// An input of which nothing was read yet.
+    pub fn new(rt: &'a HostRuntime, input: &'a mut R) -> Watched<'a, R> {
+        Watched {
+            rt,
+            input,
             read: 0,
             next: FIRST,
             on_terminal: rt.stderr().is_terminal(),
         }
     }
 
-    /// So many more bytes were read. That it can't be told is no fault.
-    pub fn add(&mut self, rt: &HostRuntime, count: usize) {
-        self.read = self.read.saturating_add(count as u64);
+    fn report(&mut self) {
         if self.on_terminal && self.read >= self.next {
             self.next = self.read.saturating_add(STEP);
             let megabytes = self.read / 1_000_000;
-            let _told = write!(rt.stderr(), "\rhengaruto: {megabytes} MB");
+            let _written = write!(self.rt.stderr(), "\rhengaruto: {megabytes} MB");
         }
     }
 
-    /// All was read: what was told goes.
-    pub fn finish(self, rt: &HostRuntime) {
+    // Removes what was reported.
+    fn clear(&mut self) {
         if self.next > FIRST {
-            let _told = rt.stderr().write_all(b"\r                              \r");
+            self.next = FIRST;
+            let _written = self
+                .rt
+                .stderr()
+                .write_all(b"\r                              \r");
         }
+    }
+}
+
+impl<'a, R: Read> Read for Watched<'a, R> {
+    ghost remaining = { λ watched. R.remaining watched.input.now };
+
+    fn read(&mut self, bytes: &mut [u8]) -> io::Result<usize> {
+        let count = self.input.read(bytes)?;
+        self.read = self.read.saturating_add(count as u64);
+        if count > 0 {
+            self.report();
+        } else {
+            self.clear();
+        }
+        Ok(count)
     }
 }

@@ -1,15 +1,15 @@
 //! A run of the program.
 use super::answer::{Asked, put_answer};
-use super::decoding::HowRead;
 use super::dress::dressed;
 use super::errors::{ErrorCount, put_errors, tell_count};
 use super::fault::Fault;
-use super::page::{errors_of, is_context, tokens_of, tree_of};
-use super::policy_file::{policy_in, tell_policy};
+use super::policy_file::policy_in;
+use super::progress::Watched;
 use super::records::show_records;
 use super::select::{Selection, Shown, tell_selector};
 use clap::ArgMatches;
 use h5_command_line::{What, what_named};
+use h5_input::{HowRead, errors_of, is_context, tokens_of, tree_of};
 use h5_listing::{Form, token_lines};
 use h5_page::TextOpts;
 use html_tree_builder::encodings::{Encoding, EncodingOpts};
@@ -57,8 +57,9 @@ fn put_errors_of<R: Read, W: Write>(
     input: &mut R,
     out: &mut W,
 ) -> Result<Answered, Fault> {
-    let (page, how) = errors_of(rt, asked.context, asked.encodings, asked.limit, input)?;
-    let errors = put_errors(rt.alloc(), &page, asked.file, asked.limit, asked.form, out)?;
+    let (alloc, limit) = (rt.alloc(), asked.limit);
+    let (page, how) = errors_of(alloc, asked.context, asked.encodings, limit, input)?;
+    let errors = put_errors(alloc, &page, asked.file, limit, asked.form, out)?;
     Ok(Answered { how, errors })
 }
 
@@ -69,7 +70,7 @@ fn put_tree_of<R: Read, W: Write>(
     input: &mut R,
     out: &mut W,
 ) -> Result<HowRead, Fault> {
-    let (arena, how) = tree_of(rt, asked.context, asked.encodings, input)?;
+    let (arena, how) = tree_of(rt.alloc(), asked.context, asked.encodings, input)?;
     let written = put_answer(rt.alloc(), asked, &arena, how.encoding, out);
     if asked.is_last {
         mem::forget(arena);
@@ -85,15 +86,16 @@ pub fn put_input<R: Read, W: Write>(
     input: &mut R,
     out: &mut W,
 ) -> Result<Answered, Fault> {
+    let mut input = Watched::new(rt, input);
     match asked.what {
-        What::Errors => put_errors_of(rt, asked, input, out),
+        What::Errors => put_errors_of(rt, asked, &mut input, out),
         What::Tokens => {
-            let (text, how) = tokens_of(rt, asked.context, asked.encodings, input)?;
+            let (text, how) = tokens_of(rt.alloc(), asked.context, asked.encodings, &mut input)?;
             put_tokens(rt.alloc(), asked, text, out)?;
             Ok(without_errors(how))
         }
         _ => {
-            let how = put_tree_of(rt, asked, input, out)?;
+            let how = put_tree_of(rt, asked, &mut input, out)?;
             Ok(without_errors(how))
         }
     }
@@ -211,17 +213,14 @@ fn show_all(rt: &HostRuntime, asked: &Asked<'_>, matches: &ArgMatches<'_>) -> u8
 // Shows what is asked by the policy that stands in a file. Where that is no policy, nothing is shown.
 fn show_by_policy(rt: &HostRuntime, asked: &Asked<'_>, name: &str, matches: &ArgMatches<'_>) -> u8 {
     match policy_in(rt, name) {
-        Ok(policy) => {
+        Some(policy) => {
             let by_policy = Asked {
                 policy: Some(&policy),
                 ..*asked
             };
             show_all(rt, &by_policy, matches)
         }
-        Err(fault) => {
-            tell_policy(rt, name, &fault);
-            2
-        }
+        None => 2,
     }
 }
 

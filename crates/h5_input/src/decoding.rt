@@ -1,4 +1,4 @@
-//! Bytes of a page as a text, and how many of its characters stand for bytes that are none.
+//! The bytes of a page as a text, and how many invalid sequences U+FFFD replaces.
 use html_tree_builder::encodings::{Decoder, Encoding, EncodingOpts, sniff};
 use memchr::memchr;
 use std::alloc::{AllocError, Global};
@@ -6,9 +6,9 @@ use std::alloc::{AllocError, Global};
 /// How a page was read.
 #[derive(Clone, Copy)]
 pub struct HowRead {
-    /// In which encoding.
+    /// Its encoding.
     pub encoding: Encoding,
-    /// How often U+FFFD stands for bytes that are no character of it.
+    /// How many invalid sequences of bytes U+FFFD replaces.
     pub replaced: u64,
 }
 
@@ -17,7 +17,7 @@ pub struct PageText {
     decoder: Decoder,
     // The two bytes before the next chunk, which may begin a U+FFFD that the page has.
     before: [u8; 2],
-    // How many U+FFFD have stood for bytes of UTF-8. Of other encodings the decoder tells it.
+    // How many sequences of invalid UTF-8 were replaced. The decoder counts those of other encodings.
     replaced: u64,
 }
 
@@ -31,7 +31,7 @@ impl Drop for PageText {
     }
 }
 
-// Whether a text has the byte with which a U+FFFD begins. Most texts don't.
+// Returns true if a text has the byte with which U+FFFD begins in UTF-8. Most texts don't.
 fn may_have_marks(text: &str) -> bool {
     memchr(0xEF, text.as_bytes()).is_some()
 }
@@ -47,7 +47,7 @@ fn marks_in(text: &str) -> u64 {
     count
 }
 
-// How many U+FFFD bytes of UTF-8 have as they stand, behind two bytes.
+// How many U+FFFD the page itself has in these bytes of UTF-8, which follow two others.
 fn marks_written(before: [u8; 2], bytes: &[u8]) -> u64 {
     let mut count = 0u64;
     let mut first = before[0];
@@ -75,7 +75,7 @@ fn last_two(before: [u8; 2], bytes: &[u8]) -> [u8; 2] {
 }
 
 impl PageText {
-    /// The text of a page with these first bytes, of which none was decoded yet.
+    /// The text of a page with these first bytes, none of which is decoded yet. Fails if an allocation fails.
     pub fn new(alloc: Global, opts: EncodingOpts, first: &[u8]) -> Result<PageText, AllocError> {
         let (encoding, _source) = sniff(alloc, opts, first)?;
         Ok(PageText {
@@ -85,7 +85,7 @@ impl PageText {
         })
     }
 
-    /// The text of the next bytes, as far as it is decided.
+    /// The text of the next bytes, as far as they decide it. Fails if an allocation fails.
     pub fn decode(&mut self, bytes: &[u8]) -> Result<String, AllocError> {
         let text = self.decoder.decode(bytes)?;
         let is_utf8 = self.decoder.encoding() == Encoding::Utf8;
@@ -98,7 +98,7 @@ impl PageText {
         Ok(text)
     }
 
-    /// The text of what is left at the end, and how the page was read.
+    /// The text of the bytes that are left at the end, and how the page was read.
     pub fn finish(self) -> (&'static str, HowRead) {
         let PageText {
             decoder,

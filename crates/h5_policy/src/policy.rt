@@ -1,0 +1,272 @@
+//! A policy in TOML.
+use super::fault::PolicyFault;
+use html_tree_builder::clean::{AllowList, Kind, kind_of};
+use std::alloc::{AllocError, Global};
+use toml::{Table, Value};
+
+// The keys that have a list of names.
+#[derive(Clone, Copy)]
+enum NameKey {
+    Elements,
+    Dropped,
+    Attributes,
+    Urls,
+    Schemes,
+}
+
+// The error for a reason, which takes memory to be written.
+fn wrong(reason: Result<String, AllocError>) -> PolicyFault {
+    match reason {
+        Ok(reason) => PolicyFault::Wrong(reason),
+        Err(_) => PolicyFault::Memory,
+    }
+}
+
+// The error for a key whose value has another type.
+fn mismatch(alloc: Global, key: &str, wanted: &str) -> PolicyFault {
+    wrong(format!(in alloc; "`{key}` must be {wanted}"))
+}
+
+// The line of a text, from 1, at this offset.
+fn line_at(text: &[u8], place: usize) -> usize {
+    let lines = text.iter().take(place).filter(|b| **b == b'\n').count();
+    lines.saturating_add(1)
+}
+
+// The error for one of the TOML parser, which has no span only if an allocation failed.
+fn reader_fault(text: &[u8], error: toml::de::Error) -> PolicyFault {
+    match error.span() {
+        Some(span) => PolicyFault::Toml(line_at(text, span.start), error),
+        None => PolicyFault::Memory,
+    }
+}
+
+// The items of a list.
+fn items_of<'a>(alloc: Global, key: &str, value: &'a Value) -> Result<&'a [Value], PolicyFault> {
+    match value {
+        Value::Array(items) => Ok(items.as_slice()),
+        _ => Err(mismatch(alloc, key, "an array of strings")),
+    }
+}
+
+// Refuses a name that isn't in lower case, which no tag or attribute would match.
+fn in_lower_case(alloc: Global, name: &str) -> Result<&str, PolicyFault> {
+    if name.bytes().any(|byte| byte.is_ascii_uppercase()) {
+        return Err(wrong(format!(in alloc; "\"{name}\" must be in lower case")));
+    }
+    Ok(name)
+}
+
+// The name in an item of a list.
+fn name_of<'a>(alloc: Global, key: &str, item: &'a Value) -> Result<&'a str, PolicyFault> {
+    match item {
+        Value::String(name) => in_lower_case(alloc, name.as_str()),
+        _ => Err(mismatch(alloc, key, "an array of strings")),
+    }
+}
+
+// Refuses an element that has no kind: the sanitizer can't write it safely.
+fn ask_for_kind(alloc: Global, name: &str) -> Result<(), PolicyFault> {
+    if kind_of(name) == Kind::Unknown {
+        return Err(wrong(format!(in alloc; "\"{name}\" can't be let through")));
+    }
+    Ok(())
+}
+
+// Allows an element, if it has a kind.
+fn add_element(alloc: Global, policy: &mut AllowList, name: &str) -> Result<(), PolicyFault> {
+    ask_for_kind(alloc, name)?;
+    Ok(policy.add_element(name)?)
+}
+
+// Adds a name to the list of a key.
+fn add_name(
+    alloc: Global,
+    policy: &mut AllowList,
+    list: NameKey,
+    name: &str,
+) -> Result<(), PolicyFault> {
+    match list {
+        NameKey::Elements => add_element(alloc, policy, name),
+        NameKey::Dropped => Ok(policy.add_dropped(name)?),
+        NameKey::Attributes => Ok(policy.add_attribute(name)?),
+        NameKey::Urls => Ok(policy.add_url(name)?),
+        NameKey::Schemes => Ok(policy.add_scheme(name)?),
+    }
+}
+
+// Adds the names of a key.
+fn add_names(
+    alloc: Global,
+    policy: &mut AllowList,
+    list: NameKey,
+    key: &str,
+    value: &Value,
+) -> Result<(), PolicyFault> {
+    for item in items_of(alloc, key, value)? {
+        add_name(alloc, policy, list, name_of(alloc, key, item)?)?;
+    }
+    Ok(())
+}
+
+// Adds the attributes of an element, under this key.
+fn add_attributes_at(
+    alloc: Global,
+    policy: &mut AllowList,
+    place: &str,
+    element: &str,
+    value: &Value,
+) -> Result<(), PolicyFault> {
+    for item in items_of(alloc, place, value)? {
+        policy.add_attribute_of(element, name_of(alloc, place, item)?)?;
+    }
+    Ok(())
+}
+
+// Adds the attributes of an element.
+fn add_attributes(
+    alloc: Global,
+    policy: &mut AllowList,
+    element: &str,
+    value: &Value,
+) -> Result<(), PolicyFault> {
+    ask_for_kind(alloc, element)?;
+    let place = format!(in alloc; "attributes-of.{element}")?;
+    add_attributes_at(alloc, policy, place.as_str(), element, value)
+}
+
+// Adds the attributes of each element of a table.
+fn add_attributes_of(
+    alloc: Global,
+    policy: &mut AllowList,
+    value: &Value,
+) -> Result<(), PolicyFault> {
+    let Value::Table(table) = value else {
+        return Err(mismatch(alloc, "attributes-of", "a table"));
+    };
+    for (element, attributes) in table {
+        add_attributes(alloc, policy, element.as_str(), attributes)?;
+    }
+    Ok(())
+}
+
+// Sets whether URLs may be relative.
+fn set_relative(alloc: Global, policy: &mut AllowList, value: &Value) -> Result<(), PolicyFault> {
+    match value {
+        Value::Boolean(true) => Ok(()),
+        Value::Boolean(false) => {
+            policy.refuse_relative();
+            Ok(())
+        }
+        _ => Err(mismatch(alloc, "relative", "true or false")),
+    }
+}
+
+// Sets the attribute `rel` of links.
+fn set_rel(alloc: Global, policy: &mut AllowList, value: &Value) -> Result<(), PolicyFault> {
+    match value {
+        Value::String(rel) => Ok(policy.set_rel(rel.as_str())?),
+        _ => Err(mismatch(alloc, "rel", "a string")),
+    }
+}
+
+// Sets the prefix of ids and names.
+fn set_prefix(alloc: Global, policy: &mut AllowList, value: &Value) -> Result<(), PolicyFault> {
+    match value {
+        Value::String(prefix) => Ok(policy.set_prefix(prefix.as_str())?),
+        _ => Err(mismatch(alloc, "prefix", "a string")),
+    }
+}
+
+// Sets how deep elements may be nested.
+fn set_depth(alloc: Global, policy: &mut AllowList, value: &Value) -> Result<(), PolicyFault> {
+    if let Value::Integer(depth) = value
+        && let Ok(depth) = u16::try_from(*depth)
+    {
+        policy.set_depth(usize::from(depth));
+        return Ok(());
+    }
+    Err(mismatch(alloc, "depth", "an integer from 0 to 65535"))
+}
+
+// Sets the value of a key.
+fn set(alloc: Global, policy: &mut AllowList, key: &str, value: &Value) -> Result<(), PolicyFault> {
+    match key {
+        "elements" => add_names(alloc, policy, NameKey::Elements, key, value),
+        "dropped" => add_names(alloc, policy, NameKey::Dropped, key, value),
+        "attributes" => add_names(alloc, policy, NameKey::Attributes, key, value),
+        "urls" => add_names(alloc, policy, NameKey::Urls, key, value),
+        "schemes" => add_names(alloc, policy, NameKey::Schemes, key, value),
+        "attributes-of" => add_attributes_of(alloc, policy, value),
+        "relative" => set_relative(alloc, policy, value),
+        "rel" => set_rel(alloc, policy, value),
+        "prefix" => set_prefix(alloc, policy, value),
+        "depth" => set_depth(alloc, policy, value),
+        _ => Err(wrong(format!(in alloc; "`{key}` is no key of a policy"))),
+    }
+}
+
+// Sets the values of all keys of a table.
+fn set_each(alloc: Global, policy: &mut AllowList, table: &Table) -> Result<(), PolicyFault> {
+    for (key, value) in table {
+        set(alloc, policy, key.as_str(), value)?;
+    }
+    if table.contains_key("elements") {
+        Ok(())
+    } else {
+        Err(wrong(format!(in alloc; "`elements` is missing")))
+    }
+}
+
+// The policy of a table.
+fn policy_by(alloc: Global, table: &Table) -> Result<AllowList, PolicyFault> {
+    let mut policy = AllowList::new(alloc);
+    set_each(alloc, &mut policy, table)?;
+    Ok(policy)
+}
+
+// The text between the first two of these quotes.
+fn between(reason: &str, quote: char) -> Option<&str> {
+    let (_, behind) = reason.split_once(quote)?;
+    let (word, _) = behind.split_once(quote)?;
+    Some(word)
+}
+
+// The key or the name that a reason is about.
+fn subject_of(reason: &str) -> Option<&str> {
+    match between(reason, '`') {
+        Some(key) => key.rsplit('.').next(),
+        None => between(reason, '"'),
+    }
+}
+
+// The first line of a text, from 1, that has this word.
+fn line_with(text: &[u8], word: &str) -> Option<usize> {
+    let text = str::from_utf8(text).ok()?;
+    for (above, line) in text.lines().enumerate() {
+        if line.contains(word) {
+            return Some(above.saturating_add(1));
+        }
+    }
+    None
+}
+
+// The error for a reason, with the first line that has its subject.
+fn placed(text: &[u8], reason: String) -> PolicyFault {
+    match subject_of(reason.as_str()).and_then(|word| line_with(text, word)) {
+        Some(line) => PolicyFault::WrongAt(line, reason),
+        None => PolicyFault::Wrong(reason),
+    }
+}
+
+/// The policy of a text in TOML. Fails with the reason, and the line if it is known, if the text isn't a policy; with `Memory` if an
+/// allocation fails.
+pub fn policy_of(alloc: Global, text: &[u8]) -> Result<AllowList, PolicyFault> {
+    match toml::table_from_slice(alloc, text) {
+        Ok(table) => match policy_by(alloc, &table) {
+            Err(PolicyFault::Wrong(reason)) => Err(placed(text, reason)),
+            answer => answer,
+        },
+        Err(error) => Err(reader_fault(text, error)),
+    }
+}
