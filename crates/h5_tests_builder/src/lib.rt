@@ -10,6 +10,8 @@ mod attaching;
 #[cfg(test)]
 mod calls;
 #[cfg(test)]
+mod examples;
+#[cfg(test)]
 mod feeding;
 #[cfg(test)]
 mod selecting;

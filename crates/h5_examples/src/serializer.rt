@@ -1,11 +1,11 @@
-//! A serializer of one's own.
+//! A serializer that counts.
 use html_tree_builder::serialize::{
     AttrRef, Serialize, SerializeFault, TraversalScope, Visit, Visiting,
 };
 use html_tree_builder::{Arena, QualName};
 use std::alloc::AllocError;
 
-/// Counts the elements that it is told of.
+/// Counts elements.
 #[derive(Drop)]
 struct Counter {
     elements: u64,
@@ -22,7 +22,7 @@ impl Visit for Counter {
     }
 }
 
-/// How many elements stand in the document.
+/// Counts the elements of a document.
 pub fn count_elements(arena: &Arena) -> Result<u64, SerializeFault> {
     let mut counting = Visiting {
         visitor: Counter { elements: 0 },

@@ -1,4 +1,4 @@
-//! Parse errors, and where they stand.
+//! Parse errors and their places.
 use html_tree_builder::Arena;
 use html_tree_builder::standard::{
     BufferQueue, Errors, TellingTokenizer, TokenizerOpts, TokenizerResult,
@@ -7,13 +7,13 @@ use html_tree_builder::tree_builder::{TreeBuilder, TreeBuilderOpts};
 use std::alloc::{AllocError, Global};
 use std::fmt::Write;
 
-/// The first hundred parse errors of a page's text.
+/// Finds the first hundred parse errors of a page's text.
 pub fn errors_in(alloc: Global, text: &str) -> anyhow::Result<Errors> {
+    let mut queue = BufferQueue::new(alloc);
+    queue.push_back(String::from_str(alloc, text)?)?;
     let builder = TreeBuilder::new(alloc, Arena::new(alloc)?, TreeBuilderOpts::default());
     let errors = Errors::new(alloc, 100);
     let mut reader = TellingTokenizer::new(alloc, builder, errors, TokenizerOpts::default());
-    let mut queue = BufferQueue::new(alloc);
-    queue.push_back(String::from_str(alloc, text)?)?;
     // A `script` or the encoding of a `meta` stops the reader before all is read.
     for _ in 0..u64::MAX {
         if let TokenizerResult::Done = reader.feed(&mut queue)? {
@@ -24,7 +24,7 @@ pub fn errors_in(alloc: Global, text: &str) -> anyhow::Result<Errors> {
     Ok(reader.errors)
 }
 
-/// A line for each: its line, its column and its name.
+/// Writes a line for each error: its line, its column and its name.
 pub fn lines_of(alloc: Global, errors: &Errors) -> Result<String, AllocError> {
     let mut lines = String::new(alloc);
     for told in errors.kept() {

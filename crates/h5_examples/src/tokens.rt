@@ -50,7 +50,7 @@ impl TokenSink for Counter {
     }
 }
 
-// Feeds the next text.
+// Feeds a text.
 fn feed(
     tokenizer: &mut Tokenizer<Counter>,
     queue: &mut BufferQueue,
@@ -75,7 +75,7 @@ fn feed_bytes(
     Ok(())
 }
 
-/// How many start tags stand in these bytes.
+/// Counts the start tags in these bytes.
 pub fn tokens_without_a_tree(alloc: Global, bytes: &[u8]) -> anyhow::Result<u64> {
     let mut tokenizer = Tokenizer::new(alloc, Counter { tags: 0 }, TokenizerOpts::default());
     let mut queue = BufferQueue::new(alloc);

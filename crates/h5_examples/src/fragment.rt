@@ -8,12 +8,12 @@ use html_tree_builder::{
 };
 use std::alloc::{AllocError, Global};
 
-// A name of HTML.
+// Returns the name of an HTML element.
 fn html_name(alloc: Global, local: &str) -> Result<QualName, AllocError> {
     Ok(QualName::new(None, Namespace::html(), LocalName::new(alloc, local)?))
 }
 
-// What stands below the root of a fragment, as HTML.
+// Writes what is below the root of a fragment as HTML.
 fn write_fragment(alloc: Global, arena: &Arena) -> anyhow::Result<Vec<u8>> {
     match arena.fragment_root() {
         Some(root) => {
@@ -25,7 +25,7 @@ fn write_fragment(alloc: Global, arena: &Arena) -> anyhow::Result<Vec<u8>> {
     }
 }
 
-/// A text, read as inside of a `tr`, and written as HTML.
+/// Parses a text as the contents of a `tr`, and writes them as HTML.
 pub fn fragment(alloc: Global, text: &str) -> anyhow::Result<Vec<u8>> {
     let name = html_name(alloc, "tr")?;
     let opts = ParseOpts::default();
@@ -34,7 +34,7 @@ pub fn fragment(alloc: Global, text: &str) -> anyhow::Result<Vec<u8>> {
     write_fragment(alloc, &arena)
 }
 
-// A parser of a fragment inside this element; none where it is no element of the arena.
+// Makes a parser of the contents of this element, or none if it isn't an element of the arena.
 fn parser_in(
     alloc: Global,
     arena: Arena,
@@ -53,10 +53,11 @@ fn parser_in(
     }
 }
 
-/// A text, read as inside of an element that an arena holds already, and written as HTML; nothing where there is no such element.
+/// Parses a text as the contents of an element that its arena holds already, and writes them as HTML.
 pub fn fragment_in_an_element(alloc: Global, name: &str, text: &str) -> anyhow::Result<Vec<u8>> {
+    let name = html_name(alloc, name)?;
     let mut arena = Arena::new(alloc)?;
-    let element = create_element(&mut arena, html_name(alloc, name)?, Vec::new(alloc))?;
+    let element = create_element(&mut arena, name, Vec::new(alloc))?;
     match parser_in(alloc, arena, element)? {
         Some(parser) => {
             let arena = parser.one(text)?;
