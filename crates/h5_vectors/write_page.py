@@ -1,13 +1,19 @@
 #!/usr/bin/env python3
-"""Writes the two files beside this one: the page `stdin`, and what the program is to print of it, `stdout`.
+"""Writes data/page.dat: a page of about 100 KB, and the HTML of its tree.
 
-Each part of the page stands here twice: as it is written, and as its HTML is to be. The HTML is thought out by
-hand, from what the reader and the tree builder are to do; nothing here reads the page. Each element that is
-opened is closed, or the rules close it.
+    write_page.py           writes the file if it differs
+    write_page.py --check   writes nothing; the status is 1 if the file differs
+
+Each part of the page is here twice: as it is written, and as its HTML has to be. The HTML was thought out by hand, from what the
+plain tokenizer and the tree builder have to do; nothing here reads the page. Each element that is opened is closed, or the rules
+close it.
 """
 
 import os
+import re
+import sys
 
+FILE = os.path.join(os.path.dirname(os.path.abspath(__file__)), "data/page.dat")
 SECTIONS = 29
 LINE_ENDS = ["\n", "\r\n", "\r"]
 NAMES = ["Aldermoor", "Bréhat", "Cape Wrath", "Długi Ostrów", "Eddystone", "Fårö", "Górki", "灯台", "Høgsteinen"]
@@ -386,24 +392,37 @@ def back():
     ]
 
 
-def report(page, html):
-    ways = [f"pieces of {size}: the same\n" for size in (1, 2, 3, 7, 64)]
-    texts = "421836 texts, read in 6163615 cuts: all agree\n"
-    counts = texts + f"page: {len(page.encode())} bytes, {len(page)} characters\nHTML: {len(html.encode())} bytes\n"
-    return counts + "".join(ways) + "one character at a time: the same\n" + html + "\n"
+# Pieces of 64 characters, which split tags, names and references. A line that begins with # isn't a piece, so each # there is in the one before.
+PIECE = re.compile(r".{64}#*|.+", re.DOTALL)
+ESCAPES = str.maketrans({"\\": "\\\\", "\n": "\\n", "\r": "\\r", "\t": "\\t", "\f": "\\f", "\0": "\\0"})
 
 
-def main():
+def case():
+    """The case of a page of all parts."""
     parts = front()
     for n in range(1, SECTIONS + 1):
         parts += section(n)
     parts += back()
     page = "".join(written for written, _ in parts)
     html = "".join(wanted for _, wanted in parts)
-    folder = os.path.dirname(os.path.abspath(__file__))
-    for name, text in (("stdin", page), ("stdout", report(page, html))):
-        with open(os.path.join(folder, name), "wb") as file:
-            file.write(text.encode())
+    pieces = [piece.translate(ESCAPES) for piece in PIECE.findall(page)]
+    return "\n".join(["#about", "a long page, made by hand", "#pieces", *pieces, "#html", html, ""])
 
 
-main()
+def main(words):
+    if words not in ([], ["--check"]):
+        sys.exit(__doc__)
+    made = case().encode()
+    if os.path.isfile(FILE):
+        with open(FILE, "rb") as file:
+            if file.read() == made:
+                return 0
+    if words:
+        print(f"{FILE} isn't what write_page.py writes", file=sys.stderr)
+        return 1
+    with open(FILE, "wb") as file:
+        file.write(made)
+    return 0
+
+
+sys.exit(main(sys.argv[1:]))
