@@ -1,8 +1,8 @@
 //! Test doubles, for tests and programs: sinks of trees, takers of tokens, and a writer that fails. And what tests ask
 //! of an arena, of a sink, or of a serializer that was refused something.
 //!
-//! `attaching` has sinks that attach shadow roots, `starved` one that is refused memory once. `recorder`, `counter` and
-//! `closing` take tokens, `answer` has what is answered, and `broken` is the writer; `forest`, `html` and `failing`
+//! `attaching` has sinks that attach shadow roots, `starved` one that is refused memory once. `recorder` and `closing`
+//! take tokens, `answer` has what is answered, and `broken` is the writer; `forest`, `html` and `failing`
 //! have what is asked. The crates of tests stand on it. Begin with `specs/Answers.antt` and `src/recorder.rt`.
 #![tactic(auto)]
 
@@ -10,7 +10,6 @@ mod answer;
 mod attaching;
 mod broken;
 mod closing;
-mod counter;
 mod failing;
 mod forest;
 mod html;
@@ -21,7 +20,6 @@ pub use answer::Answer;
 pub use attaching::{Agreeing, Attaching, Detaching};
 pub use broken::Broken;
 pub use closing::{Closing, Counting};
-pub use counter::Counter;
 pub use failing::all_calls_fail;
 pub use forest::is_forest;
 pub use html::html_of;
