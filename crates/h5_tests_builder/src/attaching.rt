@@ -1,73 +1,98 @@
-//! Builders over sinks that say of every shadow root that they attached it, and count the options that they copy.
-use super::feeding::taking;
+//! Builders over sinks that report every shadow root as attached, and count the options that they copy.
+use super::feeding::take_lines;
 use h5_arena::{Arena, NodeId};
 use h5_interface::TreeSink;
 use h5_tables::TreeBuilderOpts;
-use h5_tests_sinks::{Agreeing, Attaching, Detaching, html_of};
+use h5_tests_sinks::{Attaching, html_of};
 use h5_tree_builder::TreeBuilder;
-use std::alloc::Global;
+use std::alloc::{AllocError, Global};
 use std::process::Abort;
 use std::test::Fail;
 
-// A builder of a document after the tokens of lines.
-fn built<const DETACHES: bool>(
-    sink: Attaching<DETACHES>,
-    alloc: Global,
-    lines: &str,
-) -> Result<TreeBuilder<NodeId, Attaching<DETACHES>>, Fail> {
-    let builder = TreeBuilder::new(alloc, sink, TreeBuilderOpts::default());
-    taking(builder, alloc, lines)
-}
+type Builder<const DETACHES: bool> = TreeBuilder<NodeId, Attaching<DETACHES>>;
 
-// A template that asks for a shadow root, in a `div`, with a text in it and one behind it.
-const SHADOW_ROOT: &str = "S div\nS template\nA shadowrootmode open\nT x\nE template\nT y";
+// Lines of tokens, the HTML of the document that they make, how many options are copied, and whether a template is left without a
+// parent.
+type Row = (&'static str, &'static str, usize, bool);
 
-// The first template of an arena, by the order in which nodes were made.
-fn first_template(arena: &Arena) -> Option<NodeId> {
+// A template that asks for a shadow root in a `div`, with a text in it and one after it: the page has only the text after it.
+const SHADOW_ROOT: Row = (
+    "S div\nS template\nA shadowrootmode open\nT x\nE template\nT y",
+    "<html><head></head><body><div>y</div></body></html>",
+    0,
+    true,
+);
+
+// An option is copied when it is closed.
+const OPTIONS: [Row; 4] = [
+    (
+        "S option\nE option",
+        "<html><head></head><body><option></option></body></html>",
+        1,
+        false,
+    ),
+    (
+        "S option\nS option",
+        "<html><head></head><body><option></option><option></option></body></html>",
+        0,
+        false,
+    ),
+    (
+        "S option\nS option\nE option",
+        "<html><head></head><body><option></option><option></option></body></html>",
+        1,
+        false,
+    ),
+    ("E option", "", 0, false),
+];
+
+// Returns true if a template of an arena is nobody's child.
+fn has_loose_template(arena: &Arena) -> bool {
     for place in 0..arena.len() {
-        let node = arena.id(place)?;
-        if arena.contents(node).is_some() {
-            return Some(node);
+        let Some(node) = arena.id(place) else {
+            return false;
+        };
+        if arena.contents(node).is_some() && arena.parent(node).is_none() {
+            return true;
         }
     }
-    None
+    false
 }
 
-// The template stands loose, and the page holds what stands behind it alone.
-fn check_loose_template(arena: &Arena, alloc: Global, rt: &impl Abort) -> Result<(), Fail> {
-    let html = html_of(alloc, arena)?;
-    let page = "<html><head></head><body><div>y</div></body></html>";
-    assert_eq!(rt; html.as_slice(), page.as_bytes());
-    let template = first_template(arena).ok_or("a template was made")?;
-    assert!(rt; arena.holds(template));
-    assert!(rt; arena.parent(template).is_none());
+fn new_builder<const DETACHES: bool>(alloc: Global) -> Result<Builder<DETACHES>, AllocError> {
+    let sink = Attaching::new(alloc)?;
+    Ok(TreeBuilder::new(alloc, sink, TreeBuilderOpts::default()))
+}
+
+fn check<const DETACHES: bool>(
+    rt: &impl Abort,
+    alloc: Global,
+    (lines, page, copies, has_loose): Row,
+) -> Result<(), Fail> {
+    let mut builder: Builder<DETACHES> = new_builder(alloc)?;
+    let taken = take_lines(&mut builder, alloc, lines);
+    let sink = builder.into_sink();
+    assert_eq!(rt; sink.copies, copies, "{lines}");
+    let arena = sink.finish();
+    assert_eq!(rt; has_loose_template(&arena), has_loose, "{lines}");
+    let html = html_of(alloc, &arena);
+    drop(arena);
+    taken?;
+    let html = html?;
+    assert_eq!(rt; html.as_slice(), page.as_bytes(), "{lines}");
     Ok(())
 }
 
 #[test]
 fn a_sink_may_say_that_it_attached_a_shadow_root(rt: HostRuntime) -> Result<(), Fail> {
-    let builder = built(Agreeing::new(rt.alloc())?, rt.alloc(), SHADOW_ROOT)?;
-    check_loose_template(&builder.into_sink().finish(), rt.alloc(), &rt)
+    check::<false>(&rt, rt.alloc(), SHADOW_ROOT)?;
+    check::<true>(&rt, rt.alloc(), SHADOW_ROOT)
 }
 
 #[test]
-fn a_sink_may_detach_the_template_that_it_attaches(rt: HostRuntime) -> Result<(), Fail> {
-    let builder = built(Detaching::new(rt.alloc())?, rt.alloc(), SHADOW_ROOT)?;
-    check_loose_template(&builder.into_sink().finish(), rt.alloc(), &rt)
-}
-
-// How many options a builder copies whose tokens are these.
-fn copies_of(alloc: Global, lines: &str) -> Result<usize, Fail> {
-    let builder = built(Agreeing::new(alloc)?, alloc, lines)?;
-    Ok(builder.sink.copies)
-}
-
-#[test]
-fn an_option_is_copied_where_it_was_closed(rt: HostRuntime) -> Result<(), Fail> {
-    let alloc = rt.alloc();
-    assert_eq!(rt; copies_of(alloc, "S option\nE option")?, 1);
-    assert_eq!(rt; copies_of(alloc, "S option\nS option")?, 0);
-    assert_eq!(rt; copies_of(alloc, "S option\nS option\nE option")?, 1);
-    assert_eq!(rt; copies_of(alloc, "E option")?, 0);
+fn an_option_is_copied_when_it_is_closed(rt: HostRuntime) -> Result<(), Fail> {
+    for &row in &OPTIONS {
+        check::<false>(&rt, rt.alloc(), row)?;
+    }
     Ok(())
 }

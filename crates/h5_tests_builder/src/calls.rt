@@ -1,47 +1,23 @@
-//! Calls of the builder and the parser that no text makes.
-use super::feeding::{new_builder, taking};
+//! Calls of the builder that no text makes.
+use super::feeding::take_lines;
 use h5_arena::{Arena, NodeId};
-use h5_driver::{ParseOpts, parse_document};
+use h5_tables::TreeBuilderOpts;
 use h5_token::{BuildFault, Tag, Token, TokenSink, TokenSinkResult};
-use h5_tree_builder::html_elem;
+use h5_tree_builder::{TreeBuilder, html_elem};
 use std::alloc::Global;
+use std::process::Abort;
 use std::test::Fail;
 
-// Any taker of tokens after a text, to which it says "go on".
-fn after_text<S: TokenSink + Drop>(sink: S, alloc: Global, text: &str) -> Result<S, Fail> {
-    let mut sink = sink;
-    let token = Token::CharacterTokens(String::from_str(alloc, text)?);
-    match sink.process_token(token, 2)? {
-        TokenSinkResult::Continue => Ok(sink),
-        _ => Err("a text is answered by \"go on\"".into()),
-    }
-}
+type ArenaBuilder = TreeBuilder<NodeId, Arena>;
 
-// Any taker of tokens after the end.
-fn after_end<S: TokenSink + Drop>(sink: S) -> S {
-    let mut sink = sink;
+// Makes the calls of a token sink: a text, the end, and a token after it.
+fn call_sink<S: TokenSink>(rt: &impl Abort, sink: &mut S, text: String) -> Result<(), BuildFault> {
+    let reply = sink.process_token(Token::CharacterTokens(text), 2)?;
+    assert!(rt; matches!(reply, TokenSinkResult::Continue));
+    assert!(rt; !sink.adjusted_current_node_present_but_not_in_html_namespace());
     sink.end();
-    sink
-}
-
-// How any taker of tokens refuses the end of a file, if it does.
-fn refusal_of<S: TokenSink + Drop>(sink: S) -> Option<BuildFault> {
-    let mut sink = sink;
-    sink.process_token(Token::EOFToken, 1).err()
-}
-
-// Whether any taker of tokens is in foreign content.
-fn is_foreign<S: TokenSink>(sink: &S) -> bool {
-    sink.adjusted_current_node_present_but_not_in_html_namespace()
-}
-
-#[test]
-fn a_builder_takes_tokens_as_any_sink_of_them(rt: HostRuntime) -> Result<(), Fail> {
-    let builder = new_builder(rt.alloc())?;
-    assert!(rt; !builder.is_fragment());
-    let builder = after_text(builder, rt.alloc(), "x")?;
-    assert!(rt; !is_foreign(&builder));
-    assert!(rt; refusal_of(after_end(builder)) == Some(BuildFault::AfterEnd));
+    let refusal = sink.process_token(Token::EOFToken, 1).err();
+    assert!(rt; refusal == Some(BuildFault::AfterEnd));
     Ok(())
 }
 
@@ -52,44 +28,29 @@ fn is_entry(entry: Option<(usize, &NodeId, &Tag)>, place: usize, name: &str) -> 
     }
 }
 
-#[test]
-fn formatting_elements_come_from_the_newest_on(rt: HostRuntime) -> Result<(), Fail> {
-    let builder = taking(new_builder(rt.alloc())?, rt.alloc(), "S b\nS i")?;
+// Formatting elements come from the newest on.
+fn check_formatting(rt: &impl Abort, builder: &ArenaBuilder) {
     let mut entries = builder.active_formatting_end_to_marker();
     assert!(rt; is_entry(entries.next(), 1, "i"));
     assert!(rt; is_entry(entries.next(), 0, "b"));
     assert!(rt; entries.next().is_none());
     assert!(rt; entries.next().is_none());
+}
+
+fn make_calls(rt: &impl Abort, alloc: Global, builder: &mut ArenaBuilder) -> Result<(), Fail> {
+    assert!(rt; !builder.is_fragment());
+    take_lines(builder, alloc, "S b\nS i")?;
+    check_formatting(rt, builder);
+    call_sink(rt, builder, String::from_str(alloc, "x")?)?;
     Ok(())
 }
 
 #[test]
-fn the_root_is_the_oldest_element(rt: HostRuntime) {
+fn calls_of_a_builder_succeed(rt: HostRuntime) -> Result<(), Fail> {
     assert!(rt; *html_elem(&[3u8, 4, 5]) == 3);
-}
-
-#[test]
-fn options_are_cloned(rt: HostRuntime) -> Result<(), Fail> {
-    let opts = ParseOpts::default().clone()?;
-    assert!(rt; opts.tokenizer.discard_bom);
-    assert!(rt; opts.tree_builder.scripting_enabled);
-    Ok(())
-}
-
-// Whether one error alone was told, this one.
-fn is_told(arena: &Arena, message: &str) -> bool {
-    match arena.errors() {
-        [error] => error.as_str() == message,
-        _ => false,
-    }
-}
-
-#[test]
-fn an_error_from_outside_is_told(rt: HostRuntime) -> Result<(), Fail> {
-    let alloc = rt.alloc();
-    let mut parser = parse_document(alloc, Arena::new(alloc)?, ParseOpts::default());
-    parser.error("from outside");
-    let arena = parser.one("<!DOCTYPE html><p>x")?;
-    assert!(rt; is_told(&arena, "from outside"));
-    Ok(())
+    let arena = Arena::new(rt.alloc())?;
+    let mut builder = TreeBuilder::new(rt.alloc(), arena, TreeBuilderOpts::default());
+    let made = make_calls(&rt, rt.alloc(), &mut builder);
+    drop(builder);
+    made
 }

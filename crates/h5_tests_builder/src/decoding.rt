@@ -5,13 +5,14 @@ use std::test::Fail;
 
 // Labels, bytes, and their texts.
 #[rattlefmt::skip]
-static TEXTS: [(&str, &[u8], &str); 58] = [
+static TEXTS: [(&str, &[u8], &str); 59] = [
     // Single bytes are read by their tables.
     ("windows-1252", b"\x93a\x94\x81", "\u{201C}a\u{201D}\u{81}"),
     ("windows-1253", b"\xE1\xFF", "\u{3B1}\u{FFFD}"),
     ("x-mac-cyrillic", b"\x80\xFF", "\u{410}\u{20AC}"),
     // UTF-16 is read across chunks.
     ("utf-16", b"a\0\x3D\xD8\x00\xDE", "a\u{1F600}"),
+    ("utf-16le", b"a\0\0\xDC", "a\u{FFFD}"),
     ("utf-16be", b"\xD8\x3D\0a\xDC\x00\xD8", "\u{FFFD}a\u{FFFD}\u{FFFD}"),
     // EUC-KR is read across chunks.
     ("euc-kr", b"a\xC7\xD1\xB1\xDB", "a\u{D55C}\u{AE00}"),
@@ -91,22 +92,31 @@ fn decode(
     text.push_str(decoder.decode(back)?.as_str())
 }
 
-// Whether bytes have a text, wherever they are cut in two.
+// Returns true if a decoder counts the errors that its text shows. Those of UTF-8 it doesn't count.
+fn counts_errors(decoder: &Decoder, text: &str) -> bool {
+    let count = text.chars().filter(|c| *c == '\u{FFFD}').count();
+    let counted = decoder.replaced();
+    let is_utf8 = decoder.encoding() == Encoding::Utf8;
+    decoder.has_errors() == (counted > 0) && (is_utf8 || counted == count as u64)
+}
+
+// Returns true if bytes have a text, however they are split in two.
 fn has_text(
     alloc: Global,
     encoding: Encoding,
     bytes: &[u8],
     expected: &str,
 ) -> Result<bool, AllocError> {
-    for cut in 0..bytes.len() + 1 {
-        let (front, back) = bytes.split_at(cut);
+    for at in 0..bytes.len() + 1 {
+        let (front, back) = bytes.split_at(at);
         let mut decoder = Decoder::new(alloc, encoding);
         let mut text = String::new(alloc);
-        let answer = decode(&mut decoder, &mut text, front, back);
+        let decoded = decode(&mut decoder, &mut text, front, back);
+        let is_counted = counts_errors(&decoder, text.as_str());
         let end = decoder.finish();
-        answer?;
+        decoded?;
         text.push_str(end)?;
-        if text.as_str() != expected {
+        if !is_counted || text.as_str() != expected {
             return Ok(false);
         }
     }
@@ -140,74 +150,52 @@ fn labels_name_encodings(rt: HostRuntime) {
     assert_eq!(rt; SingleByte::Koi8R.name(), "KOI8-R");
 }
 
-fn decode_broken(decoder: &mut Decoder) -> Result<bool, AllocError> {
-    let _text = decoder.decode(b"a\0")?;
-    let before = decoder.has_errors();
-    let _text = decoder.decode(b"\0\xDC")?;
-    Ok(before)
-}
-
-#[test]
-fn errors_are_told(rt: HostRuntime) -> Result<(), Fail> {
-    let mut decoder = Decoder::new(rt.alloc(), Encoding::Utf16le);
-    let before = decode_broken(&mut decoder);
-    assert!(rt; decoder.encoding() == Encoding::Utf16le);
-    assert!(rt; decoder.has_errors());
-    assert_eq!(rt; decoder.replaced(), 1);
-    drop(decoder);
-    assert!(rt; !before?);
-    Ok(())
-}
-
-// Whether bytes have an encoding, and by what.
-fn is_said(
+// The encoding of bytes by its name, and how it is known.
+fn sniffed(
     alloc: Global,
     opts: EncodingOpts,
     bytes: &[u8],
-    name: &str,
-    source: Source,
-) -> Result<bool, AllocError> {
-    let (encoding, found) = sniff(alloc, opts, bytes)?;
-    Ok(encoding.name() == name && found == source)
+) -> Result<(&'static str, Source), AllocError> {
+    let (encoding, source) = sniff(alloc, opts, bytes)?;
+    Ok((encoding.name(), source))
 }
 
-#[test]
-fn a_mark_comes_before_the_transport_and_that_before_the_page(rt: HostRuntime) -> Result<(), Fail> {
-    let alloc = rt.alloc();
-    let sent = EncodingOpts {
-        transport: Some(Encoding::SingleByte(SingleByte::Ibm866)),
-        default: Encoding::Utf8,
-    };
-    let opts = EncodingOpts::default();
-    let marked = b"\xFE\xFF<meta charset=koi8-r>";
-    let page = b"<meta charset=koi8-r>";
-    assert!(rt; is_said(alloc, sent, marked, "UTF-16BE", Source::Mark)?);
-    assert!(rt; is_said(alloc, sent, page, "IBM866", Source::Transport)?);
-    assert!(rt; is_said(alloc, opts, page, "KOI8-R", Source::Meta)?);
-    assert!(rt; is_said(alloc, opts, b"<p>", "windows-1252", Source::Default)?);
-    Ok(())
-}
+// What the transport says, how many spaces come first, and the bytes after them; and the name of their encoding, and how it is known.
+type Known = (Option<Encoding>, usize, &'static [u8], &'static str, Source);
 
-// So many blanks, and then a `meta`.
-fn far(alloc: Global, blanks: usize) -> Result<Vec<u8>, AllocError> {
+const IBM866: Option<Encoding> = Some(Encoding::SingleByte(SingleByte::Ibm866));
+
+// A mark comes before the transport, and that before the page. A page is read up to its 1,024th byte.
+#[rattlefmt::skip]
+const KNOWN: [Known; 6] = [
+    (IBM866, 0, b"\xFE\xFF<meta charset=koi8-r>", "UTF-16BE", Source::Mark),
+    (IBM866, 0, b"<meta charset=koi8-r>", "IBM866", Source::Transport),
+    (None, 0, b"<meta charset=koi8-r>", "KOI8-R", Source::Meta),
+    (None, 0, b"<p>", "windows-1252", Source::Default),
+    (None, 1003, b"<meta charset=koi8-r>", "KOI8-R", Source::Meta),
+    (None, 1004, b"<meta charset=koi8-r>", "windows-1252", Source::Default),
+];
+
+// Bytes after the given number of spaces.
+fn after_spaces(alloc: Global, count: usize, bytes: &[u8]) -> Result<Vec<u8>, AllocError> {
     let mut page = Vec::new(alloc);
-    for _blank in 0..blanks {
+    for _space in 0..count {
         page.push(b' ')?;
     }
-    page.extend_from_slice(b"<meta charset=koi8-r>")?;
+    page.extend_from_slice(bytes)?;
     Ok(page)
 }
 
 #[test]
-fn a_page_is_read_up_to_its_1024th_byte(rt: HostRuntime) -> Result<(), Fail> {
+fn encodings_are_known_in_an_order(rt: HostRuntime) -> Result<(), Fail> {
     let alloc = rt.alloc();
-    let opts = EncodingOpts::default();
-    for &(blanks, name, source) in &[
-        (1003, "KOI8-R", Source::Meta),
-        (1004, "windows-1252", Source::Default),
-    ] {
-        let page = far(alloc, blanks)?;
-        assert!(rt; is_said(alloc, opts, page.as_slice(), name, source)?);
+    for &(transport, spaces, bytes, name, source) in &KNOWN {
+        let opts = EncodingOpts {
+            transport,
+            ..EncodingOpts::default()
+        };
+        let page = after_spaces(alloc, spaces, bytes)?;
+        assert!(rt; sniffed(alloc, opts, page.as_slice())? == (name, source));
     }
     Ok(())
 }
@@ -327,13 +315,9 @@ static CASES: [(&str, &str); 106] = [
 fn pages_name_their_encodings(rt: HostRuntime) -> Result<(), Fail> {
     let alloc = rt.alloc();
     for &(page, expected) in &CASES {
-        let (encoding, source) = sniff(alloc, EncodingOpts::default(), page.as_bytes())?;
-        let name = if source == Source::Default {
-            ""
-        } else {
-            encoding.name()
-        };
-        assert_eq!(rt; name, expected);
+        let (name, source) = sniffed(alloc, EncodingOpts::default(), page.as_bytes())?;
+        let named = if source == Source::Default { "" } else { name };
+        assert_eq!(rt; named, expected, "{page}");
     }
     Ok(())
 }

@@ -1,0 +1,177 @@
+//! A tokenizer over a sink that writes down what it is handed, whichever tokenizer it is.
+use h5_reading::{BufferQueue, TokenizerOpts, TokenizerResult};
+use h5_standard::{Errors, TellingTokenizer};
+use h5_tests_sinks::{Answer, Recorder};
+use h5_token::BuildFault;
+use h5_token::states::RawKind;
+use std::alloc::{AllocError, Global};
+use std::process::Abort;
+
+/// A tokenizer over a recorder.
+pub trait Recording: Drop {
+    fn over(alloc: Global, sink: Recorder, opts: TokenizerOpts) -> Self;
+
+    fn feed(&mut self, input: &mut BufferQueue) -> Result<TokenizerResult<u8>, BuildFault>;
+
+    fn end(&mut self) -> Result<(), BuildFault>;
+
+    fn sink(&self) -> &Recorder;
+}
+
+/// The plain one.
+pub type Plain = h5_tokenizer::Tokenizer<Recorder>;
+
+/// The standard one.
+pub type Standard = h5_standard::Tokenizer<Recorder>;
+
+/// The standard one that reports errors, of which it keeps three.
+pub type Telling = TellingTokenizer<Recorder, Errors>;
+
+impl Recording for h5_tokenizer::Tokenizer<Recorder> {
+    fn over(alloc: Global, sink: Recorder, opts: TokenizerOpts) -> Self {
+        h5_tokenizer::Tokenizer::new(alloc, sink, opts)
+    }
+
+    fn feed(&mut self, input: &mut BufferQueue) -> Result<TokenizerResult<u8>, BuildFault> {
+        h5_tokenizer::Tokenizer::feed(self, input)
+    }
+
+    fn end(&mut self) -> Result<(), BuildFault> {
+        h5_tokenizer::Tokenizer::end(self)
+    }
+
+    fn sink(&self) -> &Recorder {
+        &self.sink
+    }
+}
+
+impl Recording for h5_standard::Tokenizer<Recorder> {
+    fn over(alloc: Global, sink: Recorder, opts: TokenizerOpts) -> Self {
+        h5_standard::Tokenizer::new(alloc, sink, opts)
+    }
+
+    fn feed(&mut self, input: &mut BufferQueue) -> Result<TokenizerResult<u8>, BuildFault> {
+        h5_standard::Tokenizer::feed(self, input)
+    }
+
+    fn end(&mut self) -> Result<(), BuildFault> {
+        h5_standard::Tokenizer::end(self)
+    }
+
+    fn sink(&self) -> &Recorder {
+        &self.sink
+    }
+}
+
+impl Recording for TellingTokenizer<Recorder, Errors> {
+    fn over(alloc: Global, sink: Recorder, opts: TokenizerOpts) -> Self {
+        TellingTokenizer::new(alloc, sink, Errors::new(alloc, 3), opts)
+    }
+
+    fn feed(&mut self, input: &mut BufferQueue) -> Result<TokenizerResult<u8>, BuildFault> {
+        TellingTokenizer::feed(self, input)
+    }
+
+    fn end(&mut self) -> Result<(), BuildFault> {
+        TellingTokenizer::end(self)
+    }
+
+    fn sink(&self) -> &Recorder {
+        &self.sink
+    }
+}
+
+/// Puts a chunk to those that wait to be read.
+pub fn queued(alloc: Global, queue: &mut BufferQueue, chunk: &str) -> Result<(), AllocError> {
+    queue.push_back(String::from_str(alloc, chunk)?)
+}
+
+/// A tokenizer with the default options, over a recorder with this answer.
+pub fn new_tokenizer<R: Recording>(alloc: Global, foreign: bool, answer: Answer) -> R {
+    R::over(
+        alloc,
+        Recorder::new(alloc, foreign, answer),
+        TokenizerOpts::default(),
+    )
+}
+
+fn feed_chunk<R: Recording>(
+    tokenizer: &mut R,
+    queue: &mut BufferQueue,
+    chunk: String,
+) -> Result<(), BuildFault> {
+    queue.push_back(chunk)?;
+    tokenizer.feed(queue)?;
+    Ok(())
+}
+
+/// Feeds a text at once, or character by character, and then the end.
+pub fn feed<R: Recording>(
+    alloc: Global,
+    tokenizer: &mut R,
+    text: &str,
+    whole: bool,
+) -> Result<(), BuildFault> {
+    let mut queue = BufferQueue::new(alloc);
+    if whole {
+        feed_chunk(tokenizer, &mut queue, String::from_str(alloc, text)?)?;
+    } else {
+        for c in text.chars() {
+            feed_chunk(tokenizer, &mut queue, c.to_string(alloc)?)?;
+        }
+    }
+    tokenizer.end()
+}
+
+/// The sink over which a text is read.
+#[derive(Clone, Copy)]
+pub enum Setting {
+    /// In HTML, it answers to go on.
+    Html,
+    /// In foreign content, it does the same.
+    Foreign,
+    /// To a start tag it answers that its text is raw.
+    Raw(RawKind),
+}
+
+impl Setting {
+    fn answer(self) -> Answer {
+        match self {
+            Setting::Html | Setting::Foreign => Answer::ReadsOn,
+            Setting::Raw(kind) => Answer::TurnsRaw(kind),
+        }
+    }
+}
+
+/// The sink, a text, what is written down of it, and the lines of the tokens in it that are no texts.
+pub type Row = (Setting, &'static str, &'static str, &'static str);
+
+// Checks what is written down of a text that is fed at once, or character by character.
+fn check<R: Recording>(
+    rt: &impl Abort,
+    alloc: Global,
+    (setting, text, tokens, lines): Row,
+    whole: bool,
+) -> Result<(), BuildFault> {
+    let foreign = matches!(setting, Setting::Foreign);
+    let mut tokenizer: R = new_tokenizer(alloc, foreign, setting.answer());
+    let fed = feed(alloc, &mut tokenizer, text, whole);
+    let found = tokenizer.sink();
+    assert_eq!(rt; found.text.as_str(), tokens, "{text}, at once: {whole}");
+    assert_eq!(rt; found.lines.as_str(), lines, "{text}, at once: {whole}");
+    drop(tokenizer);
+    fed
+}
+
+/// Checks what is written down of the text of each row.
+pub fn check_all<R: Recording>(
+    rt: &impl Abort,
+    alloc: Global,
+    rows: &[Row],
+) -> Result<(), BuildFault> {
+    for &row in rows {
+        check::<R>(rt, alloc, row, true)?;
+        check::<R>(rt, alloc, row, false)?;
+    }
+    Ok(())
+}
