@@ -1,10 +1,10 @@
 //! Deep documents, from text to text.
-use super::running::runs;
+use super::running::check_output;
 use std::alloc::{AllocError, Global};
 use std::process::Abort;
 use std::test::Fail;
 
-// A document with so many elements, each in the one before. It is written as its HTML is.
+// A document with the given number of elements, each in the one before. It is written as its HTML is.
 fn nested(alloc: Global, count: usize) -> Result<String, AllocError> {
     let starts = "<div>".repeat(alloc, count)?;
     let ends = "</div>".repeat(alloc, count)?;
@@ -13,18 +13,13 @@ fn nested(alloc: Global, count: usize) -> Result<String, AllocError> {
 
 fn is_written_back(rt: &impl Abort, alloc: Global, count: usize) -> Result<(), AllocError> {
     let page = nested(alloc, count)?;
-    let input = page.as_bytes();
-    runs(rt, alloc, &["html"], input, 0, page.as_str(), "")
+    check_output(rt, alloc, &["html"], page.as_bytes(), 0, page.as_str(), "")
 }
 
 #[test]
-fn ten_thousand_elements_in_each_other_are_written_back(rt: HostRuntime) -> Result<(), Fail> {
-    is_written_back(&rt, rt.alloc(), 10_000)?;
-    Ok(())
-}
-
-#[test]
-fn a_hundred_thousand_elements_in_each_other_are_written_back(rt: HostRuntime) -> Result<(), Fail> {
-    is_written_back(&rt, rt.alloc(), 100_000)?;
+fn deep_documents_are_written_back(rt: HostRuntime) -> Result<(), Fail> {
+    for &count in &[10_000, 100_000] {
+        is_written_back(&rt, rt.alloc(), count)?;
+    }
     Ok(())
 }

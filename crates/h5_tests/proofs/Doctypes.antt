@@ -1,0 +1,134 @@
+-- What doctypes mean: whether they are errors, and their quirks modes.
+use Rattle.std.proofs.Common.{◌≡◌, ℕ, ◌-◌, Bool, true, false, List, [], ◌∷◌, ◌++◌, map, length, take, replicate, refl, codes, Option, Some, None}
+use Rattle.std.specs.Str.{str_to_ascii_uppercase}
+use Rattle.h5_token.specs.TokenText.{DoctypeText}
+use Rattle.h5_interface.specs.declared.marks.QuirksMode.{QuirksMode}
+use Rattle.h5_interface.specs.declared.marks.QuirksMode.TheVariants.{LimitedQuirks, NoQuirks, Quirks}
+use Rattle.h5_tables.specs.Doctypes.{good_identifiers, html4_public_prefixes, is_good_doctype, limited_quirky_public_prefixes, quirks_of, quirky_public_ids, quirky_public_prefixes, quirky_system_ids}
+
+abbrev doctype : List ℕ → (public_id system_id : Option (List ℕ)) → DoctypeText
+doctype name public_id system_id = record { name = Some name; public_id = public_id; system_id = system_id; force_quirks = false }
+
+-- whether a doctype is no error, and its quirks mode in a document
+abbrev judged : DoctypeText → Bool × QuirksMode
+judged d = (is_good_doctype d, quirks_of false d)
+
+html : judged (doctype (codes "html") None None) ≡ (true, NoQuirks)
+unfolding good_identifiers
+html = refl
+
+html_in_capitals : judged (doctype (codes "HTML") None None) ≡ (false, Quirks)
+unfolding good_identifiers
+html_in_capitals = refl
+
+legacy : judged (doctype (codes "html") None (Some (codes "about:legacy-compat"))) ≡ (true, NoQuirks)
+unfolding good_identifiers quirky_system_ids
+legacy = refl
+
+abbrev html4 : List ℕ
+html4 = codes "-//W3C//DTD HTML 4.01 Transitional//EN"
+
+public_html : judged (doctype (codes "html") (Some (codes "HTML")) None) ≡ (false, Quirks)
+unfolding good_identifiers quirky_public_ids
+public_html = refl
+
+html4_alone : judged (doctype (codes "html") (Some html4) None) ≡ (false, Quirks)
+unfolding good_identifiers quirky_public_ids quirky_public_prefixes limited_quirky_public_prefixes html4_public_prefixes
+html4_alone = refl
+
+html4_with_a_system_identifier : judged (doctype (codes "html") (Some html4) (Some (codes "http://example.org/"))) ≡ (false, LimitedQuirks)
+unfolding good_identifiers quirky_public_ids quirky_system_ids quirky_public_prefixes limited_quirky_public_prefixes html4_public_prefixes
+html4_with_a_system_identifier = refl
+
+xhtml : judged (doctype (codes "html") (Some (codes "-//W3C//DTD XHTML 1.0 Transitional//EN")) (Some (codes "u"))) ≡ (false, LimitedQuirks)
+unfolding good_identifiers quirky_public_ids quirky_system_ids quirky_public_prefixes limited_quirky_public_prefixes
+xhtml = refl
+
+-- in the `srcdoc` of an `iframe` too it is an error, but it means no quirks
+html4_in_a_srcdoc : quirks_of true (doctype (codes "html") (Some html4) None) ≡ NoQuirks
+html4_in_a_srcdoc = refl
+
+forced_in_a_srcdoc : quirks_of true (record (doctype (codes "html") (Some html4) None) { force_quirks = true }) ≡ Quirks
+forced_in_a_srcdoc = refl
+
+forced_is_bad : is_good_doctype (record (doctype (codes "html") (Some html4) None) { force_quirks = true }) ≡ false
+unfolding good_identifiers
+forced_is_bad = refl
+
+-- what public identifiers begin with that mean quirks (HTML standard, section 13.2.6.4.1)
+unfoldable prefixes : List (List ℕ)
+prefixes =
+    codes "-//ietf//dtd html//" ∷
+    codes "-//ietf//dtd html 2.0//" ∷
+    codes "-//ietf//dtd html 2.0 level 1//" ∷
+    codes "-//ietf//dtd html 2.0 level 2//" ∷
+    codes "-//ietf//dtd html 2.0 strict//" ∷
+    codes "-//ietf//dtd html 2.0 strict level 1//" ∷
+    codes "-//ietf//dtd html 2.0 strict level 2//" ∷
+    codes "-//ietf//dtd html 2.1e//" ∷
+    codes "-//ietf//dtd html 3.0//" ∷
+    codes "-//ietf//dtd html 3.2 final//" ∷
+    codes "-//ietf//dtd html 3.2//" ∷
+    codes "-//ietf//dtd html 3//" ∷
+    codes "-//ietf//dtd html strict//" ∷
+    codes "-//ietf//dtd html level 0//" ∷
+    codes "-//ietf//dtd html level 1//" ∷
+    codes "-//ietf//dtd html level 2//" ∷
+    codes "-//ietf//dtd html level 3//" ∷
+    codes "-//ietf//dtd html strict level 0//" ∷
+    codes "-//ietf//dtd html strict level 1//" ∷
+    codes "-//ietf//dtd html strict level 2//" ∷
+    codes "-//ietf//dtd html strict level 3//" ∷
+    codes "-//w3c//dtd html 3 1995-03-24//" ∷
+    codes "-//w3c//dtd html 3.2 draft//" ∷
+    codes "-//w3c//dtd html 3.2 final//" ∷
+    codes "-//w3c//dtd html 3.2//" ∷
+    codes "-//w3c//dtd html 3.2s draft//" ∷
+    codes "-//w3c//dtd html 4.0 frameset//" ∷
+    codes "-//w3c//dtd html 4.0 transitional//" ∷
+    codes "-//w3c//dtd html experimental 19960712//" ∷
+    codes "-//w3c//dtd html experimental 970421//" ∷
+    codes "-//microsoft//dtd internet explorer 2.0 html strict//" ∷
+    codes "-//microsoft//dtd internet explorer 2.0 html//" ∷
+    codes "-//microsoft//dtd internet explorer 2.0 tables//" ∷
+    codes "-//microsoft//dtd internet explorer 3.0 html strict//" ∷
+    codes "-//microsoft//dtd internet explorer 3.0 html//" ∷
+    codes "-//microsoft//dtd internet explorer 3.0 tables//" ∷
+    codes "-//o'reilly and associates//dtd html 2.0//" ∷
+    codes "-//o'reilly and associates//dtd html extended 1.0//" ∷
+    codes "-//o'reilly and associates//dtd html extended relaxed 1.0//" ∷
+    codes "-//netscape comm. corp.//dtd html//" ∷
+    codes "-//netscape comm. corp.//dtd strict html//" ∷
+    codes "-//sun microsystems corp.//dtd hotjava html//" ∷
+    codes "-//sun microsystems corp.//dtd hotjava strict html//" ∷
+    codes "-//webtechs//dtd mozilla html//" ∷
+    codes "-//webtechs//dtd mozilla html 2.0//" ∷
+    codes "-//advasoft ltd//dtd html 3.0 aswedit + extensions//" ∷
+    codes "-//as//dtd html 3.0 aswedit + extensions//" ∷
+    codes "-//metrius//dtd metrius presentational//" ∷
+    codes "-//softquad software//dtd hotmetal pro 6.0::19990601::extensions to html 4.0//" ∷
+    codes "-//softquad//dtd hotmetal pro 4.0::19971010::extensions to html 4.0//" ∷
+    codes "-//spyglass//dtd html 2.0 extended//" ∷
+    codes "-//sq//dtd html 2.0 hotmetal + extensions//" ∷
+    codes "-//w3c//dtd w3 html//" ∷
+    codes "-//w3o//dtd w3 html 3.0//" ∷ []
+
+abbrev quirks_by : List ℕ → QuirksMode
+quirks_by public_id = quirks_of false (doctype (codes "html") (Some public_id) None)
+
+prefixes_alone : map quirks_by prefixes ≡ replicate 54 Quirks
+unfolding prefixes quirky_public_ids quirky_public_prefixes
+prefixes_alone = refl
+
+prefixes_with_more : map (λ prefix. quirks_by (prefix ++ codes "x")) prefixes ≡ replicate 54 Quirks
+unfolding prefixes quirky_public_ids quirky_public_prefixes
+prefixes_with_more = refl
+
+prefixes_in_capitals : map (λ prefix. quirks_by (str_to_ascii_uppercase prefix)) prefixes ≡ replicate 54 Quirks
+unfolding prefixes quirky_public_ids quirky_public_prefixes
+prefixes_in_capitals = refl
+
+-- without its last '/' it is none
+prefixes_cut_short : map (λ prefix. quirks_by (take (length prefix - 1) prefix)) prefixes ≡ replicate 54 NoQuirks
+unfolding prefixes quirky_public_ids quirky_public_prefixes limited_quirky_public_prefixes html4_public_prefixes
+prefixes_cut_short = refl

@@ -1,0 +1,12 @@
+mod Names
+mod Tokens
+mod Sets
+mod Foreign
+mod Doctypes
+mod Encodings
+mod TreeErrors
+mod Markup
+mod References
+mod Stacks
+mod Lines
+mod Printed
