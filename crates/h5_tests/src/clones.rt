@@ -1,5 +1,6 @@
 //! Each `clone` that may need memory, with ample memory: its result is equal.
 use h5_driver::ParseOpts;
+use h5_interface::QuirksMode;
 use h5_names::{Attribute, LocalName, Namespace, Prefix, QualName, namespaces};
 use h5_reading::TokenizerOpts;
 use h5_serialize::{SerializeOpts, TraversalScope};
@@ -122,9 +123,17 @@ fn parser_options_are_cloned(rt: &impl Abort, alloc: Global) -> Result<(), Alloc
         initial_state: Some(State::RawData(RawKind::Rcdata)),
         last_start_tag_name: Some(String::from_str(alloc, "title")?),
     };
+    let tree_builder = TreeBuilderOpts {
+        exact_errors: true,
+        scripting_enabled: false,
+        iframe_srcdoc: true,
+        drop_doctype: true,
+        quirks_mode: QuirksMode::Quirks,
+    };
+    check_equal(rt, &tree_builder, tree_builder.clone())?;
     let opts = ParseOpts {
         tokenizer,
-        tree_builder: TreeBuilderOpts::default(),
+        tree_builder,
     };
     assert!(rt; are_same_options(&opts.tokenizer, &opts.tokenizer.clone()?));
     let clone = opts.clone()?;
