@@ -6,13 +6,39 @@ const FIRST: u64 = 100_000_000;
 
 const STEP: u64 = 10_000_000;
 
-/// An input that reports on standard error how much of it was read, if that is a terminal. A report that can't be written is left out.
-pub struct Watched<'a, R: Read> {
-    rt: &'a HostRuntime,
-    input: &'a mut R,
+// How much of an input was read, and how much of that was reported.
+#[derive(Drop)]
+struct Progress {
     read: u64,
     next: u64,
     on_terminal: bool,
+}
+
+impl Progress {
+    // Counts bytes that were read, and reports them. A report that can't be written is left out.
+    fn add(&mut self, rt: &HostRuntime, count: usize) {
+        self.read = self.read.saturating_add(count as u64);
+        if self.on_terminal && self.read >= self.next {
+            self.next = self.read.saturating_add(STEP);
+            let megabytes = self.read / 1_000_000;
+            let _written = write!(rt.stderr(), "\rhengaruto: {megabytes} MB");
+        }
+    }
+
+    // Removes what was reported.
+    fn clear(&mut self, rt: &HostRuntime) {
+        if self.next > FIRST {
+            self.next = FIRST;
+            let _written = rt.stderr().write_all(b"\r                              \r");
+        }
+    }
+}
+
+/// An input that reports on standard error how much of it was read, if that is a terminal.
+pub struct Watched<'a, R: Read> {
+    rt: &'a HostRuntime,
+    input: &'a mut R,
+    progress: Progress,
 }
 
 impl<'a, R: Read> Drop for Watched<'a, R> {
@@ -20,9 +46,7 @@ impl<'a, R: Read> Drop for Watched<'a, R> {
         let Watched {
             rt: _rt,
             input: _input,
-            read: _read,
-            next: _next,
-            on_terminal: _on_terminal,
+            progress: _progress,
         } = self;
     }
 }
@@ -30,31 +54,15 @@ impl<'a, R: Read> Drop for Watched<'a, R> {
 impl<'a, R: Read> Watched<'a, R> {
     /// An input of which nothing was read yet.
     pub fn new(rt: &'a HostRuntime, input: &'a mut R) -> Watched<'a, R> {
-        Watched {
-            rt,
-            input,
+        let progress = Progress {
             read: 0,
             next: FIRST,
             on_terminal: rt.stderr().is_terminal(),
-        }
-    }
-
-    fn report(&mut self) {
-        if self.on_terminal && self.read >= self.next {
-            self.next = self.read.saturating_add(STEP);
-            let megabytes = self.read / 1_000_000;
-            let _written = write!(self.rt.stderr(), "\rhengaruto: {megabytes} MB");
-        }
-    }
-
-    // Removes what was reported.
-    fn clear(&mut self) {
-        if self.next > FIRST {
-            self.next = FIRST;
-            let _written = self
-                .rt
-                .stderr()
-                .write_all(b"\r                              \r");
+        };
+        Watched {
+            rt,
+            input,
+            progress,
         }
     }
 }
@@ -64,11 +72,10 @@ impl<'a, R: Read> Read for Watched<'a, R> {
 
     fn read(&mut self, bytes: &mut [u8]) -> io::Result<usize> {
         let count = self.input.read(bytes)?;
-        self.read = self.read.saturating_add(count as u64);
         if count > 0 {
-            self.report();
+            self.progress.add(self.rt, count);
         } else {
-            self.clear();
+            self.progress.clear(self.rt);
         }
         Ok(count)
     }
