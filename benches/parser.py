@@ -179,7 +179,7 @@ def send(end, text, size):
 
 
 def in_pieces(words, room, text, size):
-    """The instructions of a command that gets the text in pieces of so many bytes. Each read of this kind of socket returns one."""
+    """The instructions of a command that gets the text in pieces of the given number of bytes. Each read of this kind of socket returns one."""
     source, end = socket.socketpair(socket.AF_UNIX, socket.SOCK_SEQPACKET)
     sender = threading.Thread(target=send, args=(end, text, size))
     sender.start()

@@ -191,7 +191,7 @@ def literal(code):
 
 
 def hundreds(words):
-    """Rows of a hundred: what `rt` reckons as a crate's memory goes by its lines."""
+    """Rows of a hundred, since `rt` estimates the memory of a check by the lines of its crate."""
     return "".join(f"    {' '.join(words[at:at + 100])}\n" for at in range(0, len(words), 100))
 
 
