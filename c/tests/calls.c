@@ -344,9 +344,85 @@ static void wrong(void)
     free(tree.bytes);
 }
 
+#define NODES 4
+
+/* Nodes that are elements, with the columns of a block. A kind of 0 ends them. */
+struct nodes {
+    const char *what;
+    uint32_t kinds[NODES], parents[NODES], ends[NODES];
+};
+
+static size_t put(unsigned char *bytes, size_t at, uint32_t word)
+{
+    for (int i = 0; i < 4; i++) {
+        bytes[at + i] = (unsigned char)(word >> 8 * i);
+    }
+    return at + 4;
+}
+
+/* A block of these nodes, in which the name of all elements is p. Returns its length. */
+static size_t block_of(const struct nodes *nodes, unsigned char *bytes)
+{
+    size_t count = 0, at = 4;
+
+    while (count < NODES && nodes->kinds[count] != 0) {
+        count++;
+    }
+    memcpy(bytes, "HGT1", 4);
+    at = put(bytes, at, (uint32_t)(4 * (13 + 5 * count) + 1));
+    at = put(bytes, at, 0);
+    at = put(bytes, at, (uint32_t)count);
+    at = put(bytes, at, 0);
+    at = put(bytes, at, 1);
+    at = put(bytes, at, 1);
+    at = put(bytes, at, 0);
+    at = put(bytes, at, 0);
+    for (size_t i = 0; i < count; i++) {
+        at = put(bytes, at, nodes->kinds[i]);
+    }
+    for (size_t i = 0; i < count; i++) {
+        at = put(bytes, at, nodes->parents[i]);
+    }
+    for (size_t i = 0; i < count; i++) {
+        at = put(bytes, at, nodes->ends[i]);
+    }
+    for (size_t i = 0; i < 2 * (count + 1); i++) {
+        at = put(bytes, at, 0);
+    }
+    at = put(bytes, at, HENGARUTO_NS_HTML);
+    at = put(bytes, at, 1);
+    bytes[at] = 'p';
+    return at + 1;
+}
+
+/* Blocks whose columns fit, and whose nodes are a tree in tree order only in the first. */
+static void trees(void)
+{
+    static const struct nodes blocks[] = {
+        {"a tree", {9, 1, 1}, {HENGARUTO_NONE, 0, 1}, {3, 3, 3}},
+        {"a parent that isn't the innermost node around", {9, 1, 1}, {HENGARUTO_NONE, 0, 0}, {3, 3, 3}},
+        {"nodes that cross", {9, 1, 1, 1}, {HENGARUTO_NONE, 0, 0, 0}, {4, 3, 4, 4}},
+        {"a text with a child", {9, 3, 1}, {HENGARUTO_NONE, 0, 1}, {3, 3, 3}},
+        {"an unknown kind", {9, 5}, {HENGARUTO_NONE, 0}, {2, 2}},
+        {"a fragment after an element", {9, 1, 11}, {HENGARUTO_NONE, 0, 0}, {3, 2, 3}},
+    };
+    unsigned char bytes[200];
+
+    for (size_t i = 0; i < sizeof blocks / sizeof *blocks; i++) {
+        size_t length = block_of(&blocks[i], bytes);
+        uint32_t status = hengaruto_check(bytes, length);
+
+        if (status != (i == 0 ? HENGARUTO_OK : HENGARUTO_NO_TREE)) {
+            printf("%s: status %u\n", blocks[i].what, status);
+            CHECK(0);
+        }
+    }
+}
+
 int main(void)
 {
     parse();
+    trees();
     options();
     fragments();
     html();

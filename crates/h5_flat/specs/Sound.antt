@@ -1,6 +1,6 @@
--- Whether a block is such as a tree is packed into: node 0 is a root that holds all, each other node stands in an earlier one, and what is kept
--- of nodes, rows and names lies in order.
-use Rattle.std.specs.Prelude.{ℕ, ◌+◌, ◌==◌, ◌&&◌, ◌||◌, Bool, true, if◌then◌else◌, List, nat_le, nat_lt}
+-- A block is sound if its nodes are a tree in tree order, of which node 0 is the root, and if the columns of texts, rows and names are in
+-- order, too.
+use Rattle.std.specs.Prelude.{ℕ, ◌+◌, ◌-◌, ◌==◌, ◌&&◌, ◌||◌, Bool, true, if◌then◌else◌, List, nat_le, nat_lt}
 use Prim.Native.Nat.{zero, suc}
 use Rattle.h5_flat.specs.Block.{end_before, ends_at, first_row_in, kind_in, name_ends_at, name_in, names_in, nodes_in, nothing, parents_at, row_ends_at, rows_in, texts_at, word_in}
 
@@ -25,10 +25,28 @@ module _ (b : List ℕ) where
       if n == 0 then parent_word 0 == nothing && end_word 0 == nodes_in b
       else (nat_lt n (end_word n) && (nat_lt (parent_word n) n && nat_le (end_word n) (end_word (parent_word n))))
 
+  -- tree order: the next node is its child, unless it ends there, and the first node after its end is its sibling, unless its parent ends
+  -- there
+  abbrev pub is_in_order : ℕ → Bool
+  is_in_order n =
+      (end_word n == n + 1 || parent_word (n + 1) == n)
+      && (n == 0 || (end_word n == end_word (parent_word n) || parent_word (end_word n) == parent_word n))
+
+  -- a text, a processing instruction, a comment or a doctype, which has no children
+  abbrev pub is_leaf : ℕ → Bool
+  is_leaf n = (kind_in b n == 3 || (kind_in b n == 7 || (kind_in b n == 8 || kind_in b n == 10))) && end_word n == n + 1
+
+  -- its kind is allowed in its place: only node 0 is a document, and any other fragment is the contents of the element before it
+  abbrev pub has_kind : ℕ → Bool
+  has_kind n =
+      if kind_in b n == 1 || n == 0 then true
+      else (if kind_in b n == 11 then kind_in b (parent_word n) == 1 && n - 1 == parent_word n
+      else is_leaf n)
+
   abbrev pub is_node_sound : ℕ → Bool
   is_node_sound n =
-      stands n && (nat_le (text_word n) (text_word (n + 1)) && (nat_le (first_row_in b n) (first_row_in b (n + 1))
-      && (name_in b n == nothing || nat_lt (name_in b n) (names_in b))))
+      stands n && (is_in_order n && (has_kind n && (nat_le (text_word n) (text_word (n + 1)) && (nat_le (first_row_in b n) (first_row_in b (n + 1))
+      && (name_in b n == nothing || nat_lt (name_in b n) (names_in b))))))
 
   -- whether an end in a column comes behind the one before
   abbrev pub does_grow : (column index : ℕ) → Bool

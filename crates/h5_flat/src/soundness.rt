@@ -3,7 +3,7 @@ ghost use Rattle.std.specs.Prelude.{◌≡◌, ◌≤◌};
 ghost use Rattle.h5_flat.specs.Block as b;
 ghost use Rattle.h5_flat.specs.Sound as s;
 
-use super::numbers::{DOCUMENT, FRAGMENT, NOTHING};
+use super::numbers::{COMMENT, DOCTYPE, DOCUMENT, ELEMENT, FRAGMENT, INSTRUCTION, NOTHING, TEXT};
 use super::view::{View, word_at};
 
 impl<'a> View<'a> {
@@ -18,13 +18,46 @@ impl<'a> View<'a> {
         node < end && parent < node && end <= self.end_word(parent)
     }
 
-    // Whether a node stands in its parent, and has places and a name.
+    // Returns true if the nodes around this one are in tree order: the next node is its child, unless this one ends there, and the first node
+    // after its end is its sibling, unless its parent ends there.
+    fn is_in_order(&self, node: u32) -> bool
+        requires { node ≤ 4294967294 }
+        ensures { result ≡ s.is_in_order self.now.block.now node }
+    {
+        let (parent, end) = (self.parent_word(node), self.end_word(node));
+        if end != node + 1 && self.parent_word(node + 1) != node {
+            return false;
+        }
+        node == 0 || end == self.end_word(parent) || self.parent_word(end) == parent
+    }
+
+    // Returns true if the kind of a node is known and allowed in its place: only the first node is a document, any other fragment is the
+    // contents of the element before it, and a text, comment, doctype or processing instruction has no children.
+    fn has_kind(&self, node: u32) -> bool
+        requires { node ≤ 4294967294 }
+        ensures { result ≡ s.has_kind self.now.block.now node }
+    {
+        let kind = self.kind(node);
+        if kind == ELEMENT || node == 0 {
+            return true;
+        }
+        if kind == FRAGMENT {
+            let parent = self.parent_word(node);
+            return self.kind(parent) == ELEMENT && node - 1 == parent;
+        }
+        (kind == TEXT || kind == INSTRUCTION || kind == COMMENT || kind == DOCTYPE)
+            && self.end_word(node) == node + 1
+    }
+
+    // Returns true if a node lies within its parent, in tree order and of an allowed kind, and if its text, its rows and its name exist.
     fn is_node_sound(&self, node: u32) -> bool
         requires { node ≤ 4294967294 }
         ensures { result ≡ s.is_node_sound self.now.block.now node }
     {
         let (next, name) = (node + 1, self.name(node));
         self.stands(node)
+            && self.is_in_order(node)
+            && self.has_kind(node)
             && self.text_place(node) <= self.text_place(next)
             && self.first_row(node) <= self.first_row(next)
             && (name == NOTHING || name < self.names)
@@ -84,8 +117,8 @@ impl<'a> View<'a> {
             && self.name_begin(self.names) == word_at(self.block, 6)
     }
 
-    /// Whether a block is such as a tree is packed into: each read of it answers then, and a walk takes no more steps than it has
-    /// words. Looks at each word once.
+    /// Returns true if the nodes of a block are a tree in tree order, and each text, attribute and name lies within the block. Every read of
+    /// such a block returns, and a walk takes no more steps than the block has words. The time is linear in the length of the block.
     pub fn is_sound(&self) -> bool
         ensures { result ≡ s.is_sound self.now.block.now }
     {
