@@ -1,5 +1,5 @@
-//! The command line of the program `hengaruto`: its parts, their options, and what each asks for. It stands apart, so that it isn't
-//! proved again with each change of the program.
+//! The command line of the program `hengaruto`: its subcommands and their options. It is a separate crate so that a change of the program
+//! doesn't prove it again.
 #![tactic(auto)]
 
 mod words;

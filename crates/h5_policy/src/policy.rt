@@ -68,7 +68,7 @@ fn name_of<'a>(alloc: Global, key: &str, item: &'a Value) -> Result<&'a str, Pol
 // Refuses an element that has no kind: the sanitizer can't write it safely.
 fn ask_for_kind(alloc: Global, name: &str) -> Result<(), PolicyFault> {
     if kind_of(name) == Kind::Unknown {
-        return Err(wrong(format!(in alloc; "\"{name}\" can't be let through")));
+        return Err(wrong(format!(in alloc; "element \"{name}\" can't be allowed")));
     }
     Ok(())
 }
@@ -202,7 +202,7 @@ fn set(alloc: Global, policy: &mut AllowList, key: &str, value: &Value) -> Resul
         "rel" => set_rel(alloc, policy, value),
         "prefix" => set_prefix(alloc, policy, value),
         "depth" => set_depth(alloc, policy, value),
-        _ => Err(wrong(format!(in alloc; "`{key}` is no key of a policy"))),
+        _ => Err(wrong(format!(in alloc; "unknown key `{key}`"))),
     }
 }
 
@@ -214,7 +214,7 @@ fn set_each(alloc: Global, policy: &mut AllowList, table: &Table) -> Result<(), 
     if table.contains_key("elements") {
         Ok(())
     } else {
-        Err(wrong(format!(in alloc; "`elements` is missing")))
+        Err(wrong(format!(in alloc; "missing key `elements`")))
     }
 }
 

@@ -105,11 +105,10 @@ pub fn put_errors<W: Write>(
 pub fn tell_count(rt: &HostRuntime, name: &str, count: ErrorCount) {
     let ErrorCount { all, shown } = count;
     let noun = if all == 1 { "error" } else { "errors" };
-    let verb = if shown == 1 { "is" } else { "are" };
     let _told = if shown < all {
         writeln!(
             rt.stderr(),
-            "hengaruto: {name}: {all} parse {noun}, of which {shown} {verb} shown"
+            "hengaruto: {name}: {all} parse {noun}, {shown} shown"
         )
     } else if all > 0 {
         writeln!(rt.stderr(), "hengaruto: {name}: {all} parse {noun}")

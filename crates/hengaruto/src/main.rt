@@ -34,7 +34,7 @@ fn main(rt: HostRuntime) -> anyhow::Result<ExitCode> {
     let Ok(words) = words_of(&rt) else {
         writeln!(
             rt.stderr(),
-            "hengaruto: a word isn't UTF-8, or memory was refused"
+            "hengaruto: an argument isn't UTF-8, or out of memory"
         )?;
         return Ok(ExitCode::from(2));
     };

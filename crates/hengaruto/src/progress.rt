@@ -21,7 +21,7 @@ impl Progress {
         if self.on_terminal && self.read >= self.next {
             self.next = self.read.saturating_add(STEP);
             let megabytes = self.read / 1_000_000;
-            let _written = write!(rt.stderr(), "\rhengaruto: {megabytes} MB");
+            let _written = write!(rt.stderr(), "\rhengaruto: {megabytes} MB read");
         }
     }
 

@@ -68,7 +68,7 @@ fn answer_of(
     let alloc = rt.alloc();
     let mut answer = begin_answer(alloc, Some(record), line)?;
     let Some(page) = record.page() else {
-        end_answer(alloc, &mut answer, "error", "no html and no path", false)?;
+        end_answer(alloc, &mut answer, "error", "record has neither `html` nor `path`", false)?;
         return Ok(answer);
     };
     match printed_of(rt, asked, page) {
@@ -117,7 +117,7 @@ fn answer_read(
     match read {
         Ok(text) => answer_to(rt, asked, name, text.as_str(), line),
         Err(error) => match error.kind() {
-            ErrorKind::InvalidData => refusal(rt, line, "no UTF-8"),
+            ErrorKind::InvalidData => refusal(rt, line, "line is not UTF-8"),
             _ => Err(Fault::Read(error)),
         },
     }

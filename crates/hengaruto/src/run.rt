@@ -101,13 +101,14 @@ pub fn put_input<R: Read, W: Write>(
     }
 }
 
-// Says how many characters stand for bytes that are none, if there are any. Whether it can be said is no matter.
+// Reports how many invalid byte sequences were replaced, if any. An error of standard error is ignored.
 fn tell_replaced(rt: &HostRuntime, name: &str, how: HowRead) {
     if how.replaced > 0 {
         let (count, encoding) = (how.replaced, how.encoding.name());
+        let noun = if count == 1 { "sequence" } else { "sequences" };
         let _told = writeln!(
             rt.stderr(),
-            "hengaruto: {name}: {count} U+FFFD stand for bytes that are no {encoding}"
+            "hengaruto: {name}: replaced {count} invalid {encoding} {noun} with U+FFFD"
         );
     }
 }
@@ -288,7 +289,7 @@ fn show_links_from(
             show_all(rt, &leading, matches)
         }
         Err(error) => {
-            let _told = writeln!(rt.stderr(), "hengaruto: {text}: {error}");
+            let _told = writeln!(rt.stderr(), "hengaruto: invalid URL '{text}': {error}");
             2
         }
     }
@@ -357,16 +358,23 @@ fn encodings_by(matches: &ArgMatches<'_>, is_fragment: bool) -> Option<EncodingO
 fn show_word<'a>(rt: &HostRuntime, name: &'a str, is_record: bool, matches: &ArgMatches<'a>) -> u8 {
     let what = what_named(name);
     let Some(text) = text_opts(what, matches) else {
-        let _told = writeln!(rt.stderr(), "hengaruto: no number of columns");
+        let _told = writeln!(
+            rt.stderr(),
+            "hengaruto: invalid value for --width: expected a number of columns"
+        );
         return 2;
     };
     let Some(limit) = limit_by(what, matches) else {
-        let _told = writeln!(rt.stderr(), "hengaruto: no number of errors");
+        let _told = writeln!(
+            rt.stderr(),
+            "hengaruto: invalid value for --limit: expected a number"
+        );
         return 2;
     };
     let context = what.context(matches.get_str("fragment"));
     let Some(encodings) = encodings_by(matches, context.is_some()) else {
-        let _told = writeln!(rt.stderr(), "hengaruto: no encoding has this label");
+        let label = matches.get_str("encoding").unwrap_or("");
+        let _told = writeln!(rt.stderr(), "hengaruto: unknown encoding '{label}'");
         return 2;
     };
     let asked = Asked {
@@ -397,7 +405,10 @@ fn show_in_context<'a>(
 ) -> u8 {
     match matches.get_str("fragment") {
         Some(context) if !is_context(context) => {
-            let _told = writeln!(rt.stderr(), "hengaruto: '{context}' names no element");
+            let _told = writeln!(
+                rt.stderr(),
+                "hengaruto: invalid value for --fragment: '{context}' is not an element name"
+            );
             2
         }
         _ => show_word(rt, name, is_record, matches),

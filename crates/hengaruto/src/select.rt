@@ -128,7 +128,7 @@ pub fn tell_selector(rt: &HostRuntime, text: &str, fault: &SelectorFault) -> u8 
         SelectorFault::Invalid { at, problem } => {
             let _told = writeln!(
                 rt.stderr(),
-                "hengaruto: {text}: behind {at} characters: {problem}"
+                "hengaruto: invalid selector '{text}': at offset {at}: {problem}"
             );
             2
         }
