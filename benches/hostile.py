@@ -1,8 +1,8 @@
 #!/usr/bin/env python3
-"""Writes texts of a pattern of hostile.txt, each of so many bytes or somewhat less: hostile.py NAME FOLDER BYTES..
+"""Writes texts of a pattern of hostile.txt, each as large as possible within a number of bytes: hostile.py NAME FOLDER BYTES..
 
-Each text is a file of the folder, with the bytes as its name. Without words the names of all patterns are printed.
-hostile.txt says how a pattern is read.
+Each text is a file in the folder, named by this number. Without arguments the names of all patterns are printed.
+hostile.txt explains how a pattern is read.
 """
 import os
 import sys
@@ -14,7 +14,7 @@ def patterns():
 
 
 def parsed(text, at=0):
-    """The parts of a text up to a brace that ends it, texts and lists of parts, and where they end."""
+    """Returns the parts of a text up to the brace that ends it, which are texts and lists of parts, and where they end."""
     parts = [""]
     while at < len(text) and text[at] != "}":
         if text[at] == "{":
@@ -29,7 +29,7 @@ def parsed(text, at=0):
 
 
 def size(parts, n, copies=1, digits=1):
-    """The bytes of so many copies of these parts; all that stands in them for one # has so many digits."""
+    """The bytes of `copies` copies of these parts, in which the numbers for one # have `digits` digits together."""
     bytes = 0
     for part in parts:
         if isinstance(part, list):
@@ -40,7 +40,7 @@ def size(parts, n, copies=1, digits=1):
 
 
 def written(parts, n, number="#"):
-    """These parts, with this number for each #."""
+    """These parts as a text, with this number for each #."""
     return "".join(
         "".join(written(part, n, str(i)) for i in range(1, n + 1))
         if isinstance(part, list)
@@ -50,7 +50,7 @@ def written(parts, n, number="#"):
 
 
 def made(parts, bytes):
-    """The text for the largest n for which it has no more bytes."""
+    """The text for the largest n for which it has at most this many bytes."""
     n, most = 1, bytes
     while n < most:
         half = (n + most + 1) // 2

@@ -1,23 +1,23 @@
 #!/bin/bash
-# How long "h5 html" takes for texts that an enemy would write, and how much memory: milliseconds of processor time, the
-# best of three runs, for texts of 16 KB to 1 MB. The patterns of the texts stand in hostile.txt.
+# Measures how long "h5 html" takes for texts that an attacker would write, and how much memory: milliseconds of
+# processor time, the best of three runs, for texts of 16 KB to 1 MB. The patterns of the texts are in hostile.txt.
 #
-#     benches/hostile.sh [PATTERN..]     texts of these patterns; without any, of all
+#     benches/hostile.sh [PATTERN..]     texts of these patterns; by default of all
 #
-# Behind the times of a pattern stand
+# The columns after the times of a pattern are
 #
-#     last      the last time through the one before
-#     memory    the most bytes that are held for each byte of the largest text that was tried, without those that are
-#               held for an empty text; it needs GNU time
-#     output    the bytes that are written for each byte of that text
-#     *         the last is over 2.3, or none is known, or the memory is over 60
+#     last      the last time divided by the one before
+#     memory    the peak memory in bytes per byte of the largest text that was tried, without the memory for an empty
+#               text; needs GNU time
+#     output    the bytes written per byte of that text
+#     *         the last is over 2.3 or unknown, or the memory is over 60
 #
-# A text is not tried if the one before took more than half a second, and a dash stands for its time: it may take some
-# seconds, and what grows so is known by then.
+# A text is not tried if the one before took more than half a second, and its time is a dash: it could take some
+# seconds, and how fast the times grow is known by then.
 #
-# With PROGRAM='WORD..' these words are run in place of "h5 html", with the text as standard input.
+# With PROGRAM='WORD..' this command is run in place of "h5 html", with the text as standard input.
 #
-# The shell is bash, since its `time` tells milliseconds.
+# The shell is bash, since its `time` reports milliseconds.
 root=$(cd "$(dirname "$0")/.." && pwd) || exit 1
 sizes="15625 31250 62500 125000 250000 500000 1000000"
 TIMEFORMAT='%3U %3S'
@@ -44,7 +44,7 @@ else
     fi
 fi
 
-# Runs the program over a text, for 30 seconds and with 4 GB at the most; words before it may be given.
+# Runs the program over a text, for at most 30 seconds and with at most 4 GB. Further arguments are a command that runs it.
 run() {
     (
         ulimit -t 30 -v 4000000
@@ -54,14 +54,14 @@ run() {
     )
 }
 
-# The milliseconds of a text, or nothing if the program fails.
+# Prints the milliseconds for a text, or nothing if the program fails.
 best() {
     for _ in 1 2 3; do
         { time run "$1"; } 2>&1 || return
     done | awk 'NR == 1 || $1 + $2 < least { least = $1 + $2 } END { if (NR == 3) printf "%.0f", least * 1000 }'
 }
 
-# The kilobytes that the program holds at the most.
+# Prints the peak memory of the program, in kilobytes.
 memory() {
     run "$1" /usr/bin/time -o "$room/most" -f %M
     tail -n 1 "$room/most"

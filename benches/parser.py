@@ -1,32 +1,32 @@
 #!/usr/bin/env python3
-"""How fast `h5 html` parses documents and writes their trees.
+"""Measures how fast `h5 html` parses documents and writes their trees.
 
-    benches/parser.py          MB of text for each second of processor time, the best of five runs, for a flat
-                               document of 10 MB, a nest of 10,000 elements, misnested formatting elements, a table
-                               of 100,000 rows, foster-parented content, tables in tables, elements with attributes,
+    benches/parser.py          MB of text per second of processor time, the best of five runs, for a flat document
+                               of 10 MB, a nest of 10,000 elements, misnested formatting elements, a table of
+                               100,000 rows, foster-parented content, tables in tables, elements with attributes,
                                and one long text
-    benches/parser.py count    instructions for each byte of text, at a tenth of these sizes; it needs valgrind
-    benches/parser.py memory   the most bytes of memory for each byte of text; it needs GNU time
+    benches/parser.py count    instructions per byte of text, at a tenth of these sizes; needs valgrind
+    benches/parser.py memory   peak memory in bytes per byte of text; needs GNU time
     benches/parser.py beside NAME=COMMAND.. [-- PAGE..]
-                               these texts and the files after --, by `h5 html` and by other commands that read HTML
-                               from standard input and write it, in turn: milliseconds of processor time, the best
-                               and the median of five runs, and the most MB of memory; it needs GNU time. So for
-                               programs that are built on other libraries:
+                               runs `h5 html` and other commands that read HTML from standard input and write it,
+                               one after the other, on these texts and on the files after --: milliseconds of
+                               processor time, the best and the median of five runs, and peak memory in MB; needs
+                               GNU time. For example, with programs that use other libraries:
 
     benches/parser.py beside html5ever=./html5ever gumbo=./gumbo go=./xnet 'lxml=python3 lxml_write.py' -- page.html
 
     benches/parser.py pieces [LENGTH [KIND..]]
-                               instructions of `hengaruto html` for each byte of a text of this length, of these
-                               kinds, that comes in pieces of 1 and of 16 bytes, and as a file, which the program
-                               reads in pieces of 65,536; it needs valgrind. A tokenizer that is linear has the same
-                               figures at twice the length
+                               instructions of `hengaruto html` per byte of a text of this length, for each of
+                               these kinds, if the text comes in chunks of 1 and of 16 bytes, and as a file, which
+                               the program reads in chunks of 65,536; needs valgrind. The figures of a linear
+                               tokenizer are the same at twice the length
 
-The columns of `count` are from one run. "build" is from text to tree, and "read" is that without all that the tree
-builder does with tokens. "html" is all of the program, and "serialize" is its remainder without the check for UTF-8:
-from tree to text, and the reading and writing of bytes. A dash means that the compiler inlined a function that the
-column is counted by. No column has the drop of the tree, which the program leaves to its end.
+The columns of `count` are from one run. "build" is from text to tree, and "read" is "build" without all that the tree
+builder does with tokens. "html" is the whole program, and "serialize" is "html" without "build" and without the check
+for UTF-8: from tree to text, and the reading and writing of bytes. A dash means that the compiler inlined a function
+that the column is counted by. No column includes the drop of the tree, which the program leaves to its end.
 
-With PROGRAM='WORD..' these words are run in place of `h5 html` or `hengaruto html`.
+With PROGRAM='WORD..' this command is run in place of `h5 html` or `hengaruto html`.
 """
 import os
 import re
@@ -47,14 +47,14 @@ RUNS = 5
 PIECES = [1, 16]
 IN_PIECES = ["flat", "attributed", "text", "page", "comment", "value", "raw", "name", "doctype", "ampersands"]
 IN_PIECES += ["letters", "number", "scripts"]
-# The functions whose costs make the columns of `count`, with all that they call.
+# The functions whose costs, with all that they call, make the columns of `count`.
 PARSE = "h5_driver::parser::Parser::one"
 TAKE_TOKEN = "h5_tree_builder::builder::TreeBuilder::process_token"
 CHECK_BYTES = "core::str::utf8::from_utf8"
 
 
 def program(name):
-    """The words that run `NAME html`, once it is built."""
+    """The command that runs `NAME html`. Builds the program first, unless PROGRAM is set."""
     if "PROGRAM" in os.environ:
         return shlex.split(os.environ["PROGRAM"])
     crate = f"{ROOT}/crates/{name}"
@@ -65,7 +65,7 @@ def program(name):
 
 
 def seconds(words, room):
-    """The processor time of one run of a command over the text; none if it fails."""
+    """The processor time of one run of a command over the text, or None if the command fails."""
     with open(f"{room}/text", "rb") as text, open(f"{room}/out", "wb") as out:
         run = subprocess.Popen(words, stdin=text, stdout=out, stderr=subprocess.DEVNULL)
         _, run.returncode, usage = os.wait4(run.pid, 0)
@@ -73,7 +73,7 @@ def seconds(words, room):
 
 
 def most_memory(words, room):
-    """The most bytes that one run of a command holds. GNU time starts it, since a child of this process begins with its memory."""
+    """The peak memory of one run of a command, in bytes. GNU time starts it, since a child of this process begins with its memory."""
     with open(f"{room}/text", "rb") as text, open(f"{room}/out", "wb") as out:
         words = ["/usr/bin/time", "-o", f"{room}/most", "-f", "%M", *words]
         subprocess.run(words, stdin=text, stdout=out, stderr=subprocess.DEVNULL, check=False)
@@ -82,7 +82,7 @@ def most_memory(words, room):
 
 
 def profile(words, room, source):
-    """The instructions of each function with all that it calls, by its name, of one run of a command."""
+    """The instructions of each function and all that it calls, by its name, in one run of a command."""
     counted = ["valgrind", "--tool=callgrind", f"--callgrind-out-file={room}/profile", *words]
     subprocess.run(counted, stdin=source, stdout=subprocess.DEVNULL, stderr=subprocess.DEVNULL, check=True)
     report = ["callgrind_annotate", "--inclusive=yes", "--threshold=100", f"{room}/profile"]
@@ -95,7 +95,7 @@ def profile(words, room, source):
 
 
 def parts_of(costs):
-    """The columns of `count`, none for a part whose function isn't there."""
+    """The columns of `count`, with None for a part whose function isn't there."""
     build, take, check, html = map(costs.get, (PARSE, TAKE_TOKEN, CHECK_BYTES, "main"))
     read = None if None in (build, take) else build - take
     serialize = None if None in (build, check, html) else html - build - check
@@ -142,7 +142,7 @@ def memory(words, room):
 
 
 def beside_rows(name, commands, room):
-    """The rows of the text that is there: one for each command."""
+    """Prints the rows of the current text: one for each command."""
     times = {command: [] for command in commands}
     for _ in range(RUNS):
         for command, words in commands.items():
@@ -169,7 +169,7 @@ def beside(words, room, commands, pages):
 
 
 def send(end, text, size):
-    """Sends a text in pieces, and then its end. The program may have ended before."""
+    """Sends a text in chunks, and then its end. The program may have ended before."""
     with end:
         try:
             for at in range(0, len(text), size):
@@ -179,7 +179,7 @@ def send(end, text, size):
 
 
 def in_pieces(words, room, text, size):
-    """The instructions of a command that gets the text in pieces of the given number of bytes. Each read of this kind of socket returns one."""
+    """The instructions of a command that gets the text in chunks of `size` bytes. Each read of this kind of socket returns one chunk."""
     source, end = socket.socketpair(socket.AF_UNIX, socket.SOCK_SEQPACKET)
     sender = threading.Thread(target=send, args=(end, text, size))
     sender.start()

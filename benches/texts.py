@@ -1,7 +1,7 @@
 #!/usr/bin/env python3
-"""Writes a text of a kind and a size: texts.py KIND SIZE. Without words the names of all kinds are printed.
+"""Writes a text of a kind and a size: texts.py KIND SIZE. Without arguments the names of all kinds are printed.
 
-For most kinds the size is about the number of bytes. For those under COUNTED, and for attributes, it is the number of parts.
+For most kinds the size is about the number of bytes. For those in COUNTED, and for attributes, it is the number of parts.
 """
 import sys
 

@@ -1,4 +1,4 @@
-/* clean.c: prints what is safe to show of a fragment that somebody sent.
+/* clean.c: prints the HTML that the default policy allows of an untrusted fragment.
  *
  *     cc clean.c $(pkg-config --cflags --libs hengaruto) -o clean
  *     ./clean < comment.html

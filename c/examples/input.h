@@ -6,8 +6,8 @@
 #include <stdio.h>
 #include <stdlib.h>
 
-/* What a file has from here to its end, in memory that the caller frees; NULL if it can't be read, or memory is refused. The memory is
- * never NULL else, also where there are no bytes. */
+/* Reads a file to its end. The caller frees the result. Returns NULL if the file can't be read or an allocation fails, and only then: the
+ * result for an empty file isn't NULL. */
 static unsigned char *read_all(FILE *file, size_t *length)
 {
     size_t room = 1 << 16, count = 0;

@@ -1,5 +1,5 @@
-/* links.c: prints the links of a page, a line for each: where it leads, a tab, and its text. It walks over the tree, and asks for names,
- * attributes and texts. hengaruto_page_links gives the same in one call.
+/* links.c: prints the links of a page, one per line: the URL, a tab and the text. It walks over the tree, and reads names, attributes and
+ * texts. hengaruto_page_links returns the links of a page in one call.
  *
  *     cc links.c $(pkg-config --cflags --libs hengaruto) -o links
  *     ./links < page.html
@@ -12,13 +12,13 @@
 
 #include "input.h"
 
-/* A tree: a block, and how long it is. */
+/* A tree: a block and its length. */
 struct tree {
     unsigned char *block;
     size_t length;
 };
 
-/* A text that lies in a block. */
+/* A text in a block. */
 struct text {
     const unsigned char *bytes;
     size_t length;
@@ -49,7 +49,7 @@ static struct text text_of(const struct tree *tree, uint32_t node)
     return (struct text){tree->block + at, count};
 }
 
-/* The value of an attribute without a namespace; false if the element hasn't got it. */
+/* Finds the value of an attribute without a namespace. Returns false if the element doesn't have it. */
 static bool find_attribute(const struct tree *tree, uint32_t node, const char *wanted, struct text *value)
 {
     uint32_t count = hengaruto_row_count(tree->block, tree->length, node);
@@ -69,7 +69,7 @@ static bool find_attribute(const struct tree *tree, uint32_t node, const char *w
     return false;
 }
 
-/* Prints a text with one blank for each run of blanks, and none at its ends. */
+/* Prints a text with each run of whitespace as one space, and without whitespace at its ends. */
 static void print_words(struct text text)
 {
     bool inside = false, gap = false;

@@ -1,4 +1,4 @@
-/* select.c: prints the text of each element of a page that a CSS selector matches, or its HTML with --html.
+/* select.c: prints the elements of a page that a CSS selector matches: their texts, or with --html their HTML.
  *
  *     cc select.c $(pkg-config --cflags --libs hengaruto) -o select
  *     ./select 'ul > li' < page.html
@@ -11,13 +11,13 @@
 
 #include "input.h"
 
-/* A tree: a block, and how long it is. */
+/* A tree: a block and its length. */
 struct tree {
     unsigned char *block;
     size_t length;
 };
 
-/* What a status says. */
+/* The meaning of a status. */
 static const char *reason(uint32_t status)
 {
     switch (status) {
@@ -26,15 +26,15 @@ static const char *reason(uint32_t status)
     case HENGARUTO_NO_NODE:
         return "no such node";
     case HENGARUTO_NO_TREE:
-        return "no tree";
+        return "not a tree";
     case HENGARUTO_BAD_ARGUMENT:
-        return "the selector is no UTF-8";
+        return "the selector isn't UTF-8";
     default:
-        return "an unknown status";
+        return "unknown status";
     }
 }
 
-/* A number of a list of words of four bytes, the least byte first. */
+/* Decodes a number of 4 bytes, least significant byte first. */
 static uint32_t word_at(const unsigned char *bytes)
 {
     return (uint32_t)bytes[0] | (uint32_t)bytes[1] << 8 | (uint32_t)bytes[2] << 16 | (uint32_t)bytes[3] << 24;
@@ -69,7 +69,7 @@ static uint32_t print_html(const struct tree *tree, uint32_t node)
     return status;
 }
 
-/* Prints what the selector matches below the document. Of a selector that is none it prints the library's message. */
+/* Prints the elements below the document that the selector matches. If the selector is invalid, prints the library's message. */
 static uint32_t print_matches(const struct tree *tree, const char *selector, bool as_html)
 {
     unsigned char *found;
@@ -77,7 +77,7 @@ static uint32_t print_matches(const struct tree *tree, const char *selector, boo
     uint32_t status = hengaruto_select(tree->block, tree->length, 0, (const unsigned char *)selector, strlen(selector), &found, &length);
 
     if (status == HENGARUTO_BAD_SELECTOR) {
-        /* A NUL stands behind the message. */
+        /* A NUL follows the message. */
         fprintf(stderr, "select: %s\n", (const char *)found);
         free(found);
         return status;

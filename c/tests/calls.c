@@ -1,4 +1,4 @@
-/* calls.c: each call once, with each status that it answers. */
+/* calls.c: tests each call, with each status that it can return except HENGARUTO_MEMORY. */
 #include "testing.h"
 
 #define SOME 0x5a5a5a5au
@@ -6,7 +6,7 @@
 static const char PAGE[] = "<!DOCTYPE html PUBLIC \"p\" \"s\"><title>A</title><p class=a id=b>One <b>two</b><!--c-->"
                            "<template><i>x</i></template><svg xlink:href=y><a/></svg><math><mi>z</mi></math>";
 
-/* The first element of a name, or HENGARUTO_NONE. */
+/* The first element with this name, or HENGARUTO_NONE. */
 static uint32_t element(struct given tree, const char *name)
 {
     for (uint32_t node = 0; node < hengaruto_node_count(tree.bytes, tree.length); node++) {
@@ -38,7 +38,7 @@ static int has_text(struct given tree, uint32_t node, const char *text)
     return hengaruto_text(tree.bytes, tree.length, node, &at, &count) == HENGARUTO_OK && is_text(tree.bytes + at, count, text);
 }
 
-/* Whether a row of a node has this name (NULL for none) and this value. */
+/* Returns true if a row of a node has this name (NULL for none) and this value. */
 static int has_row(struct given tree, uint32_t node, uint32_t index, const char *name, const char *value)
 {
     uint32_t number;
@@ -80,7 +80,7 @@ static void parse(void)
     CHECK(hengaruto_quirks(tree.bytes, tree.length) == 1);
     free(tree.bytes);
 
-    /* No UTF-8: each wrong byte is U+FFFD. */
+    /* A byte that isn't UTF-8 becomes U+FFFD. */
     tree = parsed("<p>\xff", 0);
     CHECK(has_text(tree, element(tree, "p"), "\xef\xbf\xbd"));
     free(tree.bytes);
@@ -317,7 +317,7 @@ static void texts(void)
     free(tree.bytes);
 }
 
-/* What each read answers of no block, and of no node. */
+/* The result of each read if the bytes aren't a block, and if there is no such node. */
 static void wrong(void)
 {
     struct given tree = parsed(PAGE, 0);

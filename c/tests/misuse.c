@@ -1,5 +1,5 @@
-/* misuse.c [ROUNDS]: cut, changed and foreign blocks, and wrong numbers. Each call answers, each walk ends, and nothing is read outside of
- * a block: each block lies by itself on the heap, where valgrind sees a read beside it. */
+/* misuse.c [ROUNDS]: truncated, changed and foreign blocks, and wrong numbers. Every call returns, every walk ends, and nothing is read
+ * outside of a block. Each block is allocated separately, so that valgrind sees a read outside of it. */
 #include "testing.h"
 
 static const char PAGE[] = "<!doctype html><title>t</title><p class=a id=b>one <b>two</b><!--c--><svg xlink:href=x><a/></svg>"
@@ -7,11 +7,11 @@ static const char PAGE[] = "<!doctype html><title>t</title><p class=a id=b>one <
 
 static const char SELECTOR[] = "p.a b, [id], li:nth-child(2n)";
 
-/* A sum over all that was read, so that the reads aren't left out. */
+/* A sum over all that was read, so that the compiler can't omit the reads. */
 static uint64_t sum;
 static uint64_t state = 88172645463325252u;
 
-/* Numbers that look random, the same in each run. */
+/* Pseudorandom numbers, the same in each run. */
 static uint32_t any(void)
 {
     state ^= state << 13;
@@ -27,7 +27,7 @@ static void read_bytes(const unsigned char *bytes, size_t at, size_t count)
     }
 }
 
-/* Each read of a block, with this number as a node, as a name and as a row. */
+/* Each read of a block, with this number as a node and as a name. */
 static void read_all_of(const unsigned char *block, size_t length, uint32_t number)
 {
     size_t at, count;
@@ -51,7 +51,7 @@ static void read_all_of(const unsigned char *block, size_t length, uint32_t numb
     }
 }
 
-/* A step along goes to a greater number, and a step up to a smaller one. */
+/* The next sibling, the first child and the end have greater numbers than the node, and the parent has a smaller one. */
 static void step(const unsigned char *block, size_t length, uint32_t node)
 {
     uint32_t next = hengaruto_next(block, length, node), child = hengaruto_first_child(block, length, node);
@@ -63,7 +63,7 @@ static void step(const unsigned char *block, size_t length, uint32_t node)
     CHECK(parent == HENGARUTO_NONE || parent < node);
 }
 
-/* The calls that look at a whole block. */
+/* The calls that read a whole block. */
 static void look(const unsigned char *block, size_t length, uint32_t node)
 {
     struct given given;
@@ -138,7 +138,7 @@ static void changed_blocks(struct given tree, int rounds)
             block[any() % tree.length] = (unsigned char)any();
         }
         if (round % 2 == 1) {
-            memcpy(block, tree.bytes, 36); /* the head is right */
+            memcpy(block, tree.bytes, 36); /* the head is intact */
         }
         trees += hengaruto_check(block, tree.length) == HENGARUTO_OK;
         for (uint32_t number = 0; number < 40; number++) {
@@ -153,7 +153,7 @@ static void changed_blocks(struct given tree, int rounds)
     printf("misuse: %d of %d changed blocks are still trees\n", trees, rounds);
 }
 
-/* Bytes that no call made, with a right length in them. */
+/* Bytes that no call made, but with the letters HGT1 and the right length. */
 static void foreign_blocks(int rounds)
 {
     for (int round = 0; round < rounds; round++) {

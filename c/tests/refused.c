@@ -1,5 +1,5 @@
-/* refused.c: each request for memory is refused in turn. Each call then answers HENGARUTO_MEMORY, gives nothing, and what it had taken is
- * given back. Link it with libhengaruto.a and -Wl,--wrap=malloc,--wrap=realloc,--wrap=free. */
+/* refused.c: each allocation fails in turn. The call then returns HENGARUTO_MEMORY and no result, and has freed what it allocated before.
+ * Link it with libhengaruto.a and -Wl,--wrap=malloc,--wrap=realloc,--wrap=free. */
 #include "testing.h"
 
 void *__real_malloc(size_t size);
@@ -9,9 +9,9 @@ void *__wrap_malloc(size_t size);
 void *__wrap_realloc(void *memory, size_t size);
 void __wrap_free(void *memory);
 
-/* How many requests are granted before all are refused; none is while it is negative. */
+/* How many requests succeed before all others fail. If it is negative, none fails. */
 static long granted = -1;
-/* How many blocks of memory there are. */
+/* The number of allocations that haven't been freed. */
 static long live;
 
 static int is_refused(void)
@@ -109,7 +109,7 @@ static uint32_t decode(struct given *given)
     return hengaruto_decode(bytes_of(DECLARED), sizeof DECLARED - 1, bytes_of("koi8-r"), 6, &given->bytes, &given->length);
 }
 
-/* Refuses the first request of a call, then the second, and so on until none is. It answers how many there are. */
+/* Makes the first request of a call fail, then the second, and so on until none fails. Returns the number of requests. */
 static long refuse_each(const char *name, call made, uint32_t wanted)
 {
     for (long request = 0;; request++) {

@@ -1,4 +1,4 @@
-/* testing.h: what the tests share. */
+/* testing.h: shared by the tests. */
 #ifndef TESTS_TESTING_H
 #define TESTS_TESTING_H
 
@@ -10,7 +10,7 @@
 static int failures;
 static int checks;
 
-/* Tells a condition that doesn't hold, of the first twenty, and goes on. */
+/* Reports a condition that doesn't hold, and continues. Only the first twenty are reported. */
 #define CHECK(condition)                                                              \
     do {                                                                              \
         checks++;                                                                     \
@@ -22,7 +22,7 @@ static int checks;
         }                                                                             \
     } while (0)
 
-/* Ends a program where going on makes no sense. */
+/* Ends the program if the condition doesn't hold: continuing makes no sense then. */
 #define REQUIRE(condition)                                                            \
     do {                                                                              \
         if (!(condition)) {                                                           \
@@ -31,7 +31,7 @@ static int checks;
         }                                                                             \
     } while (0)
 
-/* What a call gave. */
+/* The result of a call. */
 struct given {
     unsigned char *bytes;
     size_t length;
@@ -50,13 +50,13 @@ static inline struct given parsed(const char *page, uint32_t options)
     return tree;
 }
 
-/* Whether a run of bytes is this text. */
+/* Returns true if the bytes are this text. */
 static inline int is_text(const unsigned char *bytes, size_t length, const char *text)
 {
     return length == strlen(text) && memcmp(bytes, text, length) == 0;
 }
 
-/* Whether what was given is this text, with a NUL behind it. It is freed. */
+/* Returns true if the result of a call is this text, followed by a NUL. Frees the result. */
 static inline int gave(struct given given, const char *text)
 {
     int same = is_text(given.bytes, given.length, text) && given.bytes[given.length] == 0;

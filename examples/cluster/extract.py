@@ -1,7 +1,7 @@
-"""What is taken out of pages, by one task: it reads its pages, and writes a part, in which each page has a row.
+"""Does one task: reads its pages, and writes a part, which has a row for each page.
 
-A task is a list of places, each a file, where a page or a record begins in it, and how long that is. A part is written under another name
-first, and then gets its own: a task that is run twice, since a worker died, writes the same part again.
+A task is a list of places: each is a file, where a page or a record begins in it, and its length. A part is first written under another
+name, and then renamed: a task that runs twice, because a worker died, writes the same part again.
 """
 from __future__ import annotations
 
@@ -17,7 +17,7 @@ Row = Dict[str, Any]
 
 
 class Place(NamedTuple):
-    """A page or a record: `length` bytes of a file. The whole file where the length is None."""
+    """A page or a record: `length` bytes of a file, or the whole file if there is no length."""
 
     path: str
     start: int = 0
@@ -25,7 +25,7 @@ class Place(NamedTuple):
 
 
 def places_in(folder_or_file: str) -> Iterator[Tuple[Place, int]]:
-    """The places in a folder of pages, or in a WARC file, each with how many bytes it has."""
+    """The places in a folder of pages or in a WARC file, each with its number of bytes."""
     if os.path.isdir(folder_or_file):
         for top, folders, names in os.walk(folder_or_file):
             folders.sort()
@@ -38,12 +38,12 @@ def places_in(folder_or_file: str) -> Iterator[Tuple[Place, int]]:
             for start, length, _ in records_of(file, skips=True):
                 yield Place(folder_or_file, start, length), length
     else:
-        # A file that is compressed is a task of its own.
+        # A page, or a compressed file, which isn't split.
         yield Place(folder_or_file), os.path.getsize(folder_or_file)
 
 
 def tasks_of(folder_or_file: str, most: int) -> Iterator[List[Place]]:
-    """Tasks of at most so many bytes, or of one place."""
+    """Tasks of at most `most` bytes, or of one place."""
     task: List[Place] = []
     count = 0
     for place, length in places_in(folder_or_file):
@@ -57,7 +57,7 @@ def tasks_of(folder_or_file: str, most: int) -> Iterator[List[Place]]:
 
 
 def head_of(file: Any) -> Optional[Dict[str, str]]:
-    """The fields of a head, up to its empty line, by their names in small letters. None at the end of the file."""
+    """The fields of a head, up to its empty line, by their names in lower case. None at the end of the file."""
     first = file.readline()
     while first in (b"\r\n", b"\n"):
         first = file.readline()
@@ -73,7 +73,7 @@ def head_of(file: Any) -> Optional[Dict[str, str]]:
 
 
 def records_of(file: Any, skips: bool = False) -> Iterator[Tuple[int, int, Any]]:
-    """The records of a WARC file: where each begins, how long it is, and its fields and bytes. Only responses are given."""
+    """The responses in a WARC file: for each, where it begins, its length, and its fields and bytes. Other records are skipped."""
     while True:
         start = file.tell()
         fields = head_of(file)
@@ -88,7 +88,7 @@ def records_of(file: Any, skips: bool = False) -> Iterator[Tuple[int, int, Any]]
 
 
 def page_of(fields: Dict[str, str], response: bytes) -> Tuple[str, bytes, Optional[str]]:
-    """The page of a response: its URL, its bytes, and the encoding that its header names."""
+    """The page of a response: its URL, its bytes, and the encoding that its header declares."""
     head, _, body = response.partition(b"\r\n\r\n")
     encoding = None
     for line in head.decode("latin-1").split("\r\n"):
@@ -99,7 +99,7 @@ def page_of(fields: Dict[str, str], response: bytes) -> Tuple[str, bytes, Option
 
 
 def pages_of(place: Place) -> Iterator[Tuple[str, bytes, Optional[str]]]:
-    """The pages at a place: of each what it is called, its bytes, and its encoding where that is known."""
+    """The pages at a place: for each, its name, its bytes, and its encoding if that is known."""
     if place.path.endswith(".warc.gz"):
         with gzip.open(place.path, "rb") as file:
             for _, _, (fields, response) in records_of(file):
@@ -114,7 +114,7 @@ def pages_of(place: Place) -> Iterator[Tuple[str, bytes, Optional[str]]]:
 
 
 def row_of(name: str, page: bytes, encoding: Optional[str]) -> Row:
-    """What is taken out of a page. Of one that can't be read the row has an error."""
+    """The row of a page. If the page can't be read, the row has an error."""
     try:
         text = hengaruto.decode(page, encoding)
         doc = hengaruto.parse(text)
@@ -132,7 +132,7 @@ def row_of(name: str, page: bytes, encoding: Optional[str]) -> Row:
 
 
 def most_memory() -> int:
-    """The bytes of memory that this process took at the most."""
+    """The peak memory of this process, in bytes."""
     with open("/proc/self/status") as file:
         return next(int(line.split()[1]) * 1024 for line in file if line.startswith("VmHWM"))
 
@@ -154,7 +154,7 @@ def write_parquet(rows: List[Row], path: str) -> None:
 
 
 def write_part(task: List[Place], number: int, folder: str, parquet: bool = False) -> Dict[str, Any]:
-    """Does a task: writes its part into the folder, and answers what it took."""
+    """Does a task: writes its part into the folder, and returns what the task took."""
     begun = time.process_time()
     rows: List[Row] = []
     read = 0

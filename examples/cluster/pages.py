@@ -1,11 +1,12 @@
 #!/usr/bin/env python3
-"""Takes title, text, links and cleaned HTML out of many pages, by processes of this machine, over dask.distributed.
+"""Extracts title, text, links and cleaned HTML from many pages, with processes of this machine, over dask.distributed.
 
-    pages.py PAGES FOLDER [--workers N] [--bytes N] [--parquet] [--reckon N]
+    `pages.py PAGES FOLDER [--workers N] [--bytes N] [--parquet] [--reckon N]`
 
-PAGES is a folder of *.html, *.htm, *.warc and *.warc.gz, or one of these files. For each task a part is written into FOLDER: lines of JSON,
-or Parquet, for which pyarrow is needed. A task has pages of 4 MB, if nothing is said. What it took is told at the end; with --reckon also
-what so many pages would take. Where a worker dies, others do its tasks again: no page is lost, and none is written twice.
+PAGES is a folder of *.html, *.htm, *.warc and *.warc.gz, or one of these files. Each task writes a part into FOLDER: JSON lines, or
+Parquet, which needs pyarrow. A task has one page, or pages of at most 4 MB or the given number of bytes. The time and memory of all tasks
+are printed at the end, and with `--reckon` also an estimate for N pages. If a worker dies, others do its tasks again: no page is lost, and
+none is written twice.
 """
 from __future__ import annotations
 
@@ -29,7 +30,7 @@ Answer = Dict[str, Any]
 def run(
     client: Any, tasks: List[List[extract.Place]], folder: str, parquet: bool = False, told: Optional[Callable[[Answer], None]] = None
 ) -> List[Answer]:
-    """Does the tasks on a cluster, and answers what each took. A folder that all workers see gets the parts."""
+    """Does the tasks on a cluster, and returns what each took. The parts are written into a folder that all workers see."""
     from distributed import as_completed
 
     os.makedirs(folder, exist_ok=True)
@@ -39,7 +40,7 @@ def run(
         answers.append(answer)
         if told is not None:
             told(answer)
-    # What workers left that died while they wrote.
+    # Parts that workers didn't finish before they died.
     for path in glob.glob(f"{glob.escape(folder)}/*.unfinished"):
         os.remove(path)
     return answers
@@ -94,7 +95,7 @@ def main() -> int:
     from distributed import Client, LocalCluster
 
     begun = time.time()
-    # One thread a worker: a process that dies takes one task with it.
+    # One thread per worker: a process that dies takes one task with it.
     with LocalCluster(n_workers=asked.workers, threads_per_worker=1, processes=True, dashboard_address=None) as cluster:
         with Client(cluster) as client:
             answers = run(client, tasks, os.path.abspath(asked.folder), asked.parquet)

@@ -1,4 +1,4 @@
-"""Pages by a cluster of processes: each page is there once, also where a worker is killed."""
+"""Pages on a cluster of processes: each page is written once, even if a worker is killed."""
 import gzip
 import json
 import os
@@ -44,7 +44,7 @@ def rows_in(folder):
 
 
 def in_turn(path, most, folder):
-    """The rows without a cluster."""
+    """The rows that one process writes, without a cluster."""
     os.makedirs(folder)
     for number, task in enumerate(extract.tasks_of(path, most)):
         extract.write_part(task, number, folder)

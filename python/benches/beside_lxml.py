@@ -1,11 +1,11 @@
 #!/usr/bin/env python3
-"""Processor time of the package beside lxml.html, in turn, on one page.
+"""Compares the processor time of the package with that of lxml.html, on one page.
 
-    beside_lxml.py [PAGE [ROUNDS]]    a file of UTF-8; if nothing is said, a page of 1 MB that is made here, and 5 rounds
+    beside_lxml.py [PAGE [ROUNDS]]    a file in UTF-8; by default a page of 1 MB that is made here, and 5 rounds
 
-In each round each library does each thing once; the least time of all rounds is told, in milliseconds of a processor, and with it the most
-memory that a process took which only parses. lxml.html is Debian's package python3-lxml. It stands on libxml2, which doesn't follow the
-rules of the standard, so both trees may differ.
+In each round each library does each thing once, one library after the other. The output is the least time of all rounds, in milliseconds of
+processor time, and the peak memory of a process that only parses. lxml.html is Debian's package python3-lxml. It uses libxml2, which
+doesn't follow the rules of the standard, so the two trees may differ.
 """
 import os
 import subprocess
@@ -32,7 +32,7 @@ print(most(), before)
 
 
 def made(size):
-    """A page of so many bytes, or somewhat more: headings, paragraphs with links and phrases, lists, tables, references."""
+    """A page of at least this size in bytes: headings, paragraphs with links and phrases, lists, tables, references."""
     parts, count, number = ["<!DOCTYPE html><html lang=en><head><meta charset=utf-8><title>A page</title></head><body>\n"], 0, 0
     while count < size:
         number += 1
@@ -82,7 +82,7 @@ def things_of_lxml():
 
 
 def round_of(things, page, least):
-    """Does each thing once, and keeps the least time of each."""
+    """Does each thing once, keeps the least time of each in `least`, and returns what it counted."""
     begun = time.process_time()
     tree = things["parse"](page)
     least["parse"] = min(least.get("parse", 1e9), time.process_time() - begun)
@@ -116,7 +116,7 @@ def main(words):
     try:
         libraries["lxml.html"] = things_of_lxml()
     except ImportError:
-        print("lxml lacks: Debian's package python3-lxml has it")
+        print("lxml is missing: install Debian's package python3-lxml")
     least, counts = {name: {} for name in libraries}, {}
     for _ in range(int(words[1]) if len(words) > 1 else 5):
         for name, things in libraries.items():
@@ -131,7 +131,7 @@ def main(words):
         print(f"{thing:10}" + "".join(cells))
     for name in libraries:
         peak, before = memory_of(name, path)
-        print(f"{name}: {peak} MB at the most, {before} MB before the parse")
+        print(f"{name}: {peak} MB at most, {before} MB before the parse")
 
 
 main(sys.argv[1:])

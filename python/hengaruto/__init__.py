@@ -1,4 +1,4 @@
-"""HTML parsing, cleaning and selecting by a proved library.
+"""Parses, cleans and selects HTML, with a formally verified library.
 
 >>> import hengaruto
 >>> doc = hengaruto.parse("<title>A page</title><p class=x>One <b>bold</b> word<p>Two")
@@ -11,10 +11,10 @@
 >>> hengaruto.clean("<b onclick=x>bold</b><script>y</script>")
 '<b>bold</b>'
 
-`parse`, `parse_fragment` and `Parser` give a `Document`, whose nodes are `Node`s. `text`, `links` and `clean` answer for a whole page at
-once. `decode` finds the encoding of a page. `hengaruto.trees` makes trees of lxml, ElementTree and BeautifulSoup.
+`parse`, `parse_fragment` and `Parser` return a `Document`, whose nodes are `Node`s. `text`, `links` and `clean` process a whole page at
+once. `decode` detects the encoding of a page and decodes it. `hengaruto.trees` makes trees of lxml, ElementTree and BeautifulSoup.
 
-Scripting is off by default: what stands in `noscript` is elements. Pages of bytes are UTF-8.
+Scripting is off by default: the content of `noscript` is parsed into elements. Pages that are bytes are taken as UTF-8.
 """
 from ._encoding import decode
 from ._input import Page

@@ -1,17 +1,19 @@
-"""The encoding of a page, as the HTML standard finds it, and its text."""
+"""Detects the encoding of a page, as the HTML standard defines it, and decodes the page."""
 from __future__ import annotations
 
 from typing import Optional, Tuple
 
 from ._library import given
 
-# Their byte order mark is no part of a text.
+# A byte order mark in one of these isn't part of the text.
 _MARKED = ("UTF-8", "UTF-16LE", "UTF-16BE")
 
 
 def decode(page: bytes, encoding: Optional[str] = None) -> str:
-    """The text of a page: by its byte order mark; else by `encoding`, which is that of the HTTP header; else by what its first 1,024 bytes
-    say; else as UTF-8 if it is that, and as windows-1252 if it isn't. U+FFFD stands for what isn't of the encoding.
+    """Decodes a page. Its encoding is that of its byte order mark; or else `encoding`, which is that of the HTTP header; or else the one
+    that its first 1,024 bytes declare. A page without any of these is UTF-8 if it is valid UTF-8, and windows-1252 if it isn't.
+
+    An unknown `encoding` is ignored. Each decoding error becomes U+FFFD.
 
     >>> decode("é".encode("utf-8")), decode("é".encode("latin-1")), decode(b"\\xe9", "windows-1251")
     ('é', 'é', 'й')
@@ -22,7 +24,7 @@ def decode(page: bytes, encoding: Optional[str] = None) -> str:
 
 
 def decoded(page: bytes, encoding: Optional[str] = None) -> Tuple[str, str]:
-    """The text of a page, and the name of its encoding, as the Encoding Standard writes it."""
+    """Returns the text of a page, and the name of its encoding as the Encoding Standard writes it."""
     page = bytes(page)
     name = said(page, encoding)
     if not name:
@@ -35,8 +37,8 @@ def decoded(page: bytes, encoding: Optional[str] = None) -> Tuple[str, str]:
 
 
 def said(page: bytes, encoding: Optional[str] = None) -> str:
-    """The name of the encoding that a page's bytes are in, if anything says it: a byte order mark, `encoding` if that is a label, or the
-    page (HTML standard, section 13.2.3.2). It is empty where nothing does.
+    """Returns the name of a page's encoding, which a byte order mark, `encoding` or the page itself declares (HTML standard, section
+    13.2.3.2). `encoding` is ignored if it isn't a known label. If nothing declares the encoding, the name is empty.
 
     >>> said(b"<meta charset=latin1>"), said(b"<meta charset=latin1>", "euc-kr"), said(b"<p>")
     ('windows-1252', 'EUC-KR', '')

@@ -1,4 +1,4 @@
-"""What a page may be given as."""
+"""The types of a page, and its bytes."""
 from __future__ import annotations
 
 import re
@@ -10,13 +10,13 @@ _SURROGATE = re.compile("[\ud800-\udfff]")
 
 
 def utf8(page: Page) -> bytes:
-    """The bytes of a page. In a str U+FFFD stands for a surrogate, which UTF-8 hasn't got."""
+    """Returns a page in UTF-8. A surrogate in a str, which UTF-8 can't encode, becomes U+FFFD."""
     if isinstance(page, bytes):
         return page
     if isinstance(page, (bytearray, memoryview)):
         return bytes(page)
     if not isinstance(page, str):
-        raise TypeError(f"a page is a str or bytes, not {type(page).__name__}")
+        raise TypeError(f"a page must be str or bytes, not {type(page).__name__}")
     try:
         return page.encode("utf-8")
     except UnicodeEncodeError:

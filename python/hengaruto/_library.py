@@ -1,4 +1,4 @@
-"""The shared library, by ctypes: no compiler is needed, and other threads run during a call."""
+"""The shared library, called with ctypes: this needs no compiler, and other threads run during a call."""
 from __future__ import annotations
 
 import ctypes
@@ -24,20 +24,20 @@ _SIGNATURES = {
 
 
 class Error(ValueError):
-    """What was given is no tree, or a wrong argument."""
+    """An invalid argument, or bytes that aren't a tree."""
 
 
 class SelectorError(Error):
-    """A selector that is none. The message says what is wrong, and where."""
+    """An invalid selector. The message says what is wrong, and at which character offset."""
 
 
-# They are shown, and pickled, by the names that callers know.
+# They are shown and pickled with the names that callers know.
 Error.__module__ = SelectorError.__module__ = "hengaruto"
 
 _MESSAGES = {
-    NO_NODE: "there is no such node",
-    NO_TREE: "these bytes are no tree",
-    BAD_ARGUMENT: "a name that isn't UTF-8, a namespace that isn't that of HTML, MathML or SVG, or an unknown label",
+    NO_NODE: "no such node",
+    NO_TREE: "not a tree: invalid block",
+    BAD_ARGUMENT: "invalid argument: a name that isn't UTF-8, a namespace other than HTML, MathML and SVG, or an unknown encoding label",
 }
 
 
@@ -46,7 +46,7 @@ def _loaded() -> Any:
     try:
         library = ctypes.CDLL(path)
     except OSError as error:
-        raise ImportError(f"{error}. The wheel has the library; HENGARUTO_LIBRARY may name another.") from None
+        raise ImportError(f"{error}. The wheel contains the library; HENGARUTO_LIBRARY overrides its path.") from None
     for name, arguments in _SIGNATURES.items():
         function = getattr(library, "hengaruto_" + name)
         function.argtypes, function.restype = arguments, _U32
@@ -59,11 +59,11 @@ _free.argtypes, _free.restype = [ctypes.c_void_p], None
 
 
 def given(name: str, *arguments: Any) -> bytes:
-    """What a call gives. The library's memory is freed."""
+    """Returns the result of a call, and frees the memory of the library."""
     out, length = ctypes.c_void_p(), ctypes.c_size_t()
     status = getattr(_library, "hengaruto_" + name)(*arguments, ctypes.byref(out), ctypes.byref(length))
     if status == MEMORY:
-        raise MemoryError("hengaruto: memory was refused, or the tree has 4 GiB or more")
+        raise MemoryError("hengaruto: out of memory, or the tree is 4 GiB or larger")
     if status not in (OK, BAD_SELECTOR):
         raise Error(_MESSAGES.get(status, f"status {status}"))
     try:
@@ -76,5 +76,5 @@ def given(name: str, *arguments: Any) -> bytes:
 
 
 def is_tree(block: bytes) -> bool:
-    """Whether a block is such as `parse` makes. It looks at all of it."""
+    """Returns true if a block has the structure of one that `parse` makes. Reads all of it."""
     return bool(_library.hengaruto_check(block, len(block)) == OK)

@@ -1,4 +1,4 @@
-"""Whole pages at once, and pages in pieces."""
+"""Whole pages at once, and pages in chunks."""
 from __future__ import annotations
 
 from typing import List, Optional, Tuple
@@ -9,9 +9,11 @@ from ._tree import Document, parse
 
 
 def text(page: Page, *, width: Optional[int] = None) -> str:
-    """The text of a page as a browser shows it without a style sheet: blocks in lines of their own, items with their marks, no scripts.
+    """Returns the text of a page, laid out as a browser shows it without a style sheet: blocks on separate lines, list items with their
+    markers, no scripts.
 
-    With a `width` lines are wrapped at so many columns.
+    Lines are wrapped at `width` columns, or not at all if no width is given. A width below 1 raises a `ValueError`. The others differ: for
+    the width 0 the program prints one word per line, and the library for C doesn't wrap.
 
     >>> print(text("<h1>A page</h1><p>One <b>bold</b> word<ul><li>x<li>y</ul><script>z</script>"), end="")
     A page
@@ -24,13 +26,13 @@ def text(page: Page, *, width: Optional[int] = None) -> str:
     'one two\\nthree\\n'
     """
     if width is not None and width < 1:
-        raise ValueError("a width is at least 1")
+        raise ValueError("width must be at least 1")
     page = utf8(page)
     return str(_library.given("page_text", page, len(page), width or 0), "utf-8", "replace")
 
 
 def links(page: Page) -> List[Tuple[str, str]]:
-    """The links of a page: of each its href, and its text, as they stand.
+    """Returns the links of a page, which are its elements `a`, of HTML or SVG, with an href: pairs of href and text, unchanged.
 
     >>> links("<a href='/x'>a <b>link</b></a>")
     [('/x', 'a link')]
@@ -41,10 +43,12 @@ def links(page: Page) -> List[Tuple[str, str]]:
 
 
 def clean(html: Page) -> str:
-    """The HTML that is safe to show of a fragment that somebody sent: phrases, links, images, headings, blocks, lists and tables.
+    """Returns the HTML that the default policy allows of an untrusted fragment: phrases, links, images, headings, blocks, lists and tables.
 
-    Scripts, styles, forms and frames go, and links lead to http, https, mailto or a relative URL. It is meant for a place in a page of
-    UTF-8 where blocks may stand. It is proved that a parser reads it as it was meant, and that it stays as it is when it is cleaned again.
+    Scripts, styles, forms and frames are removed. URLs are relative, http or https, and in links also mailto. The result is safe to show in
+    a page in UTF-8, where block elements are allowed, and not inside a script, a style, an attribute or a comment. Two things are proved:
+    parsed as a fragment in an element such as `div`, the result is exactly the tree that was allowed; and cleaning it again doesn't change
+    it.
 
     >>> clean('<p onclick="alert(1)">A <b>nice</b> page<script>alert(2)</script>')
     '<p>A <b>nice</b> page</p>'
@@ -54,13 +58,13 @@ def clean(html: Page) -> str:
 
 
 class Parser:
-    """A page that comes in pieces of bytes or text. How it is cut makes no difference.
+    """A page that arrives in chunks of bytes or text. How it is split makes no difference.
 
-    The pieces are kept, and parsed once the last one is there.
+    The chunks are kept, and `close` parses them.
 
     >>> parser = Parser()
-    >>> for piece in (b"<p>caf", b"\\xc3", b"\\xa9"):
-    ...     parser.feed(piece)
+    >>> for chunk in (b"<p>caf", b"\\xc3", b"\\xa9"):
+    ...     parser.feed(chunk)
     >>> parser.close().find("p").text()
     'café'
     """
@@ -70,14 +74,14 @@ class Parser:
         self._scripting, self._iframe_srcdoc = scripting, iframe_srcdoc
 
     def feed(self, piece: Page) -> None:
-        """Takes the next piece."""
+        """Adds the next chunk."""
         if self._pieces is None:
             raise ValueError("the parser is closed")
-        # A copy, since a bytearray may change until the end.
+        # A copy, since the caller may change a bytearray before the end.
         self._pieces.append(utf8(piece))
 
     def close(self) -> Document:
-        """The tree of all pieces. After this the parser takes no more."""
+        """Returns the tree of all chunks. After this the parser accepts no more."""
         if self._pieces is None:
             raise ValueError("the parser is closed")
         page, self._pieces = b"".join(self._pieces), None

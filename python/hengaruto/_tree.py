@@ -1,4 +1,4 @@
-"""A tree: a block of bytes, and light objects that look into it."""
+"""A tree: a block of bytes, and lightweight objects that refer to it."""
 from __future__ import annotations
 
 from typing import Any, Dict, Iterator, List, Optional, Sequence, Tuple, TypeVar, Union
@@ -34,10 +34,10 @@ _D = TypeVar("_D")
 
 
 def parse(page: Page, *, scripting: bool = False, iframe_srcdoc: bool = False) -> Document:
-    """The tree of a page, as browsers build it.
+    """Parses a page into the tree that browsers build.
 
-    Bytes are UTF-8; those in another encoding are decoded first: `parse(decode(page))`. Scripting is off by default: what stands in
-    `noscript` is elements, as with html5lib and lxml. With `scripting=True` it is one text, as in a browser that runs scripts. With
+    Bytes are taken as UTF-8. Decode bytes in another encoding first: `parse(decode(page))`. Scripting is off by default, as in html5lib and
+    lxml: the content of `noscript` is parsed into elements. With `scripting=True` it is text, as in a browser that runs scripts. With
     `iframe_srcdoc=True` the page is the srcdoc of an iframe.
 
     >>> parse("<title>A page</title><p>One <b>bold</b> word").to_html()
@@ -52,8 +52,8 @@ def parse(page: Page, *, scripting: bool = False, iframe_srcdoc: bool = False) -
 
 
 def parse_fragment(page: Page, context: str = "div", *, scripting: bool = False) -> Document:
-    """The tree of a fragment, as innerHTML of an element makes it. Its name is `context`, with `svg` or `math` and a blank in front where
-    it is one of theirs. Scripting is off by default, as with `parse`.
+    """Parses a fragment, as innerHTML of an element does. `context` is the name of the element. For an element of SVG or MathML, `svg` or
+    `math` and a space precede the name. Scripting is off by default, as in `parse`. An invalid context raises an `Error`.
 
     >>> parse_fragment("<td>1", "tr").to_html()
     '<td>1</td>'
@@ -65,7 +65,7 @@ def parse_fragment(page: Page, context: str = "div", *, scripting: bool = False)
     page = utf8(page)
     space, _, name = context.rpartition(" ")
     if space not in _CONTEXTS:
-        raise _library.Error(f"no context: {context!r}")
+        raise _library.Error(f"invalid context: {context!r}")
     local = utf8(name)
     return Document(
         _library.given("parse_fragment", page, len(page), local, len(local), _CONTEXTS[space], _options(scripting, False))
@@ -73,20 +73,21 @@ def parse_fragment(page: Page, context: str = "div", *, scripting: bool = False)
 
 
 def load(block: Union[bytes, bytearray, memoryview]) -> Document:
-    """The tree of a block, which `Document.block` gave: from a file, or from another process.
+    """Returns the tree of a block: the bytes of `Document.block`, from a file or from another process.
 
-    Any bytes may be given. The library looks at all of them once; an `Error`, which is a `ValueError`, says that they are no tree.
+    Any bytes may be passed. The library checks all of them once, and bytes that don't have the structure of a block raise an `Error`, which
+    is a `ValueError`.
 
     >>> load(parse("<p>x").block).find("p").text()
     'x'
     >>> load(b"a page")
     Traceback (most recent call last):
     ...
-    hengaruto.Error: these bytes are no tree
+    hengaruto.Error: not a tree: invalid block
     """
     block = bytes(block)
     if not _library.is_tree(block):
-        raise _library.Error("these bytes are no tree")
+        raise _library.Error("not a tree: invalid block")
     return Document(block)
 
 
@@ -95,7 +96,7 @@ def _options(scripting: bool, iframe_srcdoc: bool) -> int:
 
 
 class Document:
-    """A tree, as `parse`, `parse_fragment` and `load` make it. It never changes, any number of threads may read it, and it can be pickled.
+    """A tree that `parse`, `parse_fragment` or `load` returned. It never changes, any number of threads may read it, and it can be pickled.
 
     >>> doc = parse("<!DOCTYPE html><title> A  page </title><p class=x>One<p>Two")
     >>> doc
@@ -112,7 +113,7 @@ class Document:
     )
 
     block: bytes
-    """The bytes that the tree is. `load` makes a Document of them."""
+    """The tree as bytes. `load` makes a Document of them again."""
     quirks: int
     """0 no quirks, 1 limited quirks, 2 quirks."""
 
@@ -120,11 +121,11 @@ class Document:
         view = memoryview(block)
         words = view[: len(block) // 4 * 4].cast("I")
         if len(words) < _HEAD or view[:4] != b"HGT1":
-            raise _library.Error("these bytes are no tree")
+            raise _library.Error("not a tree: invalid block")
         nodes, rows, names = words[3], words[4], words[5]
         pools = 4 * (_HEAD + 5 * nodes + 2 + 2 * rows + 2 * names)
         if words[1] != len(block) or pools + words[6] + words[7] + words[8] != len(block):
-            raise _library.Error("these bytes are no tree")
+            raise _library.Error("not a tree: invalid block")
         self.block, self.quirks, self._count = block, words[2], nodes
         parts, at = [], _HEAD
         for count in (nodes, nodes, nodes, nodes + 1, nodes + 1, rows, rows, names, names):
@@ -149,19 +150,19 @@ class Document:
         return f"<hengaruto.Document of {self._count} nodes>"
 
     def __getitem__(self, index: int) -> Node:
-        """The node of a number, from 0, which is the document itself. Numbers go in tree order."""
+        """The node with this number. Numbers are in tree order, from 0, which is the document itself."""
         if not 0 <= index < self._count:
-            raise IndexError(f"there is no node {index}")
+            raise IndexError(f"no node {index}")
         return Node(self, index)
 
     @property
     def node(self) -> Node:
-        """The document node; of a fragment the fragment."""
+        """The document node; for a fragment, the fragment node."""
         return Node(self, 0)
 
     @property
     def root(self) -> Optional[Node]:
-        """The html element; of a fragment its first element, if it has one.
+        """The html element; for a fragment, its first top-level element, or None.
 
         >>> parse("").root.name, parse_fragment("x").root
         ('html', None)
@@ -170,26 +171,26 @@ class Document:
 
     @property
     def title(self) -> Optional[str]:
-        """The text of the first title of HTML, with one blank for each run of them, or None."""
+        """The text of the first HTML title, with each run of whitespace as one space and none at the ends, or None."""
         html = NAMESPACES[1]
         found = next((node for node in self.iter("title") if node.namespace == html), None)
         return None if found is None else " ".join(found.text().split())
 
     def iter(self, name: Optional[str] = None) -> Iterator[Node]:
-        """All elements in tree order, or those of a local name."""
+        """All elements in tree order, or only those with this local name."""
         return self.node.iter(name)
 
     def find(self, name: str) -> Optional[Node]:
-        """The first element of a local name, or None."""
+        """The first element with this local name, or None."""
         return self.node.find(name)
 
     def find_all(self, name: str) -> List[Node]:
-        """All elements of a local name, in tree order."""
+        """All elements with this local name, in tree order."""
         return self.node.find_all(name)
 
     def select(self, selector: str) -> List[Node]:
-        """The elements that a CSS selector matches, each once, in tree order. A selector that is none is a `SelectorError`, and a block
-        into which no tree was packed is an `Error`.
+        """The elements that a CSS selector matches, each once, in tree order. An invalid selector raises a `SelectorError`, and a block
+        into which no tree was packed an `Error`.
 
         >>> doc = parse("<ul><li>1<li class=x>2<li>3</ul>")
         >>> [node.text() for node in doc.select("li.x, li:first-child")]
@@ -202,7 +203,7 @@ class Document:
         return self.node.select_first(selector)
 
     def text(self) -> str:
-        """All texts, joined as they stand. `hengaruto.text` lays a page out as a browser shows it.
+        """All texts, joined and unchanged. `hengaruto.text` lays a page out as a browser shows it.
 
         >>> parse("<p>One <b>bold</b><p>word").text()
         'One boldword'
@@ -214,7 +215,7 @@ class Document:
         return self.node.inner_html()
 
     def links(self) -> Iterator[Tuple[str, str]]:
-        """Of each `a` of HTML that has an href: the href as it stands, and its text.
+        """The links, which are the HTML elements `a` with an href: pairs of href and text, unchanged.
 
         >>> list(parse("<p><a href='x?a&amp;b'>a <b>link</b></a>").links())
         [('x?a&b', 'a link')]
@@ -226,7 +227,7 @@ class Document:
                 yield href, node.text()
 
     def _words_of(self, name: str) -> List[int]:
-        """The kind words of the elements of a local name."""
+        """The kind words of the elements with this local name."""
         if self._words is None:
             words: Dict[str, List[int]] = {}
             for number, local in enumerate(self._locals):
@@ -244,7 +245,7 @@ class Document:
 
 
 class Node:
-    """A node of a document: a number that looks into its block. Nodes are equal where they are one node of one document.
+    """A node of a document: a number in its block. Nodes are equal if they are the same node of the same document.
 
     >>> p = parse("<p class=a id=b>One <b>bold</b> word").find("p")
     >>> p
@@ -278,12 +279,12 @@ class Node:
 
     @property
     def kind(self) -> int:
-        """`ELEMENT`, `TEXT`, `COMMENT`, `DOCTYPE`, `DOCUMENT`, `FRAGMENT`: the nodeType of the DOM."""
+        """`ELEMENT`, `TEXT`, `COMMENT`, `DOCTYPE`, `DOCUMENT`, `FRAGMENT` or `INSTRUCTION`: the nodeType of the DOM."""
         return self.document._kinds[self.index] & 255
 
     @property
     def name(self) -> Optional[str]:
-        """The local name of an element, in small letters where it is one of HTML; the name of a doctype; else None."""
+        """The local name of an element, in lower case for HTML; the name of a doctype; for other nodes None."""
         word = self.document._kinds[self.index]
         if word & 255 == ELEMENT:
             return _item(self.document._locals, word >> 8, "")
@@ -291,7 +292,7 @@ class Node:
 
     @property
     def namespace(self) -> Optional[str]:
-        """The URL of an element's namespace; else None.
+        """The URL of an element's namespace; for other nodes None.
 
         >>> parse("<svg>").find("svg").namespace
         'http://www.w3.org/2000/svg'
@@ -303,7 +304,7 @@ class Node:
 
     @property
     def attrs(self) -> Dict[str, str]:
-        """The attributes as a new dict, in their order. One in a namespace has its prefix, as `xlink:href`."""
+        """The attributes as a new dict, in their order. The name of one in a namespace has its prefix, such as `xlink:href`."""
         document = self.document
         if self.kind != ELEMENT:
             return {}
@@ -311,7 +312,7 @@ class Node:
         return {_item(keys, names[row], ""): document._value(row) for row in self._row_range()}
 
     def get(self, name: str, default: Optional[str] = None) -> Optional[str]:
-        """The value of an attribute, or `default`."""
+        """The value of an attribute, or `default` if the node doesn't have it."""
         document = self.document
         if self.kind == ELEMENT:
             keys, names = document._keys, document._row_names
@@ -331,7 +332,7 @@ class Node:
 
     @property
     def data(self) -> Optional[str]:
-        """What a text, a comment or an instruction says; else None.
+        """The text of a text, a comment or a processing instruction; for other nodes None.
 
         >>> parse("<!--c-->").node.children().__next__().data
         'c'
@@ -343,30 +344,30 @@ class Node:
 
     @property
     def public_id(self) -> Optional[str]:
-        """The public identifier of a doctype, empty if it has none; else None."""
+        """The public identifier of a doctype, empty if it has none; for other nodes None."""
         return self._row(1) if self.kind == DOCTYPE else None
 
     @property
     def system_id(self) -> Optional[str]:
-        """The system identifier of a doctype, empty if it has none; else None."""
+        """The system identifier of a doctype, empty if it has none; for other nodes None."""
         return self._row(2) if self.kind == DOCTYPE else None
 
     @property
     def parent(self) -> Optional[Node]:
-        """The node above, or None."""
+        """The parent, or None."""
         above = self.document._parents[self.index]
         return Node(self.document, above) if above < self.index else None
 
     @property
     def next(self) -> Optional[Node]:
-        """The next node with the same parent, or None."""
+        """The next sibling, or None."""
         document, end = self.document, self._end()
         if end < document._count and document._parents[end] == document._parents[self.index]:
             return Node(document, end)
         return None
 
     def children(self) -> Iterator[Node]:
-        """The nodes right below, in their order. A template's only child is a FRAGMENT, its contents."""
+        """The children, in order. A template's only child is a FRAGMENT, its contents."""
         document, at, end = self.document, self.index + 1, self._end()
         while at < end:
             child = Node(document, at)
@@ -376,7 +377,7 @@ class Node:
     __iter__ = children
 
     def ancestors(self) -> Iterator[Node]:
-        """The nodes above, the nearest first.
+        """The ancestors, the nearest first.
 
         >>> [node.name for node in parse("<p><b>x").find("b").ancestors()]
         ['p', 'body', 'html', None]
@@ -387,12 +388,12 @@ class Node:
             above = above.parent
 
     def descendants(self) -> Iterator[Node]:
-        """All nodes below, of all kinds, in tree order."""
+        """All nodes below this one, of all kinds, in tree order."""
         document = self.document
         return (Node(document, index) for index in range(self.index + 1, self._end()))
 
     def iter(self, name: Optional[str] = None) -> Iterator[Node]:
-        """All elements below in tree order, or those of a local name."""
+        """All elements below this node in tree order, or only those with this local name."""
         document, start = self.document, self.index + 1
         kinds = document._kinds[start : self._end()]
         if name is None:
@@ -404,16 +405,16 @@ class Node:
         return (Node(document, index) for index, word in enumerate(kinds, start) if word in words)
 
     def find(self, name: str) -> Optional[Node]:
-        """The first element below of a local name, or None."""
+        """The first element below this node with this local name, or None."""
         return next(self.iter(name), None)
 
     def find_all(self, name: str) -> List[Node]:
-        """All elements below of a local name, in tree order."""
+        """All elements below this node with this local name, in tree order."""
         return list(self.iter(name))
 
     def select(self, selector: str) -> List[Node]:
-        """The elements below that a CSS selector matches, each once, in tree order. A selector that is none is a `SelectorError`, and a
-        block into which no tree was packed is an `Error`.
+        """The elements below this node that a CSS selector matches, each once, in tree order. An invalid selector raises a
+        `SelectorError`, and a block into which no tree was packed an `Error`.
 
         >>> [node["href"] for node in parse("<nav><a href=x></a></nav><a href=y></a>").find("nav").select("a[href]")]
         ['x']
@@ -422,7 +423,7 @@ class Node:
         return [Node(document, index) for index in self._selected(selector)]
 
     def select_first(self, selector: str) -> Optional[Node]:
-        """The first element below that a CSS selector matches, or None.
+        """The first element below this node that a CSS selector matches, or None.
 
         >>> parse("<p>x<p>y").select_first("p + p").text()
         'y'
@@ -431,11 +432,11 @@ class Node:
         return Node(self.document, found[0]) if len(found) else None
 
     def text(self) -> str:
-        """The texts of all that stands below, joined; of a text its own."""
+        """The text of a text node; for other nodes, all texts below them, joined."""
         return self.document._text(self.index, self._end())
 
     def to_html(self) -> str:
-        """The HTML of the node with itself, as outerHTML.
+        """The HTML of this node and all below it, as outerHTML.
 
         >>> parse("<p>1 &lt; 2<br>").find("p").to_html()
         '<p>1 &lt; 2<br></p>'
@@ -443,7 +444,7 @@ class Node:
         return self._html(1)
 
     def inner_html(self) -> str:
-        """The HTML of what stands below the node, as innerHTML."""
+        """The HTML of the nodes below this one, as innerHTML."""
         return self._html(0)
 
     def _html(self, outer: int) -> str:
@@ -455,11 +456,11 @@ class Node:
         try:
             text = selector.encode("utf-8")
         except UnicodeEncodeError as error:
-            raise _library.SelectorError(f"a surrogate behind {error.start} characters") from None
+            raise _library.SelectorError(f"at offset {error.start}: a surrogate can't be encoded in UTF-8") from None
         return memoryview(_library.given("select", block, len(block), self.index, text, len(text))).cast("I")
 
     def _end(self) -> int:
-        """The number behind all that stands below."""
+        """The number of the first node after the subtree."""
         return max(self.document._ends[self.index], self.index + 1)
 
     def _row_range(self) -> range:
@@ -472,5 +473,5 @@ class Node:
 
 
 def _item(items: Sequence[_T], index: int, default: _D) -> Union[_T, _D]:
-    """An item, or the default where there is none: a block that was changed may name one."""
+    """An item, or the default if there is no such item: a changed block may refer to one."""
     return items[index] if index < len(items) else default

@@ -1,4 +1,4 @@
-"""Trees of other libraries, made of a Document or of a Node: those of lxml, of ElementTree, and of BeautifulSoup.
+"""Makes trees of lxml, ElementTree and BeautifulSoup from a Document or a Node.
 
 >>> import hengaruto
 >>> from hengaruto.trees import to_etree
@@ -6,8 +6,8 @@
 >>> root.find("body/p").attrib, root.findtext("head/title")
 ({'class': 'x'}, 'A page')
 
-What stands in a template stands below it. Comments before and behind the root element, and the doctype, are left out of lxml's trees and
-ElementTree's: they hang at the root element alone.
+The content of a template is below it. The trees of lxml and ElementTree have neither the doctype nor the comments before and after the root
+element: they begin with the root element.
 """
 from __future__ import annotations
 
@@ -25,10 +25,9 @@ _NAME = re.compile(r"[^\W\d][\w.-]*\Z")
 
 
 def to_etree(tree: Union[Document, Node], *, namespaces: bool = False) -> Any:
-    """The root element, or that of a Node, as `xml.etree.ElementTree` has it; None where there is no element.
+    """Returns the root element, or the element of a Node, as an element of `xml.etree.ElementTree`; None if there is no element.
 
-    Names of HTML's elements are plain, and with `namespaces=True` they have HTML's namespace in front. Those of SVG and MathML always have
-    theirs.
+    The names of HTML elements have no namespace, unless `namespaces` is true. The names of SVG and MathML elements always have theirs.
 
     >>> [child.tag for child in to_etree(parse("<svg><a/></svg>")).find("body").iter()]
     ['body', '{http://www.w3.org/2000/svg}svg', '{http://www.w3.org/2000/svg}a']
@@ -44,10 +43,10 @@ def to_etree(tree: Union[Document, Node], *, namespaces: bool = False) -> Any:
 
 
 def to_lxml(tree: Union[Document, Node], *, namespaces: bool = False) -> Any:
-    """The root element, or that of a Node, of the classes of `lxml.html`; None where there is no element.
+    """Returns the root element, or the element of a Node, as an element of `lxml.html`; None if there is no element.
 
-    lxml takes what XML allows. U+FFFD stands for other characters, and a name is changed as html5lib changes it: `a<b` is `aU0003Cb`. In a
-    comment blanks part two dashes.
+    lxml accepts only what XML allows. Other characters become U+FFFD, and names are changed as html5lib changes them: `a<b` becomes
+    `aU0003Cb`. In a comment, a space separates two dashes and follows a dash at the end.
     """
     import lxml.etree
     import lxml.html
@@ -61,9 +60,9 @@ def to_lxml(tree: Union[Document, Node], *, namespaces: bool = False) -> Any:
 
 
 def register_soup() -> type:
-    """After this `bs4.BeautifulSoup(page, "hengaruto")` parses by this library. It gives the builder's class.
+    """Registers a tree builder, and returns its class: after this, `bs4.BeautifulSoup(page, "hengaruto")` parses with this library.
 
-    Bytes are decoded as `hengaruto.decode` does it; `from_encoding` stands in place of the HTTP header.
+    Bytes are decoded as by `hengaruto.decode`, with `from_encoding` in place of the HTTP header.
     """
     import bs4  # noqa: F401
     from bs4.builder import HTML, HTML_5, PERMISSIVE, HTMLTreeBuilder, builder_registry
@@ -96,7 +95,7 @@ def register_soup() -> type:
 
 
 def _feed(soup: Any, document: Document) -> None:
-    """Hands a tree to a soup."""
+    """Passes a tree to a soup."""
     from bs4.element import Comment, Doctype
 
     ends: List[Tuple[int, str]] = []
@@ -122,12 +121,12 @@ def _feed(soup: Any, document: Document) -> None:
 
 
 def _as_xml(text: str) -> str:
-    """The text, with U+FFFD for what XML doesn't allow."""
+    """Returns the text, with U+FFFD for each character that XML doesn't allow."""
     return _NO_XML.sub("\ufffd", text)
 
 
 def _xml_name(local: str) -> str:
-    """The name, or one that XML allows: U0003C for `<`, as html5lib writes it."""
+    """Returns the name, or one that XML allows: with U0003C for `<`, as html5lib writes it."""
     if _NAME.match(local):
         return local
     head, tail = local[:1], local[1:]
@@ -145,7 +144,7 @@ def _built(
     allowed: Callable[[str], str],
     named: Callable[[str], str],
 ) -> Any:
-    """Makes elements of an element and of what stands below it, with texts and names as they are allowed."""
+    """Makes elements of an element and of all below it. `allowed` and `named` change texts and names that aren't allowed."""
     top = tree.root if isinstance(tree, Document) else tree
     if top is None or top.kind != ELEMENT:
         return None

@@ -1,4 +1,4 @@
-"""Blocks: stored, sent, shared by threads, cut and changed."""
+"""Blocks: stored, sent, shared by threads, truncated and changed."""
 import contextlib
 import copy
 import multiprocessing
@@ -65,7 +65,7 @@ def test_cut_blocks():
 
 
 def read_all_of(doc):
-    """Every read of every node."""
+    """Calls every read of every node."""
     for node in [doc.node, *doc.node.descendants()]:
         repr(node), node.kind, node.name, node.namespace, node.attrs, node.data, node.public_id, node.get("id")
         node.text(), node.to_html(), node.inner_html(), list(node.children()), list(node.ancestors()), node.next
@@ -75,7 +75,7 @@ def read_all_of(doc):
 
 
 def test_changed_blocks():
-    """A changed block is refused, or all its reads answer; no element is selected in one that has no tree."""
+    """A changed block is rejected, or all its reads return; selecting in one without a tree raises an error."""
     block, rand = hengaruto.parse(PAGE).block, random.Random(1)
     loaded = 0
     for _ in range(2000):

@@ -89,7 +89,7 @@ def test_select(doc):
     assert doc.select_first("p > b").text() == "bold" and doc.select_first("p > table") is None
     p = doc.find("p")
     assert p.select("b") == [doc.find("b")] and p.select("a") == [] and p.next.select_first("a")["href"] == "x?a&b"
-    # A name of HTML stands for its elements of all namespaces, and a template holds none below it.
+    # The selector matches elements of both namespaces, and the content of a template isn't below the document.
     assert len(doc.select("a")) == 2 and doc.select("i") == []
 
 
@@ -98,7 +98,9 @@ def test_wrong_selectors(doc, selector):
     for call in (doc.select, doc.select_first, doc.root.select, doc.root.select_first):
         with pytest.raises(hengaruto.SelectorError) as caught:
             call(selector)
-        assert isinstance(caught.value, ValueError) and isinstance(caught.value, hengaruto.Error) and "behind" in str(caught.value)
+        assert isinstance(caught.value, ValueError) and isinstance(caught.value, hengaruto.Error)
+        # The message has the offset.
+        assert any(map(str.isdigit, str(caught.value)))
 
 
 def test_scripting():

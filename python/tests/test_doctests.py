@@ -1,4 +1,4 @@
-"""The examples in the docstrings, and in README.md."""
+"""Runs the examples in the docstrings and in README.md."""
 import doctest
 import importlib
 import os
@@ -17,7 +17,7 @@ def test_docstrings(name):
 
 
 def test_readme():
-    """What stands behind # in a line of README is what the line gives."""
+    """The value after a # in a line of README is the value of the line."""
     with open(README, encoding="utf-8") as file:
         code = re.search(r"```python\n(.*?)```", file.read(), re.S)[1]
     names, shown = {}, 0

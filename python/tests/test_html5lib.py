@@ -1,7 +1,7 @@
-"""html5lib's cases for tree construction, those of Debian's package golang-golang-x-net-dev, or of the folder that HTML5LIB_TESTS names.
+"""Runs html5lib's cases for tree construction, from Debian's package golang-golang-x-net-dev or from the folder that HTML5LIB_TESTS names.
 
-Some cases are older than two rules of the standard, those of `select` and of HTML tags in a fragment whose context is foreign:
-docs/DIFFERENCES.md has them. They are expected to fail, and counted.
+Some cases are older than two rules of the standard, for `select` and for HTML tags in a fragment with a foreign context: see
+docs/DIFFERENCES.md. They are expected to fail, and counted.
 """
 import collections
 import glob
@@ -18,14 +18,14 @@ FOLDER = os.environ.get("HTML5LIB_TESTS", DEBIAN)
 SECTION = re.compile(r"#(data|errors|new-errors|document-fragment|document|script-off|script-on)")
 BREAK_OUT = {"<nobr>X", "<font color></font>X", "<div></div>", "<div><h1>X</h1></div>"}
 SPACES = {"http://www.w3.org/2000/svg": "svg ", "http://www.w3.org/1998/Math/MathML": "math "}
-# Of the cases of Debian's 0.7.0.
+# The numbers for the cases of Debian's version 0.7.0.
 CASES, BY_SELECT, BY_FOREIGN = 1708, 18, 6
 
 seen = collections.Counter()
 
 
 def cases_in(path):
-    """The cases of a file, each by its sections."""
+    """The cases of a file, each as a dict of its sections."""
     with open(path, encoding="utf-8", newline="") as file:
         text = file.read()
     for part in re.split(r"(?:^|\n)(?=#data\n)", text):
@@ -48,14 +48,14 @@ def cases():
 
 
 def key_of(node, key):
-    """The name of an attribute as the cases have it."""
+    """The name of an attribute, as the cases write it."""
     prefix, colon, local = key.partition(":")
     is_foreign = node.namespace in SPACES
     return f"{prefix} {local}" if colon and is_foreign and prefix in ("xlink", "xml", "xmlns") else key
 
 
 def lines_of(node, indent=""):
-    """A tree as the cases have it."""
+    """The lines of a tree, as the cases write it."""
     for child in node.children():
         if child.kind == ELEMENT:
             yield f"| {indent}<{SPACES.get(child.namespace, '')}{child.name}>"
@@ -96,5 +96,5 @@ def test_tree(case):
 
 def test_differences_are_those_that_are_known():
     if FOLDER != DEBIAN or seen["cases"] != CASES:
-        pytest.skip("these aren't all cases of Debian's 0.7.0")
+        pytest.skip("these aren't all cases of Debian's version 0.7.0")
     assert (seen["select"], seen["foreign"]) == (BY_SELECT, BY_FOREIGN)

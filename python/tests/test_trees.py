@@ -1,4 +1,4 @@
-"""Trees of other libraries, and the same tree as html5lib's of pages."""
+"""Trees of other libraries, and a comparison with the trees that html5lib builds."""
 import glob
 import os
 import random
@@ -14,7 +14,8 @@ PAGE = (
     "<template><i>in</i></template>"
 )
 FOLDERS = [f"{ROOT}/examples", "/usr/share/doc"]
-# Words of random pages, of rules that html5lib 1.1 has as the standard has them. In cells it treats blanks otherwise, so none stands alone.
+# Parts of random pages, for rules that html5lib 1.1 implements as the standard has them. No part is whitespace, which html5lib treats
+# differently in cells.
 WORDS = [
     "<p>", "</p>", "<div>", "</div>", "<b>", "</b>", "<i>", "</i>", "<a href=x>", "</a>", "<ul>", "<li>", "</ul>", "<table><tr><td>",
     "</td></tr></table>", "<h1>", "</h1>", "<br>", "<img src=x>", "<!--c-->", "x", "y z", "&amp;", "&eacute;", "é", "<dl>", "<dt>", "<dd>",
@@ -82,7 +83,7 @@ def test_soup():
 
 
 def shape_of(root):
-    """Names, attributes and texts of a tree. html5lib keeps attributes `xmlns`, which are left out."""
+    """The names, attributes and texts of a tree, without attributes `xmlns`, which html5lib keeps."""
     shape = []
     for node in root.iter():
         is_element = isinstance(node.tag, str)
@@ -97,7 +98,7 @@ def same_as_html5lib(page):
 
     ours = shape_of(to_etree(hengaruto.parse(page)))
     theirs = shape_of(html5lib.parse(page, treebuilder="etree", namespaceHTMLElements=False))
-    # Comments behind the body stand below the document or the html: they hang elsewhere in both.
+    # In both, comments after the body are below the html or the document, and not in the body.
     assert ours == theirs, next(pair for pair in zip(ours, theirs) if pair[0] != pair[1])
 
 

@@ -1,4 +1,4 @@
-"""Public functions and methods have type hints, and docstrings."""
+"""Public functions and methods have type hints and docstrings."""
 import inspect
 import os
 import typing
