@@ -27,4 +27,6 @@ mod TitleLaws
 pub mod RuleLaws
 pub mod StageLaws
 pub mod StartLaws
+pub mod LessLaws
+pub mod StayingLaws
 pub mod WholeLaws

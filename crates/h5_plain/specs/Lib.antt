@@ -1,2 +1,3 @@
 pub mod Plain
 pub mod Rebuilding
+pub mod Staying

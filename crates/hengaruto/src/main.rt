@@ -2,7 +2,7 @@
 //!
 //! `h5_command_line` has the command line, `page` reads pages, whose bytes `decoding` makes texts, `tokens` writes down tokens on
 //! their way, `answer` has what is printed of a page, `parts` hands on HTML in parts, `policy_file` reads the policies by which pages
-//! are cleaned, `select` writes what a selector matches, `errors` has the parse errors of a page with their places, `records` answers
+//! are cleaned, `github` is one, `select` writes what a selector matches, `errors` has the parse errors of a page with their places, `records` answers
 //! pages that come in lines of JSON, `dress` writes lines as a terminal shows them, and `progress` tells how far a long input is. It
 //! stands on the library `html_tree_builder`, whose standard reader reads all of HTML. Begin with `src/run.rt`.
 #![tactic(auto)]
@@ -12,6 +12,7 @@ mod decoding;
 mod dress;
 mod errors;
 mod fault;
+mod github;
 mod page;
 mod parts;
 mod policy_file;

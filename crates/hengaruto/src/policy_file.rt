@@ -1,5 +1,6 @@
 //! A policy that stands in a file of TOML.
-use html_tree_builder::clean::{AllowList, Kind, kind_of};
+use super::github::GITHUB;
+use html_tree_builder::clean::{AllowList, Around, Kind, is_prefix, is_refused, kind_of};
 use std::alloc::{AllocError, Global};
 use std::fs;
 use std::io::{self, Write};
@@ -25,6 +26,33 @@ impl From<AllocError> for PolicyFault {
         PolicyFault::Memory
     }
 }
+
+// The elements that go with what they hold, where nothing else is said.
+const DROPPED: &[&str] = &[
+    "script",
+    "style",
+    "template",
+    "iframe",
+    "object",
+    "embed",
+    "applet",
+    "noscript",
+    "noembed",
+    "noframes",
+    "xmp",
+    "plaintext",
+    "textarea",
+    "title",
+    "select",
+    "head",
+    "frameset",
+    "audio",
+    "video",
+    "canvas",
+];
+
+// How deep elements may be nested at most, so that browsers read them so in a page: they put none deeper than 512.
+const DEEPEST: u16 = 448;
 
 // The keys whose names are listed.
 #[derive(Clone, Copy)]
@@ -101,6 +129,38 @@ fn add_element(alloc: Global, policy: &mut AllowList, name: &str) -> Result<(), 
     Ok(policy.add_element(name)?)
 }
 
+// Refuses an attribute that is never let through.
+fn ask_for_attribute(alloc: Global, name: &str) -> Result<(), PolicyFault> {
+    if is_refused(name) {
+        return Err(wrong(format!(in alloc; "\"{name}\" can't be let through")));
+    }
+    Ok(())
+}
+
+// Lets any element keep an attribute.
+fn add_attribute(alloc: Global, policy: &mut AllowList, name: &str) -> Result<(), PolicyFault> {
+    ask_for_attribute(alloc, name)?;
+    Ok(policy.add_attribute(name)?)
+}
+
+// Whether a name is a scheme of URLs: letters, digits, '+', '-' and '.', of which the first is a letter.
+fn is_scheme(name: &str) -> bool {
+    name.starts_with(|c: char| c.is_ascii_lowercase())
+        && name.bytes().all(|byte| {
+            byte.is_ascii_lowercase() || byte.is_ascii_digit() || matches!(byte, b'+' | b'-' | b'.')
+        })
+}
+
+// Lets URLs have a scheme.
+fn add_scheme(alloc: Global, policy: &mut AllowList, name: &str) -> Result<(), PolicyFault> {
+    if !is_scheme(name) {
+        return Err(wrong(format!(in alloc;
+            "\"{name}\" is no scheme: of `schemes` each is written as \"https\""
+        )));
+    }
+    Ok(policy.add_scheme(name)?)
+}
+
 // Adds a name to what a key lists.
 fn add_name(
     alloc: Global,
@@ -111,9 +171,9 @@ fn add_name(
     match list {
         NameKey::Elements => add_element(alloc, policy, name),
         NameKey::Dropped => Ok(policy.add_dropped(name)?),
-        NameKey::Attributes => Ok(policy.add_attribute(name)?),
+        NameKey::Attributes => add_attribute(alloc, policy, name),
         NameKey::Urls => Ok(policy.add_url(name)?),
-        NameKey::Schemes => Ok(policy.add_scheme(name)?),
+        NameKey::Schemes => add_scheme(alloc, policy, name),
     }
 }
 
@@ -140,7 +200,9 @@ fn add_attributes_at(
     value: &Value,
 ) -> Result<(), PolicyFault> {
     for item in items_of(alloc, place, value)? {
-        policy.add_attribute_of(element, name_of(alloc, place, item)?)?;
+        let name = name_of(alloc, place, item)?;
+        ask_for_attribute(alloc, name)?;
+        policy.add_attribute_of(element, name)?;
     }
     Ok(())
 }
@@ -195,8 +257,35 @@ fn set_rel(alloc: Global, policy: &mut AllowList, value: &Value) -> Result<(), P
 // Sets what ids and names begin with.
 fn set_prefix(alloc: Global, policy: &mut AllowList, value: &Value) -> Result<(), PolicyFault> {
     match value {
-        Value::String(prefix) => Ok(policy.set_prefix(prefix.as_str())?),
-        _ => Err(mismatch(alloc, "prefix", "a string")),
+        Value::String(prefix) if !prefix.is_empty() && is_prefix(prefix.as_str()) => {
+            Ok(policy.set_prefix(prefix.as_str())?)
+        }
+        _ => Err(mismatch(
+            alloc,
+            "prefix",
+            "a string without blanks, which isn't empty",
+        )),
+    }
+}
+
+// Sets what may be open around the text.
+fn set_place(alloc: Global, policy: &mut AllowList, value: &Value) -> Result<(), PolicyFault> {
+    let around = match value {
+        Value::String(place) => match place.as_str() {
+            "flow" => Some(Around::nothing()),
+            "items" => Some(Around::items()),
+            "link" => Some(Around::link()),
+            "line" => Some(Around::line()),
+            _ => None,
+        },
+        _ => None,
+    };
+    match around {
+        Some(around) => {
+            policy.set_around(around);
+            Ok(())
+        }
+        None => Err(mismatch(alloc, "place", "\"flow\", \"items\", \"link\" or \"line\"")),
     }
 }
 
@@ -204,11 +293,16 @@ fn set_prefix(alloc: Global, policy: &mut AllowList, value: &Value) -> Result<()
 fn set_depth(alloc: Global, policy: &mut AllowList, value: &Value) -> Result<(), PolicyFault> {
     if let Value::Integer(depth) = value
         && let Ok(depth) = u16::try_from(*depth)
+        && depth <= DEEPEST
     {
         policy.set_depth(usize::from(depth));
         return Ok(());
     }
-    Err(mismatch(alloc, "depth", "an integer from 0 to 65535"))
+    Err(mismatch(
+        alloc,
+        "depth",
+        "an integer from 0 to 448: browsers put no element of a page deeper than 512",
+    ))
 }
 
 // Sets what a key says.
@@ -223,6 +317,7 @@ fn set(alloc: Global, policy: &mut AllowList, key: &str, value: &Value) -> Resul
         "relative" => set_relative(alloc, policy, value),
         "rel" => set_rel(alloc, policy, value),
         "prefix" => set_prefix(alloc, policy, value),
+        "place" => set_place(alloc, policy, value),
         "depth" => set_depth(alloc, policy, value),
         _ => Err(wrong(format!(in alloc; "`{key}` is no key of a policy"))),
     }
@@ -233,11 +328,15 @@ fn set_each(alloc: Global, policy: &mut AllowList, table: &Table) -> Result<(), 
     for (key, value) in table {
         set(alloc, policy, key.as_str(), value)?;
     }
-    if table.contains_key("elements") {
-        Ok(())
-    } else {
-        Err(wrong(format!(in alloc; "`elements` is missing")))
+    if !table.contains_key("elements") {
+        return Err(wrong(format!(in alloc; "`elements` is missing")));
     }
+    if !table.contains_key("dropped") {
+        for name in DROPPED {
+            policy.add_dropped(name)?;
+        }
+    }
+    Ok(())
 }
 
 // The policy that a table is.
@@ -292,8 +391,11 @@ fn policy_of(alloc: Global, text: &[u8]) -> Result<AllowList, PolicyFault> {
     }
 }
 
-/// The policy that stands in a file of this name.
+/// The policy that is named so, or that stands in a file of this name.
 pub fn policy_in(rt: &HostRuntime, name: &str) -> Result<AllowList, PolicyFault> {
+    if name == "github" {
+        return policy_of(rt.alloc(), GITHUB.as_bytes());
+    }
     match fs::read(rt, name) {
         Ok(text) => policy_of(rt.alloc(), text.as_slice()),
         Err(error) => Err(PolicyFault::Read(error)),
