@@ -41,6 +41,7 @@ impl Drop for AllowList {
             relative: _relative,
             rel: _rel,
             prefix: _prefix,
+            around: _around,
             depth: _depth,
         } = self;
     }
