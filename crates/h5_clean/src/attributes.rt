@@ -105,8 +105,9 @@ fn is_acting_name(local: &str) -> bool
     )
 }
 
-// Whether an attribute may stay: what it acts on is of the text itself, where its name has a prefix.
-fn may_act(prefix: &str, local: &str) -> bool
+/// Returns true if an attribute of this name is allowed with this prefix of ids. An attribute by which an element acts on another one, such as
+/// `for`, is never allowed without a prefix: it could act on an element of the page around the text.
+pub fn may_act(prefix: &str, local: &str) -> bool
     ensures { result ≡ may_act prefix.now local.now }
 {
     !prefix.is_empty() || !is_acting_name(local)

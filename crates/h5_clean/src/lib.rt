@@ -25,7 +25,7 @@ mod texts;
 mod urls;
 
 pub use allow_list::AllowList;
-pub use attributes::{is_prefix, is_refused};
+pub use attributes::{is_prefix, is_refused, may_act};
 pub use cleaner::{Cleaner, Front};
 pub use cleaning::{clean, clean_into, clean_tree};
 pub use elements::OpenElement;

@@ -1,4 +1,5 @@
 //! A policy in TOML.
+use super::checks::check;
 use super::fault::PolicyFault;
 use super::github::GITHUB;
 use html_tree_builder::clean::{AllowList, Around, Kind, is_prefix, is_refused, kind_of};
@@ -43,7 +44,7 @@ enum NameKey {
 }
 
 // The error for a reason, which takes memory to be written.
-fn wrong(reason: Result<String, AllocError>) -> PolicyFault {
+pub(crate) fn wrong(reason: Result<String, AllocError>) -> PolicyFault {
     match reason {
         Ok(reason) => PolicyFault::Wrong(reason),
         Err(_) => PolicyFault::Memory,
@@ -323,6 +324,7 @@ fn set_each(alloc: Global, policy: &mut AllowList, table: &Table) -> Result<(), 
 fn policy_by(alloc: Global, table: &Table) -> Result<AllowList, PolicyFault> {
     let mut policy = AllowList::new(alloc);
     set_each(alloc, &mut policy, table)?;
+    check(alloc, table)?;
     Ok(policy)
 }
 
@@ -341,11 +343,17 @@ fn subject_of(reason: &str) -> Option<&str> {
     }
 }
 
+// Returns true if a line has a word that no other character of a name is next to.
+fn has_word(line: &str, word: &str) -> bool {
+    line.split(|c: char| !(c.is_alphanumeric() || c == '-' || c == '_' || c == ':'))
+        .any(|part| part == word)
+}
+
 // The first line of a text, from 1, that has this word.
 fn line_with(text: &[u8], word: &str) -> Option<usize> {
     let text = str::from_utf8(text).ok()?;
     for (above, line) in text.lines().enumerate() {
-        if line.contains(word) {
+        if has_word(line, word) {
             return Some(above.saturating_add(1));
         }
     }
