@@ -1,4 +1,4 @@
-//! What is printed of a tree.
+//! Prints what a subcommand shows of a tree.
 use super::fault::Fault;
 use super::parts::Parts;
 use super::select::{Selection, put_selected};
@@ -17,40 +17,40 @@ use std::alloc::{AllocError, Global};
 use std::io::{ErrorKind, Write};
 use url::Url;
 
-/// What is asked of each page.
+/// What to do with each page.
 #[derive(Clone, Copy)]
 pub struct Asked<'a> {
-    /// What is printed of it.
+    /// The subcommand.
     pub what: What,
-    /// In which encoding it is read.
+    /// How its encoding is found.
     pub encodings: EncodingOpts,
-    /// In which element it is read, if it is a fragment.
+    /// The element in which it is parsed, if it is a fragment.
     pub context: Option<&'a str>,
-    /// By which policy it is cleaned, if it isn't that of texts.
+    /// The policy that cleans it, if it isn't the default policy.
     pub policy: Option<&'a AllowList>,
-    /// How its text is laid out.
+    /// The layout of its text.
     pub text: TextOpts,
-    /// What is selected of it.
+    /// The elements to select, and what to print of them.
     pub selection: Option<Selection<'a>>,
-    /// Whether items are lines or objects of JSON.
+    /// Lines or JSON.
     pub form: Form,
-    /// Whether more than links is listed, where links are.
+    /// `links` also lists other references.
     pub is_all: bool,
-    /// From where links lead, if nothing in the page says it.
+    /// The URL against which links are resolved, unless the page has a base.
     pub base: Option<&'a Url>,
-    /// How many errors are printed, at most.
+    /// The greatest number of errors to print.
     pub limit: usize,
-    /// The name of its file, as the words have it.
+    /// The name of its file, as the command line has it.
     pub file: &'a str,
-    /// Whether each line begins with the name of its file.
+    /// Each line begins with the name of the file.
     pub has_name: bool,
-    /// By which name records are answered, if the pages come in records.
+    /// The key of the result, if the pages are in records.
     pub record: Option<&'a str>,
-    /// Whether the process ends behind this page, so that its tree needn't be taken apart.
+    /// The process ends after this page, so its tree need not be dropped.
     pub is_last: bool,
 }
 
-// What the page stands below: the document, or the root of a fragment.
+// The node that holds the page: the document, or the root of a fragment.
 fn top_of(arena: &Arena, is_fragment: bool) -> NodeRef<'_> {
     if is_fragment {
         if let Some(root) = arena.fragment_root() {
@@ -60,7 +60,7 @@ fn top_of(arena: &Arena, is_fragment: bool) -> NodeRef<'_> {
     arena.at(arena.document())
 }
 
-// The links that are asked for.
+// The links or references.
 fn links_asked(
     alloc: Global,
     asked: &Asked<'_>,
@@ -74,7 +74,7 @@ fn links_asked(
     }
 }
 
-// The text that is asked for, and behind it where its links lead, if they have numbers.
+// The text, followed by the targets of its links if they have numbers.
 fn text_asked(alloc: Global, asked: &Asked<'_>, top: &NodeRef<'_>) -> Result<String, AllocError> {
     let page = text_with(alloc, top, asked.text)?;
     let mut text = page.text;
@@ -87,14 +87,14 @@ fn text_asked(alloc: Global, asked: &Asked<'_>, top: &NodeRef<'_>) -> Result<Str
     Ok(text)
 }
 
-// Items, as they are asked for.
+// The items of a listing.
 fn items_text(alloc: Global, items: &[Item], form: Form) -> Result<String, AllocError> {
     let mut text = String::new(alloc);
     print_items(items, &mut text, form)?;
     Ok(text)
 }
 
-// Writes a tree, an object of JSON for each node, and one that has its quirks mode.
+// Writes a tree as JSON: an object for each node, and one for the quirks mode.
 fn put_nodes<W: Write>(alloc: Global, top: &NodeRef<'_>, out: &mut W) -> Result<(), Fault> {
     let mut lines = node_lines(alloc, top)?;
     let mode = match top.arena.quirks() {
@@ -106,7 +106,7 @@ fn put_nodes<W: Write>(alloc: Global, top: &NodeRef<'_>, out: &mut W) -> Result<
     out.write_all(lines.as_bytes()).map_err(Fault::Write)
 }
 
-// Writes a tree, a line for each node, and its quirks mode. A deep tree has long lines, so it is written in parts.
+// Writes a tree, one line per node, and its quirks mode. A deep tree has long lines, so it is written in parts.
 fn put_tree<W: Write>(alloc: Global, arena: &Arena, out: &mut W) -> Result<(), Fault> {
     if let Err(error) = write_tree(alloc, arena, out) {
         return Err(match error.kind() {
@@ -128,7 +128,7 @@ fn put_html<W: Write>(alloc: Global, top: &NodeRef<'_>, out: &mut W) -> Result<(
     parts.finish()
 }
 
-// What a policy, or else that of texts, lets through of a tree, written as HTML.
+// Writes as HTML what a policy, or else the default policy, allows of a tree.
 fn cleaned(
     alloc: Global,
     top: &NodeRef<'_>,
@@ -140,7 +140,7 @@ fn cleaned(
     }
 }
 
-// What a page says of itself, and last the encoding in which it was read.
+// The metadata of a page, and last the encoding that it was decoded from.
 fn about_read(
     alloc: Global,
     top: &NodeRef<'_>,
@@ -154,7 +154,7 @@ fn about_read(
     Ok(items)
 }
 
-/// Writes what is asked of a tree, which is that of a document or of a fragment, and was read in this encoding.
+/// Writes what a subcommand prints of the tree of a document or a fragment, which was decoded from this encoding.
 pub fn put_answer<W: Write>(
     alloc: Global,
     asked: &Asked<'_>,

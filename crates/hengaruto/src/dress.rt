@@ -1,7 +1,7 @@
-//! What is printed, as a terminal shows it, and behind the name of its file.
+//! Prepares output for a terminal, and adds the name of its file.
 use std::alloc::{AllocError, Global};
 
-// Writes what begins each line.
+// Writes the start of each line.
 fn begin_line(out: &mut String, front: Option<&str>) -> Result<(), AllocError> {
     if let Some(front) = front {
         out.push_str(front)?;
@@ -10,7 +10,7 @@ fn begin_line(out: &mut String, front: Option<&str>) -> Result<(), AllocError> {
     Ok(())
 }
 
-// A character as it is shown: on a terminal none that would steer it.
+// A character as it is printed: a terminal gets no control characters.
 fn shown(c: char, is_terminal: bool) -> char {
     if is_terminal && c.is_control() && c != '\n' && c != '\t' {
         '?'
@@ -19,8 +19,8 @@ fn shown(c: char, is_terminal: bool) -> char {
     }
 }
 
-/// Lines, each behind this text and a colon, if there is one; the last one ends, too. Where a terminal shows them, control characters
-/// are `?`. An `AllocError` where memory is refused.
+/// Lines, each after this text and a colon, if there is one, and each with a newline. For a terminal, control characters become `?`. Fails with
+/// `AllocError` if an allocation fails.
 pub fn dressed(
     alloc: Global,
     text: &str,

@@ -1,11 +1,11 @@
-//! The parse errors of a page, as they are printed.
+//! Prints the parse errors of a page.
 use super::fault::Fault;
 use h5_input::{PageError, PageErrors};
 use h5_listing::{Form, Item, print_items};
 use std::alloc::{AllocError, Global};
 use std::io::Write;
 
-/// How many errors a page has, and how many of them were printed.
+/// The number of errors of a page, and how many of them were printed.
 #[derive(Clone, Copy)]
 pub struct ErrorCount {
     pub all: u64,
@@ -19,7 +19,7 @@ impl ErrorCount {
     }
 }
 
-// Writes a line that begins with the name of the file.
+// Writes an error as a line that begins with the name of the file.
 fn write_line(out: &mut String, error: PageError<'_>, file: &str) -> Result<(), AllocError> {
     let name = error.name();
     match error {
@@ -31,7 +31,7 @@ fn write_line(out: &mut String, error: PageError<'_>, file: &str) -> Result<(), 
     }
 }
 
-// The values of an error by their names, and the path of the file before them, if that is printed.
+// The fields of an error in JSON, after the path of the file if it is printed.
 fn item_of(alloc: Global, error: PageError<'_>, path: Option<&str>) -> Result<Item, AllocError> {
     let mut item = Item::new(alloc);
     if let Some(path) = path {
@@ -53,7 +53,7 @@ fn item_of(alloc: Global, error: PageError<'_>, path: Option<&str>) -> Result<It
     Ok(item)
 }
 
-// A line for each error.
+// The errors as lines.
 fn lines_of(alloc: Global, errors: &[PageError<'_>], file: &str) -> Result<String, AllocError> {
     let mut text = String::new(alloc);
     for error in errors {
@@ -62,7 +62,7 @@ fn lines_of(alloc: Global, errors: &[PageError<'_>], file: &str) -> Result<Strin
     Ok(text)
 }
 
-// An object for each error, or an array of them.
+// The errors as objects, or as an array of them.
 fn objects_of(
     alloc: Global,
     errors: &[PageError<'_>],
@@ -78,8 +78,8 @@ fn objects_of(
     Ok(text)
 }
 
-/// Writes the first errors of a page, as many as the limit, and tells how many there are. Lines begin with the name of the file,
-/// and so do objects; in an array they have none.
+/// Writes the first errors of a page, up to the limit, and returns how many there are. Lines and objects begin with the name of the file; objects
+/// of an array don't.
 pub fn put_errors<W: Write>(
     alloc: Global,
     errors: &PageErrors,
@@ -101,7 +101,7 @@ pub fn put_errors<W: Write>(
     })
 }
 
-/// Says how many errors a page has, if there are any. Whether it can be said is no matter.
+/// Reports how many errors a page has, if any. An error of standard error is ignored.
 pub fn tell_count(rt: &HostRuntime, name: &str, count: ErrorCount) {
     let ErrorCount { all, shown } = count;
     let noun = if all == 1 { "error" } else { "errors" };

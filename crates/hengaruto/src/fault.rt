@@ -1,17 +1,17 @@
-//! What can go wrong.
+//! The errors of a run.
 use h5_input::InputFault;
 use html_tree_builder::serialize::SerializeFault;
 use std::alloc::AllocError;
 use std::io;
 
-/// What went wrong with a page.
+/// The error of a page.
 #[derive(Debug, Drop)]
 pub enum Fault {
-    /// It can't be read.
+    /// Reading it failed.
     Read(io::Error),
-    /// What is printed of it can't be written.
+    /// Writing the output failed.
     Write(io::Error),
-    /// Memory was refused.
+    /// An allocation failed.
     Memory,
 }
 
@@ -30,7 +30,7 @@ impl From<InputFault> for Fault {
     }
 }
 
-// A serializer over memory fails with nothing else.
+// A serializer that writes to memory has no other error.
 impl From<SerializeFault> for Fault {
     fn from(_fault: SerializeFault) -> Fault {
         Fault::Memory

@@ -1,9 +1,9 @@
-//! The program `hengaruto`: what a page is made of, for people.
+//! The program `hengaruto`, which shows people what a page consists of.
 //!
-//! `h5_command_line` has the command line, `h5_input` reads pages, and `h5_policy` the policies by which they are cleaned.
-//! `policy_file` opens the file of a policy. `answer` prints what is asked of a tree, `parts` writes HTML in parts, `select` prints what
-//! a selector matches, `errors` prints parse errors, `records` answers pages in lines of JSON, `dress` prepares lines for a terminal, and
-//! `progress` shows how far a long input is read. Begin with `src/run.rt`.
+//! `h5_command_line` has the command line, `h5_input` reads pages, and `h5_policy` reads the policies that clean them. `policy_file` opens the
+//! file of a policy, `answer` prints what a subcommand shows of a tree, `parts` writes HTML in parts, `select` prints what a selector matches,
+//! `errors` prints parse errors, `records` processes pages in JSON lines, `dress` prepares lines for a terminal, and `progress` shows how much
+//! of a long input was read. Begin with `src/run.rt`.
 #![tactic(auto)]
 
 mod answer;
@@ -23,7 +23,7 @@ use std::env;
 use std::io::Write;
 use std::process::ExitCode;
 
-// The words of the command line.
+// The arguments of the command line.
 fn words_of(rt: &HostRuntime) -> anyhow::Result<Vec<String>> {
     let words: Vec<String> = env::args(rt)?.collect(rt.alloc())?;
     Ok(words)

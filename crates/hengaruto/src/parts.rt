@@ -1,13 +1,13 @@
-//! Output in parts.
+//! Writes output in parts.
 use super::fault::Fault;
 use html_tree_builder::serialize::SerializeFault;
 use std::alloc::Global;
 use std::io::{self, Write};
 
-// From this many bytes on a part is handed on.
+// A part of at least this many bytes is written.
 const PART: usize = 65_536;
 
-/// A writer over another one that hands on what it is given in parts, and keeps the error that stopped it.
+/// A writer that passes its input to another writer in parts, and keeps the error that stopped it.
 pub struct Parts<'a, W: Write> {
     out: &'a mut W,
     part: Vec<u8>,
@@ -33,7 +33,7 @@ impl<'a, W: Write> Parts<'a, W> {
         }
     }
 
-    // Hands on the part that is held.
+    // Writes the buffered part.
     fn hand_on(&mut self) -> io::Result<()> {
         match self.out.write_all(self.part.as_slice()) {
             Ok(()) => {
@@ -48,12 +48,12 @@ impl<'a, W: Write> Parts<'a, W> {
         }
     }
 
-    /// Hands on the last part.
+    /// Writes the last part.
     pub fn finish(&mut self) -> Result<(), Fault> {
         self.hand_on().map_err(Fault::Write)
     }
 
-    /// What a serializer over it met.
+    /// The error of a serializer that writes to it.
     pub fn fault(&mut self, fault: SerializeFault) -> Fault {
         match (fault, self.error.take()) {
             (SerializeFault::Write, Some(error)) => Fault::Write(error),

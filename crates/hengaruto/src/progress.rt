@@ -1,4 +1,4 @@
-//! How far a long input is read, on a terminal.
+//! Shows on a terminal how much of a long input was read.
 use std::io::{self, IsTerminal, Read, Write};
 
 // The first report comes at this many bytes, and each later one this many bytes after the one before.
@@ -6,7 +6,7 @@ const FIRST: u64 = 100_000_000;
 
 const STEP: u64 = 10_000_000;
 
-// How much of an input was read, and how much of that was reported.
+// The number of bytes that were read, and the number that was reported.
 #[derive(Drop)]
 struct Progress {
     read: u64,
@@ -15,7 +15,7 @@ struct Progress {
 }
 
 impl Progress {
-    // Counts bytes that were read, and reports them. A report that can't be written is left out.
+    // Counts bytes that were read, and reports them. An error of standard error is ignored.
     fn add(&mut self, rt: &HostRuntime, count: usize) {
         self.read = self.read.saturating_add(count as u64);
         if self.on_terminal && self.read >= self.next {
@@ -25,7 +25,7 @@ impl Progress {
         }
     }
 
-    // Removes what was reported.
+    // Removes the report from the terminal.
     fn clear(&mut self, rt: &HostRuntime) {
         if self.next > FIRST {
             self.next = FIRST;
@@ -52,7 +52,7 @@ impl<'a, R: Read> Drop for Watched<'a, R> {
 }
 
 impl<'a, R: Read> Watched<'a, R> {
-    /// An input of which nothing was read yet.
+    /// An input before its first byte is read.
     pub fn new(rt: &'a HostRuntime, input: &'a mut R) -> Watched<'a, R> {
         let progress = Progress {
             read: 0,

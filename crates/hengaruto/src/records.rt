@@ -1,4 +1,4 @@
-//! Pages that come in records, and what is answered of each.
+//! Pages in records, and the output line of each.
 use super::answer::Asked;
 use super::fault::Fault;
 use super::run::put_input;
@@ -8,7 +8,7 @@ use html_tree_builder::encodings::{Encoding, EncodingOpts};
 use std::fs;
 use std::io::{self, BufRead, BufReader, ErrorKind, Read, Write};
 
-// What is said of a fault.
+// The text of an error.
 fn said_of(rt: &HostRuntime, fault: &Fault) -> Result<String, Fault> {
     let mut said = String::new(rt.alloc());
     let told = match fault {
@@ -19,7 +19,7 @@ fn said_of(rt: &HostRuntime, fault: &Fault) -> Result<String, Fault> {
     Ok(said)
 }
 
-// What is printed of the page of an input.
+// The output for the page of an input.
 fn printed<R: Read>(rt: &HostRuntime, asked: &Asked<'_>, input: &mut R) -> Result<String, Fault> {
     let mut bytes = Vec::new(rt.alloc());
     let _answered = put_input(rt, asked, input, &mut bytes)?;
@@ -27,7 +27,7 @@ fn printed<R: Read>(rt: &HostRuntime, asked: &Asked<'_>, input: &mut R) -> Resul
     Ok(text)
 }
 
-// The same, asked of a text, which is UTF-8 whatever the page says of itself.
+// The output for a page that is a text. It is UTF-8, whatever encoding the page declares.
 fn of_text<'a>(asked: &Asked<'a>) -> Asked<'a> {
     Asked {
         encodings: EncodingOpts {
@@ -38,7 +38,7 @@ fn of_text<'a>(asked: &Asked<'a>) -> Asked<'a> {
     }
 }
 
-// What is printed of the page of a record.
+// The output for the page of a record.
 fn printed_of(rt: &HostRuntime, asked: &Asked<'_>, page: Page<'_>) -> Result<String, Fault> {
     match page {
         Page::Html(html) => printed(rt, &of_text(asked), &mut html.as_bytes()),
@@ -49,7 +49,7 @@ fn printed_of(rt: &HostRuntime, asked: &Asked<'_>, page: Page<'_>) -> Result<Str
     }
 }
 
-// Whether what is printed is JSON.
+// Returns true if a subcommand prints JSON.
 fn is_json(what: What) -> bool {
     matches!(
         what,
@@ -57,7 +57,7 @@ fn is_json(what: What) -> bool {
     )
 }
 
-// What is answered of a record, by this name.
+// The output line of a record, with the result under this key.
 fn answer_of(
     rt: &HostRuntime,
     asked: &Asked<'_>,
@@ -81,14 +81,14 @@ fn answer_of(
     Ok(answer)
 }
 
-// What is answered of a line that is no record.
+// The output line for an input line that isn't a record.
 fn refusal(rt: &HostRuntime, line: u64, said: &str) -> Result<String, Fault> {
     let mut answer = begin_answer(rt.alloc(), None, line)?;
     end_answer(rt.alloc(), &mut answer, "error", said, false)?;
     Ok(answer)
 }
 
-// What is answered of a line.
+// The output line for an input line.
 fn answer_to(
     rt: &HostRuntime,
     asked: &Asked<'_>,
@@ -106,7 +106,7 @@ fn answer_to(
     }
 }
 
-// What is answered of a line that was read, or that isn't UTF-8. Another error of reading ends the records.
+// The output line for an input line that was read, or that isn't UTF-8. Any other error of reading ends the run.
 fn answer_read(
     rt: &HostRuntime,
     asked: &Asked<'_>,
@@ -123,7 +123,7 @@ fn answer_read(
     }
 }
 
-/// Answers each record of an input by what is asked of its page, in a line of JSON, in which it has this name.
+/// Writes a line of JSON for each record of an input, with what the subcommand prints of its page under this key.
 pub fn show_records<R: Read + Drop>(
     rt: &HostRuntime,
     asked: &Asked<'_>,

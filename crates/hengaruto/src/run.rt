@@ -1,4 +1,4 @@
-//! A run of the program.
+//! Runs the program.
 use super::answer::{Asked, put_answer};
 use super::dress::dressed;
 use super::errors::{ErrorCount, put_errors, tell_count};
@@ -20,7 +20,7 @@ use std::process::ExitCode;
 use std::{fs, mem};
 use url::Url;
 
-// Writes tokens, as they are asked for.
+// Writes tokens as lines or as JSON.
 fn put_tokens<W: Write>(
     alloc: Global,
     asked: &Asked<'_>,
@@ -35,14 +35,14 @@ fn put_tokens<W: Write>(
     out.write_all(text.as_slice()).map_err(Fault::Write)
 }
 
-/// How a page was read, and how many errors were printed of it, where they are asked for.
+/// How a page was read, and how many of its errors were printed.
 #[derive(Clone, Copy)]
 pub struct Answered {
     pub how: HowRead,
     pub errors: ErrorCount,
 }
 
-// A page that was read so, of which no errors are asked for.
+// The outcome for a page whose errors are not printed.
 fn without_errors(how: HowRead) -> Answered {
     Answered {
         how,
@@ -50,7 +50,7 @@ fn without_errors(how: HowRead) -> Answered {
     }
 }
 
-// Writes the errors of the page of an input.
+// Writes the errors of a page.
 fn put_errors_of<R: Read, W: Write>(
     rt: &HostRuntime,
     asked: &Asked<'_>,
@@ -63,7 +63,7 @@ fn put_errors_of<R: Read, W: Write>(
     Ok(Answered { how, errors })
 }
 
-// Writes what is asked of the tree of the page of an input.
+// Writes what the subcommand prints of the tree of a page.
 fn put_tree_of<R: Read, W: Write>(
     rt: &HostRuntime,
     asked: &Asked<'_>,
@@ -79,7 +79,7 @@ fn put_tree_of<R: Read, W: Write>(
     Ok(how)
 }
 
-/// Writes what is asked of the page of an input, and tells how it was read, and how many errors were printed.
+/// Writes what the subcommand prints of a page. Returns how the page was read, and how many errors were printed.
 pub fn put_input<R: Read, W: Write>(
     rt: &HostRuntime,
     asked: &Asked<'_>,
@@ -113,7 +113,7 @@ fn tell_replaced(rt: &HostRuntime, name: &str, how: HowRead) {
     }
 }
 
-// Shows an input, which is a page or has records of pages, and answers how many errors were printed.
+// Shows an input, which is a page or has records of pages. Returns how many errors were printed.
 fn show_input<R: Read + Drop>(
     rt: &HostRuntime,
     asked: &Asked<'_>,
@@ -141,7 +141,7 @@ fn show_input<R: Read + Drop>(
     Ok(answered.errors)
 }
 
-// Shows a file, or standard input where its name is `-`, and answers how many errors were printed.
+// Shows a file, or standard input if its name is `-`. Returns how many errors were printed.
 fn show(rt: &HostRuntime, asked: &Asked<'_>) -> Result<ErrorCount, Fault> {
     if asked.file == "-" {
         return show_input(rt, asked, rt.stdin());
@@ -150,7 +150,7 @@ fn show(rt: &HostRuntime, asked: &Asked<'_>) -> Result<ErrorCount, Fault> {
     show_input(rt, asked, file)
 }
 
-// Says what went wrong. Whether it can be said is no matter.
+// Reports an error. An error of standard error is ignored.
 fn tell(rt: &HostRuntime, name: &str, fault: &Fault) {
     let _told = match fault {
         Fault::Read(error) => writeln!(rt.stderr(), "hengaruto: {name}: {error}"),
@@ -159,7 +159,7 @@ fn tell(rt: &HostRuntime, name: &str, fault: &Fault) {
     };
 }
 
-// Whether nobody reads what is written any more.
+// Returns true if the reader of the output has closed it.
 fn is_closed(fault: &Fault) -> bool {
     match fault {
         Fault::Write(error) => matches!(error.kind(), ErrorKind::BrokenPipe),
@@ -167,7 +167,7 @@ fn is_closed(fault: &Fault) -> bool {
     }
 }
 
-// Shows a file, and answers the status. None where nobody reads what is written any more.
+// Shows a file, and returns the exit status, or None if the reader of the output has closed it.
 fn show_one(rt: &HostRuntime, asked: &Asked<'_>) -> Option<u8> {
     match show(rt, asked) {
         Ok(errors) => {
@@ -182,7 +182,7 @@ fn show_one(rt: &HostRuntime, asked: &Asked<'_>) -> Option<u8> {
     }
 }
 
-// Shows each of these files, and answers the status. A file that can't be read is told of, and the others follow.
+// Shows each of these files, and returns the exit status. A file that can't be read is reported, and the next one follows.
 fn show_each(rt: &HostRuntime, asked: &Asked<'_>, files: &[&str]) -> u8 {
     let mut status = 0;
     for (at, file) in files.iter().enumerate() {
@@ -201,7 +201,7 @@ fn show_each(rt: &HostRuntime, asked: &Asked<'_>, files: &[&str]) -> u8 {
     status
 }
 
-// Shows each file that the words name, or standard input where they name none, and answers the status.
+// Shows each file of the command line, or standard input if there is none, and returns the exit status.
 fn show_all(rt: &HostRuntime, asked: &Asked<'_>, matches: &ArgMatches<'_>) -> u8 {
     if let Some(files) = matches.get_strs("file") {
         if !files.is_empty() {
@@ -211,7 +211,7 @@ fn show_all(rt: &HostRuntime, asked: &Asked<'_>, matches: &ArgMatches<'_>) -> u8
     show_each(rt, asked, &["-"])
 }
 
-// Shows what is asked by the policy that stands in a file. Where that is no policy, nothing is shown.
+// Shows each page with the policy of a file. If the file has no policy, nothing is shown.
 fn show_by_policy(rt: &HostRuntime, asked: &Asked<'_>, name: &str, matches: &ArgMatches<'_>) -> u8 {
     match policy_in(rt, name) {
         Some(policy) => {
@@ -225,7 +225,7 @@ fn show_by_policy(rt: &HostRuntime, asked: &Asked<'_>, name: &str, matches: &Arg
     }
 }
 
-// What is printed of each element that is selected.
+// What to print of each selected element.
 fn shown_by<'a>(matches: &ArgMatches<'a>) -> Shown<'a> {
     match matches.get_str("attr") {
         Some(name) => Shown::Attr(name),
@@ -234,7 +234,7 @@ fn shown_by<'a>(matches: &ArgMatches<'a>) -> Shown<'a> {
     }
 }
 
-// Shows what a selector matches of each page. Where its text is none, nothing is shown.
+// Shows what a selector matches in each page. If the selector is invalid, nothing is shown.
 fn show_selected(rt: &HostRuntime, asked: &Asked<'_>, text: &str, matches: &ArgMatches<'_>) -> u8 {
     match Selector::parse(rt.alloc(), text) {
         Ok(selector) => {
@@ -251,7 +251,7 @@ fn show_selected(rt: &HostRuntime, asked: &Asked<'_>, text: &str, matches: &ArgM
     }
 }
 
-// Whether items are printed as lines or as JSON.
+// Lines or JSON.
 fn form_by(what: What, is_record: bool, matches: &ArgMatches<'_>) -> Form {
     if is_record {
         return Form::Array;
@@ -273,7 +273,7 @@ fn form_by(what: What, is_record: bool, matches: &ArgMatches<'_>) -> Form {
     }
 }
 
-// Shows the links of each page, as they lead from a URL. Where its text is none, nothing is shown.
+// Shows the links of each page, resolved against a URL. If the URL is invalid, nothing is shown.
 fn show_links_from(
     rt: &HostRuntime,
     asked: &Asked<'_>,
@@ -295,7 +295,7 @@ fn show_links_from(
     }
 }
 
-// Shows what is asked, which may be by a policy, a selector or a URL.
+// Shows each page, with a policy, a selector or a URL if there is one.
 fn show_asked(rt: &HostRuntime, asked: &Asked<'_>, matches: &ArgMatches<'_>) -> u8 {
     match asked.what {
         What::Clean => match matches.get_str("policy") {
@@ -314,7 +314,7 @@ fn show_asked(rt: &HostRuntime, asked: &Asked<'_>, matches: &ArgMatches<'_>) -> 
     }
 }
 
-// How texts are laid out. None where the width that is said is no number of columns.
+// The layout of texts, or None if the value of --width isn't a number.
 fn text_opts(what: What, matches: &ArgMatches<'_>) -> Option<TextOpts> {
     if !matches!(what, What::Text) {
         return Some(TextOpts::plain());
@@ -329,7 +329,7 @@ fn text_opts(what: What, matches: &ArgMatches<'_>) -> Option<TextOpts> {
     })
 }
 
-// How many errors are printed of each page, at most. None where the limit that is said is no number.
+// The greatest number of errors to print for a page, or None if the value of --limit isn't a number.
 fn limit_by(what: What, matches: &ArgMatches<'_>) -> Option<usize> {
     if !matches!(what, What::Errors) {
         return Some(0);
@@ -340,8 +340,8 @@ fn limit_by(what: What, matches: &ArgMatches<'_>) -> Option<usize> {
     }
 }
 
-// In which encoding pages are read: one that is said, or that a page says, or else UTF-8, in which each fragment is. None where no
-// encoding has the label that is said.
+// How the encoding of a page is found: the value of --encoding, or what the page declares, or else UTF-8, which all fragments are. None if no
+// encoding has the label.
 fn encodings_by(matches: &ArgMatches<'_>, is_fragment: bool) -> Option<EncodingOpts> {
     let transport = match matches.get_str("encoding") {
         Some(label) => Some(Encoding::for_label(label.as_bytes())?),
@@ -354,7 +354,7 @@ fn encodings_by(matches: &ArgMatches<'_>, is_fragment: bool) -> Option<EncodingO
     })
 }
 
-// Shows what a word asks for, of pages or of records of them, and answers the status.
+// Runs a subcommand on pages or on records, and returns the exit status.
 fn show_word<'a>(rt: &HostRuntime, name: &'a str, is_record: bool, matches: &ArgMatches<'a>) -> u8 {
     let what = what_named(name);
     let Some(text) = text_opts(what, matches) else {
@@ -396,7 +396,7 @@ fn show_word<'a>(rt: &HostRuntime, name: &'a str, is_record: bool, matches: &Arg
     show_asked(rt, &asked, matches)
 }
 
-// Shows what a word asks for, if the context that is said is one.
+// Runs a subcommand, if the value of --fragment is the name of an element.
 fn show_in_context<'a>(
     rt: &HostRuntime,
     name: &'a str,
@@ -415,7 +415,7 @@ fn show_in_context<'a>(
     }
 }
 
-/// Shows what the words ask for, and answers the status.
+/// Runs what the command line says, and returns the exit status.
 pub fn run(rt: &HostRuntime, matches: &ArgMatches<'_>) -> ExitCode {
     let status = match matches.subcommand() {
         Some(("records", records)) => match records.subcommand() {

@@ -1,4 +1,4 @@
-//! What a selector matches of a page.
+//! Prints the elements that a selector matches.
 use super::fault::Fault;
 use h5_listing::{Form, Item, print_items};
 use h5_page::text_of;
@@ -8,14 +8,14 @@ use html_tree_builder::{Arena, NodeId};
 use std::alloc::{AllocError, Global};
 use std::io::Write;
 
-/// What is printed of each element.
+/// What to print of each element.
 #[derive(Clone, Copy)]
 pub enum Shown<'a> {
     /// The element as HTML.
     Html,
     /// Its text.
     Text,
-    /// The value of this attribute, where it has it.
+    /// The value of this attribute, if the element has it.
     Attr(&'a str),
 }
 
@@ -29,14 +29,14 @@ impl Shown<'_> {
     }
 }
 
-/// What is selected, and what is printed of it.
+/// The elements to select, and what to print of each.
 #[derive(Clone, Copy)]
 pub struct Selection<'a> {
     pub selector: &'a Selector,
     pub shown: Shown<'a>,
 }
 
-// What is printed of an element, if anything is.
+// The output for an element, if there is any.
 fn shown_of(
     alloc: Global,
     arena: &Arena,
@@ -56,7 +56,7 @@ fn shown_of(
     }
 }
 
-// Writes a text, with a line end behind it.
+// Writes a text and a newline.
 fn put_line<W: Write>(text: String, out: &mut W) -> Result<(), Fault> {
     let mut line = text;
     if !line.as_str().ends_with('\n') {
@@ -65,7 +65,7 @@ fn put_line<W: Write>(text: String, out: &mut W) -> Result<(), Fault> {
     out.write_all(line.as_bytes()).map_err(Fault::Write)
 }
 
-// What is asked of each element, a line for each.
+// Writes one line per element.
 fn put_lines<W: Write>(
     alloc: Global,
     arena: &Arena,
@@ -81,7 +81,7 @@ fn put_lines<W: Write>(
     Ok(())
 }
 
-// What is asked of each element, by the name of what is shown.
+// The items of the elements, each under the name of what is printed.
 fn items_of(
     alloc: Global,
     arena: &Arena,
@@ -99,7 +99,7 @@ fn items_of(
     Ok(items)
 }
 
-/// Writes what is asked of the elements below a node that a selector matches: each with a line end behind it, or as JSON.
+/// Writes the elements below a node that a selector matches, each followed by a newline, or as JSON.
 pub fn put_selected<W: Write>(
     alloc: Global,
     top: &NodeRef<'_>,
@@ -118,7 +118,7 @@ pub fn put_selected<W: Write>(
     out.write_all(text.as_bytes()).map_err(Fault::Write)
 }
 
-/// Says why a text is no selector, and answers the status. Whether it can be said is no matter.
+/// Reports why a text isn't a selector, and returns the exit status. An error of standard error is ignored.
 pub fn tell_selector(rt: &HostRuntime, text: &str, fault: &SelectorFault) -> u8 {
     match fault {
         SelectorFault::Memory => {
