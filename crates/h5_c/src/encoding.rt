@@ -1,4 +1,4 @@
-//! Pages in other encodings than UTF-8: which one a page is in, and its text.
+//! Pages in encodings other than UTF-8: their encoding and their text.
 ghost use Rattle.std.specs.Prelude.{◌≡◌, None, Some, IfOk, take};
 ghost use Rattle.h5_encodings.specs.Decoding.{start, text_from};
 ghost use Rattle.h5_encodings.specs.Labels.{encoding_labelled};
@@ -20,7 +20,7 @@ fn copied(alloc: Global, bytes: &[u8]) -> Result<Vec<u8>, AllocError>
     Ok(copy)
 }
 
-// What is known of a page, by the label that the transport says.
+// How the encoding of a page is found, if the transport declares this label.
 fn opts_by(label: &[u8]) -> EncodingOpts
     ensures { result ≡ opts_by (encoding_labelled label.now) }
 {
@@ -30,7 +30,7 @@ fn opts_by(label: &[u8]) -> EncodingOpts
     }
 }
 
-// The name of an encoding that something says.
+// The name of a declared encoding.
 fn name_said(encoding: Encoding, source: Source) -> &'static str
     ensures { result.now ≡ name_said (encoding, source) }
 {
@@ -56,7 +56,7 @@ fn text_in(alloc: Global, encoding: Encoding, bytes: &[u8]) -> Result<Vec<u8>, A
     Ok(text.into_bytes())
 }
 
-/// The name of the encoding that a page is in, if anything says it: a byte order mark, this label, or the page.
+/// The name of the encoding of a page, if it is declared: by a byte order mark, by this label, or by the page.
 #[unsafe(no_mangle)]
 pub extern "C" fn hengaruto_encoding(
     alloc: Global,
@@ -70,7 +70,7 @@ pub extern "C" fn hengaruto_encoding(
     give(name_for(alloc, page, label), name, length)
 }
 
-/// The text of bytes in the encoding of a label.
+/// The text of bytes in the encoding with this label.
 #[unsafe(no_mangle)]
 pub extern "C" fn hengaruto_decode(
     alloc: Global,

@@ -1,4 +1,4 @@
-//! Whole pages: their texts, their links, and what is left of them.
+//! Whole pages: their text, their links, and their cleaned HTML.
 ghost use Rattle.std.specs.Prelude.{◌≡◌, ◌++◌, IfOk, OnOk};
 ghost use Rattle.std.specs.Str.Lossy.{utf8_lossy};
 ghost use Rattle.html_tree_builder.specs.Cleaned.{IsCleaned};
@@ -13,7 +13,7 @@ use h5_page::{Link, TextOpts, links_of, text_with};
 use html_tree_builder::clean::{TextPolicy, clean};
 use std::alloc::{AllocError, Global};
 
-// Lines of this width. No width is that of lines as long as they are.
+// The layout for lines of this width; 0 doesn't wrap them.
 fn opts_by(width: usize) -> TextOpts
     ensures { result ≡ text_opts width }
 {
@@ -31,7 +31,7 @@ fn text_of(alloc: Global, page: &[u8], width: usize) -> Result<Vec<u8>, AllocErr
     Ok(laid.text.into_bytes())
 }
 
-// Of a link where it leads, a NUL, its text, a NUL.
+// The target of a link, a NUL, its text, a NUL.
 fn put_link(bytes: &mut Vec<u8>, link: &Link) -> Result<(), AllocError>
     ensures { OnOk result (bytes.new.items ≡ bytes.old.items ++ bytes_of_link (link_text link.now)) }
 {
@@ -96,7 +96,7 @@ pub extern "C" fn hengaruto_page_links(
     give(link_bytes(alloc, page), links, length)
 }
 
-/// What the policy of texts leaves of a fragment.
+/// What the default policy allows of a fragment, as HTML.
 #[unsafe(no_mangle)]
 pub extern "C" fn hengaruto_clean(
     alloc: Global,

@@ -16,14 +16,14 @@ use html_tree_builder::{
 };
 use std::alloc::{AllocError, Global};
 
-// What stands in `noscript` is one text, as where scripts run: the first bit.
+// The first bit: scripting is on, so the content of `noscript` is one text.
 fn is_scripting(options: u32) -> bool
     ensures { result ≡ is_scripting options }
 {
     options % 2 == 1
 }
 
-// The page is the `srcdoc` of an `iframe`: the second bit.
+// The second bit: the page is the `srcdoc` of an `iframe`.
 fn is_srcdoc(options: u32) -> bool
     ensures { result ≡ is_srcdoc options }
 {
@@ -39,7 +39,7 @@ fn opts_of(options: u32) -> ParseOpts
     opts
 }
 
-/// A parser of text that hasn't failed meets no other fault.
+/// A parser of text that hasn't failed has no other error.
 pub(crate) fn refused<F: Drop>(_fault: F) -> AllocError {
     AllocError
 }
@@ -63,7 +63,7 @@ fn block_of(alloc: Global, page: &[u8], options: u32) -> Result<Vec<u8>, AllocEr
     Ok(block)
 }
 
-// The namespace of a context, by its number.
+// The namespace with a number.
 fn context_url(ns: u32) -> Option<&'static str>
     ensures { option_map (λ url. url.now) result ≡ context_url ns }
 {
@@ -140,7 +140,7 @@ pub extern "C" fn hengaruto_parse(
     give(block_of(alloc, page, options), block, length)
 }
 
-/// The tree of a fragment, as an element with this name and namespace would hold it.
+/// The tree of a fragment, parsed in an element with this name and namespace, as a block.
 #[unsafe(no_mangle)]
 pub extern "C" fn hengaruto_parse_fragment(
     alloc: Global,

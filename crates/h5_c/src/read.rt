@@ -1,4 +1,4 @@
-//! Reads of a block. Where it is none, or has no such node, each answers a status, 0 or `NOTHING`.
+//! Reads of a block. If the bytes aren't a block, or there is no such node, each returns a status, 0 or `NOTHING`.
 ghost use Rattle.std.specs.Prelude.{◌≡◌, ◌<◌, ◌≤◌, ◌==◌, ◌⊎◌, ◌&&◌, MatchOption, false, if◌then◌else◌, not, true};
 ghost use Rattle.h5_c.specs.Status.{HandsOut};
 ghost use Rattle.h5_flat.specs.Block as b;
@@ -9,7 +9,7 @@ use super::status::{NO_NODE, NO_TREE, OK, give};
 use h5_flat::{NOTHING, Span, View, html_of};
 use std::alloc::Global;
 
-/// The HTML of a node, with itself or of what stands below it.
+/// The HTML of a node: with the node itself, or of its descendants only.
 #[unsafe(no_mangle)]
 pub extern "C" fn hengaruto_html(
     alloc: Global,
@@ -33,7 +33,7 @@ pub extern "C" fn hengaruto_html(
     give(html_of(alloc, &view, node, outer != 0), html, length)
 }
 
-/// Whether a block is such as a parser makes. Looks at all of it.
+/// Returns `OK` if the nodes of a block are a tree, and each text, attribute and name lies within the block. Reads all of it.
 #[unsafe(no_mangle)]
 pub extern "C" fn hengaruto_check(block: &[u8]) -> u32
     ensures { result ≡ (if b.is_block block.now && is_sound block.now then 0 else 3) }
@@ -55,7 +55,7 @@ pub extern "C" fn hengaruto_quirks(block: &[u8]) -> u32
     }
 }
 
-/// How many nodes there are.
+/// The number of nodes.
 #[unsafe(no_mangle)]
 pub extern "C" fn hengaruto_node_count(block: &[u8]) -> u32
     ensures { result ≡ (if b.is_block block.now then b.nodes_in block.now else 0) }
@@ -77,7 +77,7 @@ pub extern "C" fn hengaruto_kind(block: &[u8], node: u32) -> u32
     }
 }
 
-/// The node below which a node stands: a smaller number.
+/// The parent of a node, which has a smaller number.
 #[unsafe(no_mangle)]
 pub extern "C" fn hengaruto_parent(block: &[u8], node: u32) -> u32
     ensures read { result ≡ (if b.is_block block.now then b.parent_in block.now node else b.nothing) }
@@ -89,7 +89,7 @@ pub extern "C" fn hengaruto_parent(block: &[u8], node: u32) -> u32
     }
 }
 
-/// The first child of a node: a greater number.
+/// The first child of a node, which has a greater number.
 #[unsafe(no_mangle)]
 pub extern "C" fn hengaruto_first_child(block: &[u8], node: u32) -> u32
     ensures read { result ≡ (if b.is_block block.now then b.first_child_in block.now node else b.nothing) }
@@ -101,7 +101,7 @@ pub extern "C" fn hengaruto_first_child(block: &[u8], node: u32) -> u32
     }
 }
 
-/// The next sibling of a node: a greater number.
+/// The next sibling of a node, which has a greater number.
 #[unsafe(no_mangle)]
 pub extern "C" fn hengaruto_next(block: &[u8], node: u32) -> u32
     ensures read { result ≡ (if b.is_block block.now then b.next_in block.now node else b.nothing) }
@@ -113,7 +113,7 @@ pub extern "C" fn hengaruto_next(block: &[u8], node: u32) -> u32
     }
 }
 
-/// The first node behind all that stands below a node: a greater number.
+/// The first node after the descendants of a node: a greater number.
 #[unsafe(no_mangle)]
 pub extern "C" fn hengaruto_end(block: &[u8], node: u32) -> u32
     ensures read { result ≡ (if b.is_block block.now then b.end_in block.now node else b.nothing) }
@@ -125,7 +125,7 @@ pub extern "C" fn hengaruto_end(block: &[u8], node: u32) -> u32
     }
 }
 
-/// The fragment that holds what stands in a template.
+/// The fragment that holds the contents of a template.
 #[unsafe(no_mangle)]
 pub extern "C" fn hengaruto_contents(block: &[u8], node: u32) -> u32
     ensures { result ≡ (if b.is_block block.now then b.contents_in block.now node else b.nothing) }
@@ -169,7 +169,7 @@ pub extern "C" fn hengaruto_prefix(block: &[u8], name: u32) -> u32
     }
 }
 
-// Says where bytes lie, if anywhere.
+// Stores the offset and the length of bytes, if there are any.
 fn put(span: Option<Span>, at: &mut usize, count: &mut usize) -> u32
     ensures { MatchOption span (result ≡ 2) (λ span. (result ≡ 0) × (at.new ≡ span.at) × (count.new ≡ span.count)) }
 {
@@ -183,7 +183,7 @@ fn put(span: Option<Span>, at: &mut usize, count: &mut usize) -> u32
     }
 }
 
-/// Where the text of a name lies.
+/// The place of the text of a name.
 #[unsafe(no_mangle)]
 pub extern "C" fn hengaruto_name_text(
     block: &[u8],
@@ -201,7 +201,7 @@ pub extern "C" fn hengaruto_name_text(
     }
 }
 
-/// Where the text of a node and of all below it lies.
+/// The place of the text of a node and its descendants.
 #[unsafe(no_mangle)]
 pub extern "C" fn hengaruto_text(block: &[u8], node: u32, at: &mut usize, count: &mut usize) -> u32
     ensures is { b.is_block block.now ≡ true → MatchOption (b.text_in block.now node) (result ≡ 2)
@@ -214,7 +214,7 @@ pub extern "C" fn hengaruto_text(block: &[u8], node: u32, at: &mut usize, count:
     }
 }
 
-/// How many rows a node has.
+/// The number of rows of a node.
 #[unsafe(no_mangle)]
 pub extern "C" fn hengaruto_row_count(block: &[u8], node: u32) -> u32
     ensures { result ≡ (if b.is_block block.now then b.row_count_in block.now node else 0) }
@@ -225,7 +225,7 @@ pub extern "C" fn hengaruto_row_count(block: &[u8], node: u32) -> u32
     }
 }
 
-/// A row of a node: the number of its name, and where its value lies.
+/// A row of a node: the number of its name, and the place of its value.
 #[unsafe(no_mangle)]
 pub extern "C" fn hengaruto_row(
     block: &[u8],

@@ -13,7 +13,7 @@ use html_tree_builder::select::{Selector, SelectorFault};
 use std::alloc::{AllocError, Global};
 use std::fmt::Write;
 
-// The elements below a node that a selector matches. Below a text stand none. Nothing where the arena doesn't have the node.
+// The elements below a node that a selector matches, or None if the arena doesn't have the node.
 fn select_below(
     alloc: Global,
     tree: &Unpacked,
@@ -29,7 +29,7 @@ fn select_below(
     }
 }
 
-// The numbers of the elements below a node that a selector matches. Nothing where the block has no tree.
+// The numbers of the elements below a node that a selector matches, or None if the block has no tree.
 fn select(
     alloc: Global,
     view: &View<'_>,
@@ -50,7 +50,7 @@ fn select(
     }
 }
 
-// What is said of a wrong selector.
+// The message about an invalid selector.
 fn message_of(alloc: Global, fault: SelectorFault) -> Result<Vec<u8>, AllocError> {
     let mut message = String::new(alloc);
     match write!(message, "{fault}") {
@@ -59,8 +59,8 @@ fn message_of(alloc: Global, fault: SelectorFault) -> Result<Vec<u8>, AllocError
     }
 }
 
-/// The elements below a node that a selector matches, in tree order, or a message that says what is wrong with it. Where the block
-/// isn't one that a tree was packed into it has no tree, and `NO_TREE` says so.
+/// The elements below a node that a selector matches, in tree order, or a message that says what is wrong with the selector. Returns `NO_TREE`
+/// if no tree was packed into the block.
 #[unsafe(no_mangle)]
 pub extern "C" fn hengaruto_select(
     alloc: Global,

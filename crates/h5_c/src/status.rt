@@ -1,4 +1,4 @@
-//! What a call answers, and how bytes are given to the caller.
+//! The statuses of calls, and how bytes are returned to the caller.
 ghost use Rattle.std.specs.Prelude.{◌≡◌, IfOk, MatchResult};
 ghost use Rattle.h5_flat.specs.Packed.{bytes_of_words};
 ghost use Rattle.h5_c.specs.Status.{HandsOut};
@@ -8,29 +8,29 @@ use std::mem::forget;
 
 pub(crate) const OK: u32 = 0;
 
-/// Memory was refused, or a tree is too large for a block.
+/// An allocation failed, or a tree is too large for a block.
 pub(crate) const MEMORY: u32 = 1;
 
 /// No such node, row or name.
 pub(crate) const NO_NODE: u32 = 2;
 
-/// The bytes are no block, or not one that a tree was packed into.
+/// The bytes aren't a block, or not one that a tree was packed into.
 pub(crate) const NO_TREE: u32 = 3;
 
-/// A name or a selector that isn't UTF-8, or a namespace in which no element stands.
+/// A name or a selector that isn't UTF-8, or a namespace that has no elements.
 pub(crate) const BAD_ARGUMENT: u32 = 4;
 
-/// A selector that isn't one.
+/// An invalid selector.
 pub(crate) const BAD_SELECTOR: u32 = 5;
 
-// Bytes with a NUL behind them: C may read them as a string, and even no bytes lie in memory of their own.
+// Bytes and a NUL after them: C may read them as a string, and even an empty result has its own memory.
 fn with_nul(bytes: Vec<u8>) -> Result<Vec<u8>, AllocError> {
     let mut bytes = bytes;
     bytes.push(0)?;
     Ok(bytes)
 }
 
-/// Gives bytes to the caller, which frees them with `free`. Where there are none, for want of memory, nothing is given.
+/// Returns bytes to the caller, which frees them with `free`. If there are none because an allocation failed, nothing is returned.
 pub(crate) fn give(made: Result<Vec<u8>, AllocError>, out: &mut *mut u8, length: &mut usize) -> u32
     ensures { MatchResult made (λ bytes. HandsOut bytes.items result length.new) (λ _. result ≡ 1) }
 {
@@ -47,7 +47,7 @@ pub(crate) fn give(made: Result<Vec<u8>, AllocError>, out: &mut *mut u8, length:
     OK
 }
 
-/// Words as bytes, the least one first.
+/// Words as bytes in little-endian order.
 pub(crate) fn bytes_of(alloc: Global, words: &[u32]) -> Result<Vec<u8>, AllocError>
     ensures { IfOk result (λ bytes. bytes.items ≡ bytes_of_words words.now) }
 {
