@@ -26,7 +26,7 @@ use Rattle.h5_clean.specs.Policies.{Rules}
 use Rattle.h5_clean.specs.Source.{Done, Source, calls_before, source_of}
 use Rattle.h5_clean.proofs.CallLaws.{tree_written}
 use Rattle.h5_clean.proofs.MarkLaws.{text_unmarked}
-use Rattle.h5_clean.proofs.PassLaws.{cleaned_let, cleaned_plain, cleaned_read, cleaned_same, cleaned_unmarked, cleaned_within}
+use Rattle.h5_clean.proofs.PassLaws.{cleaned_around, cleaned_let, cleaned_plain, cleaned_read, cleaned_same, cleaned_unmarked, cleaned_within}
 use Rattle.h5_clean.proofs.SourceLaws.{nodes_told, one_tree, tree_of, tree_told}
 
 -- ---- what a walk writes is what is left
@@ -164,6 +164,6 @@ module _ (around : (f : Forest) → IsForest f → (n : ℕ) (d : Node) → f.no
     pub stays : (r : Rules) (html out again : List ℕ) → IsCleaned r html out → IsCleaned r out again → again ≡ out
     stays r html out again h k =
         nothing_taken r out again (cleaned r h.source)
-        (record { plain = h.text.plain; readable = h.text.readable; allowed = h.allowed; within = h.within; unmarked = cleaned_unmarked r h.source })
+        (record { plain = cleaned_around r h.source; readable = h.text.readable; allowed = h.allowed; within = h.within; unmarked = cleaned_unmarked r h.source })
         (record { arena = k.is_tree.arena; builds = k.is_tree.builds; stands = comes_back r html out k.is_tree.arena h k.is_tree.builds }) k
         ∙ sym h.text.written

@@ -83,11 +83,11 @@ reads_utf8 t r = is_utf8-from_IsUtf8 t r.utf8
 
 -- ---- texts joined
 
-nul_joined : (t u : List ℕ) → NoNul t → NoNul u → NoNul (t ++ u)
+pub nul_joined : (t u : List ℕ) → NoNul t → NoNul u → NoNul (t ++ u)
 nul_joined [] u n m = m
 nul_joined (b ∷ t) u n m = (n.0, nul_joined t u n.1 m)
 
-cr_joined : (t u : List ℕ) → NoCr t → NoCr u → NoCr (t ++ u)
+pub cr_joined : (t u : List ℕ) → NoCr t → NoCr u → NoCr (t ++ u)
 cr_joined [] u n m = m
 cr_joined (b ∷ t) u n m = (n.0, cr_joined t u n.1 m)
 

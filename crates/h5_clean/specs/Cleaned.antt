@@ -8,13 +8,14 @@ use Rattle.h5_serialize.specs.Call.{Call}
 use Rattle.h5_serialize.specs.declared.options.TraversalScope.TheVariants.{ChildrenOnly}
 use Rattle.h5_arena.specs.ArenaModel.{ArenaView, arena_choices, forest_seen, fragment_root, seen_of, new_arena}
 use Rattle.h5_arena.specs.NodeCalls.{walk_of}
-use Rattle.h5_plain.specs.Plain.{Flow, IsPlain, Nodes, nothing_open}
+use Rattle.h5_plain.specs.Plain.{Flow, IsPlain, Nodes}
 use Rattle.h5_round_trip.specs.Readable.{CanBeRead}
 use Rattle.h5_round_trip.specs.Written.{written_fragment}
 use Rattle.h5_driver.specs.Options.{default_options}
 use Rattle.h5_driver.specs.PlainFragments.{FragmentStands, IsFragmentText}
 use Rattle.h5_driver.specs.StandardTexts.{ParsesFragment}
-use Rattle.h5_clean.specs.Pass.{AllLet, IsWithin, cleaned, with_first}
+use Rattle.h5_clean.specs.Pass.{AllLet, IsWithin, cleaned, first_place, with_first}
+use Rattle.h5_clean.specs.Places.{around}
 use Rattle.h5_clean.specs.Policies.{Rules}
 use Rattle.h5_clean.specs.Source.{Source, calls_before}
 use Rattle.h5_clean.specs.Texts.{without_marks}
@@ -55,7 +56,7 @@ pub record WritesCleaned (r : Rules) (calls : List Call) (before after : Option 
 
 -- a fragment of which nothing is to be taken
 pub record IsClean (r : Rules) (nodes : Nodes) : Type 0 where
-  pub plain : IsPlain true (Flow false nothing_open) nodes
+  pub plain : IsPlain true (Flow false (around (first_place r))) nodes
   pub readable : CanBeRead nodes
   pub allowed : AllLet r nodes
   pub within : IsWithin r.depth nodes

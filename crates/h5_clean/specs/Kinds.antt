@@ -16,7 +16,7 @@ unfoldable pub early_barrier_names : List (List ℕ)
 early_barrier_names = codes "article" ∷ codes "aside" ∷ codes "blockquote" ∷ codes "center" ∷ codes "details" ∷ codes "dir" ∷ codes "dl" ∷ codes "fieldset" ∷ codes "figcaption" ∷ codes "figure" ∷ []
 
 unfoldable pub late_barrier_names : List (List ℕ)
-late_barrier_names = codes "footer" ∷ codes "header" ∷ codes "hgroup" ∷ codes "main" ∷ codes "menu" ∷ codes "nav" ∷ codes "ol" ∷ codes "search" ∷ codes "section" ∷ codes "summary" ∷ codes "ul" ∷ []
+late_barrier_names = codes "footer" ∷ codes "header" ∷ codes "hgroup" ∷ codes "main" ∷ codes "menu" ∷ codes "nav" ∷ codes "ol" ∷ codes "section" ∷ codes "summary" ∷ codes "ul" ∷ []
 
 -- names, and the kind that they have
 pub record Row : Type 0 where

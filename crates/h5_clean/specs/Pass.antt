@@ -1,5 +1,5 @@
 -- What is left of a tree.
-use Rattle.std.specs.Prelude.{◌≡◌, ℕ, ◌-◌, ◌≤◌, ◌&&◌, ◌||◌, Bool, true, false, not, List, [], ◌∷◌, ◌++◌, if◌then◌else◌}
+use Rattle.std.specs.Prelude.{◌≡◌, ℕ, ◌-◌, ◌≤◌, ◌&&◌, ◌||◌, Bool, true, not, List, [], ◌∷◌, ◌++◌, if◌then◌else◌}
 use Rattle.h5_names.specs.declared.qualified.QualName.{QualName}
 use Rattle.h5_serialize.specs.Names.{is_html}
 use Rattle.h5_plain.specs.Plain.{ElementThen, End, Nodes, TextThen}
@@ -49,9 +49,9 @@ left_before r x (CommentThen text rest) more = left_before r x rest more
 left_before r x (DoctypeThen name rest) more = left_before r x rest more
 left_before r x (InstructionThen target content rest) more = left_before r x rest more
 
--- in flow, where nothing is open
+-- in flow, where that is open that may be open around the text
 abbrev pub first_place : Rules → Place
-first_place r = record { spot = spot.InFlow; in_p = false; in_heading = false; in_item = false; in_description = false; in_link = false; room = r.depth }
+first_place r = record { spot = spot.InFlow; in_p = r.around.in_p; in_heading = r.around.in_heading; in_item = r.around.in_item; in_description = r.around.in_description; in_link = r.around.in_link; room = r.depth }
 
 -- a fragment, cleaned: a reader takes the U+FEFF at its front
 abbrev pub cleaned : Rules → Source → Nodes

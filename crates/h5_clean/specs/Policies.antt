@@ -1,5 +1,6 @@
 -- What a policy says of elements and attributes, and what is left of attributes.
-use Rattle.std.specs.Prelude.{◌≡◌, ℕ, nat_eq, ◌&&◌, Bool, true, false, not, List, [], ◌∷◌, ◌++◌, Option, Some, None, codes, is_some, if◌then◌else◌}
+use Rattle.std.specs.Prelude.{◌≡◌, ℕ, ◌==◌, nat_eq, ◌&&◌, ◌||◌, Bool, true, false, not, List, [], ◌∷◌, ◌++◌, Option, Some, None, codes, is_some, if◌then◌else◌}
+use Rattle.std.specs.Char.{is_ascii_whitespace}
 use Rattle.std.specs.List.{list_all, starts_with}
 use Rattle.std.specs.Str.{is_utf8}
 use Rattle.h5_names.specs.AttributeText.{AttributeText, is_same_text}
@@ -7,17 +8,19 @@ use Rattle.h5_names.specs.declared.qualified.QualName.{QualName}
 use Rattle.h5_interface.specs.Changes.{has_attribute}
 use Rattle.h5_tables.specs.TagSets.{is_one_of}
 use Rattle.h5_round_trip.specs.Readable.{is_name_byte}
+use Rattle.h5_clean.specs.declared.place.Around.{Around}
 use Rattle.h5_clean.specs.Texts.{readable}
 
 -- which elements it names, by their local names; which go with all that they hold; which attributes an element keeps, by the
--- element's name, the attribute's and its value as it is left; what the attribute `rel` of an `a` is set to, if it is set; what the
--- value of an `id` or a `name` begins with, if that is set; and how deep elements go
+-- element's name, the attribute's and its value as it is left; what the attribute `rel` of an `a` is set to, if it is set; what names of
+-- things in the page begin with, if that is set; what may be open around the text where it is put; and how deep elements go
 pub record Rules : Type 0 where
   pub names : List ℕ → Bool
   pub drops : List ℕ → Bool
   pub keeps : List ℕ → List ℕ → List ℕ → Bool
   pub rel : Option (List ℕ)
   pub prefix : Option (List ℕ)
+  pub around : Around
   pub depth : ℕ
 
 -- a name that is read as it was written: bytes of names, one at least
@@ -33,28 +36,88 @@ bare local = record { prefix = None; ns = []; local = local }
 abbrev pub sets : Rules → (element local : List ℕ) → Bool
 sets r element local = is_same_text element (codes "a") && (is_same_text local (codes "rel") && is_some r.rel)
 
--- the attributes that name a thing in the page
-unfoldable pub id_names : List (List ℕ)
-id_names = codes "id" ∷ codes "name" ∷ []
+-- ---- attributes that no rules let through
 
--- what a prefix that is set comes to: as a text is left, if it is one; else nothing
+-- those that hold a page, a style, a secret, or URLs in a list, that make an element another, or use a map of the page
+unfoldable pub refused_names : List (List ℕ)
+refused_names =
+    codes "srcdoc" ∷ codes "style" ∷ codes "nonce" ∷ codes "is" ∷ codes "slot" ∷ codes "srcset" ∷ codes "imagesrcset" ∷
+    codes "http-equiv" ∷ codes "xlink:href" ∷ codes "ping" ∷ codes "attributionsrc" ∷ codes "archive" ∷ codes "usemap" ∷ []
+
+-- and those whose name begins with `on`, as each does that holds a script
+abbrev pub is_refused : List ℕ → Bool
+is_refused local = starts_with nat_eq local (codes "on") || is_one_of refused_names local
+
+-- those by which an element acts on another of the page: not without a prefix
+unfoldable pub acting_names : List (List ℕ)
+acting_names = codes "for" ∷ codes "form" ∷ codes "popovertarget" ∷ codes "commandfor" ∷ codes "interestfor" ∷ []
+
+abbrev pub may_act : (prefix local : List ℕ) → Bool
+may_act [] local = not (is_one_of acting_names local)
+may_act (b ∷ prefix) local = true
+
+-- ---- names of things in the page
+
+-- the attributes that name a thing, or refer to one by its name
+unfoldable pub id_names : List (List ℕ)
+id_names =
+    codes "id" ∷ codes "name" ∷ codes "for" ∷ codes "form" ∷ codes "list" ∷ codes "popovertarget" ∷ codes "commandfor" ∷
+    codes "interestfor" ∷ codes "aria-activedescendant" ∷ []
+
+-- those that refer to several
+unfoldable pub id_list_names : List (List ℕ)
+id_list_names =
+    codes "headers" ∷ codes "itemref" ∷ codes "aria-labelledby" ∷ codes "aria-describedby" ∷ codes "aria-controls" ∷
+    codes "aria-owns" ∷ codes "aria-details" ∷ codes "aria-flowto" ∷ codes "aria-errormessage" ∷ []
+
+-- a byte of a prefix: no blank, and no NUL
+abbrev pub is_prefix_byte : ℕ → Bool
+is_prefix_byte b = not (is_ascii_whitespace b || (b == 0))
+
+-- what a prefix that is set comes to: one with other bytes is none
 abbrev pub prefix_of : Option (List ℕ) → List ℕ
 prefix_of None = []
-prefix_of (Some prefix) = if is_utf8 prefix then readable prefix else []
+prefix_of (Some prefix) = if list_all is_prefix_byte prefix then prefix else []
 
 -- a text behind a prefix, unless it begins with it
 abbrev pub prefixed : (prefix text : List ℕ) → List ℕ
 prefixed prefix text = if starts_with nat_eq text prefix then text else prefix ++ text
 
--- what is left of an attribute's value: of an `id` or a `name` it stands behind the prefix
-abbrev pub value_left : Rules → (local value : List ℕ) → List ℕ
-value_left r local value = if is_one_of id_names local then prefixed (prefix_of r.prefix) (readable value) else readable value
+-- so each word of a text
+abbrev pub words_prefixed : (prefix : List ℕ) → (begins : Bool) → List ℕ → List ℕ
+words_prefixed prefix begins [] = []
+words_prefixed prefix begins (b ∷ t) =
+    if is_ascii_whitespace b then b ∷ words_prefixed prefix true t
+    else (if begins && not (starts_with nat_eq (b ∷ t) prefix) then prefix ++ b ∷ words_prefixed prefix false t
+    else b ∷ words_prefixed prefix false t)
 
--- an attribute stays if it has no namespace, a name that can be read and a value of characters, the rules keep it and don't set it, and
--- none before it has its name
+-- and what stands behind '#' at the front of a link, if anything does
+abbrev pub fragment_prefixed : (prefix text : List ℕ) → List ℕ
+fragment_prefixed prefix (b ∷ c ∷ t) = if b == 35 then b ∷ prefixed prefix (c ∷ t) else b ∷ c ∷ t
+fragment_prefixed prefix t = t
+
+-- a value of such an attribute behind the prefix
+abbrev pub named_behind : (prefix local text : List ℕ) → List ℕ
+named_behind prefix local text =
+    if is_one_of id_names local then prefixed prefix text
+    else (if is_one_of id_list_names local then words_prefixed prefix true text
+    else (if is_same_text local (codes "href") then fragment_prefixed prefix text
+    else text))
+
+-- ---- what is left
+
+-- what is left of an attribute's value
+abbrev pub value_left : Rules → (local value : List ℕ) → List ℕ
+value_left r local value = named_behind (prefix_of r.prefix) local (readable value)
+
+-- an attribute may stay if it isn't refused, has a name that can be read, and acts on nothing that the text doesn't hold
+abbrev pub may_stay : Rules → List ℕ → Bool
+may_stay r local = is_name local && (not (is_refused local) && may_act (prefix_of r.prefix) local)
+
+-- it does if it has no namespace, a value of characters, the rules keep it and don't set it, and none before it has its name
 abbrev pub stays : Rules → (element : List ℕ) → (before : List AttributeText) → AttributeText → Bool
 stays r element before a =
-    is_same_text a.name.ns [] && (is_name a.name.local && (is_utf8 a.value
+    is_same_text a.name.ns [] && (may_stay r a.name.local && (is_utf8 (value_left r a.name.local a.value)
     && (r.keeps element a.name.local (value_left r a.name.local a.value) && (not (sets r element a.name.local) && not (has_attribute (bare a.name.local) before)))))
 
 abbrev pub as_left : Rules → AttributeText → AttributeText
@@ -74,7 +137,15 @@ rel_of (Some value) = if is_utf8 value then record { name = bare (codes "rel"); 
 abbrev pub attributes_left : Rules → (element : List ℕ) → List AttributeText → List AttributeText
 attributes_left r element attrs = left_behind r element [] attrs ++ (if is_same_text element (codes "a") then rel_of r.rel else [])
 
--- of each that names a thing in the page the value begins with the prefix
+-- of each that names a thing in the page, or refers to one, the value begins with the prefix; so does each word of those that refer to
+-- several, and what stands behind '#'
 abbrev pub ArePrefixed : Rules → List AttributeText → Type 0
 ArePrefixed r [] = Unit {0}
-ArePrefixed r (a ∷ attrs) = (is_one_of id_names a.name.local ≡ true → starts_with nat_eq a.value (prefix_of r.prefix) ≡ true) × ArePrefixed r attrs
+ArePrefixed r (a ∷ attrs) =
+    (is_one_of id_names a.name.local ≡ true → starts_with nat_eq a.value (prefix_of r.prefix) ≡ true)
+    × ((named_behind (prefix_of r.prefix) a.name.local a.value ≡ a.value) × ArePrefixed r attrs)
+
+-- each may stay
+abbrev pub MayStay : Rules → List AttributeText → Type 0
+MayStay r [] = Unit {0}
+MayStay r (a ∷ attrs) = (may_stay r a.name.local ≡ true) × MayStay r attrs

@@ -1,10 +1,11 @@
 //! A policy that is a table.
 ghost use Rattle.std.specs.Prelude.{◌≡◌, ◌∷◌, ◌++◌, [], None, Some, OnOk, OnErr, true, false};
 ghost use Rattle.h5_tables.specs.TagSets.{is_one_of};
-ghost use Rattle.h5_clean.specs.AllowLists.{holds_url, is_listed, keeps_listed, leads_well, table_rules, url_names};
+ghost use Rattle.h5_clean.specs.AllowLists.{holds_url, is_listed, keeps_listed, leads_well, more_url_names, table_rules, url_names};
 ghost use Rattle.h5_clean.specs.TextPolicy.{keeping, scheme_of};
 
 use super::name_list::{AttributeList, NameList, any_keeps};
+use super::place::Around;
 use super::policy::Policy;
 use super::urls::leads_well;
 use std::alloc::{AllocError, Global};
@@ -23,6 +24,7 @@ pub struct AllowList {
     relative: bool,
     rel: Option<String>,
     prefix: Option<String>,
+    around: Around,
     depth: usize,
 }
 
@@ -39,6 +41,7 @@ impl Drop for AllowList {
             relative: _relative,
             rel: _rel,
             prefix: _prefix,
+            around: _around,
             depth: _depth,
         } = self;
     }
@@ -61,6 +64,7 @@ impl Model for AllowList {
       relative = list.relative;
       rel = option_map string_bytes list.rel;
       prefix = option_map string_bytes list.prefix;
+      around = list.around;
       depth = list.depth;
     } };
 }
@@ -70,11 +74,34 @@ impl Model for AllowList {
 fn is_url_name(attribute: &str) -> bool
     ensures { result ≡ is_one_of url_names attribute.now }
 {
-    matches!(attribute, "href" | "src" | "cite")
+    matches!(
+        attribute,
+        "href"
+            | "src"
+            | "cite"
+            | "action"
+            | "background"
+            | "classid"
+            | "codebase"
+            | "data"
+            | "dynsrc"
+            | "formaction"
+    )
+}
+
+#[tactic(auto, unfolding(crate::specs::AllowLists::more_url_names))]
+fn is_another_url_name(attribute: &str) -> bool
+    ensures { result ≡ is_one_of more_url_names attribute.now }
+{
+    matches!(
+        attribute,
+        "icon" | "itemid" | "itemtype" | "longdesc" | "lowsrc" | "manifest" | "poster" | "profile"
+    )
 }
 
 impl AllowList {
-    /// Lists nothing, lets URLs be relative, sets no `rel` and no prefix, and lets elements be nested 256 deep.
+    /// Lists nothing, lets URLs be relative, sets no `rel` and no prefix, lets items be open around the text, and elements be nested 256
+    /// deep.
     pub fn new(alloc: Global) -> AllowList
         ensures { result ≡ record {
           elements = [];
@@ -86,6 +113,7 @@ impl AllowList {
           relative = true;
           rel = None;
           prefix = None;
+          around = record { in_p = false; in_heading = false; in_item = true; in_description = true; in_link = false };
           depth = 256;
         } }
     {
@@ -100,6 +128,7 @@ impl AllowList {
             relative: true,
             rel: None,
             prefix: None,
+            around: Around::items(),
             depth: 256,
         }
     }
@@ -140,8 +169,8 @@ impl AllowList {
         Ok(())
     }
 
-    /// Has attributes of this name hold a URL, as `href`, `src` and `cite` always do: what they lead to is asked. Where memory is refused
-    /// nothing changes.
+    /// Has attributes of this name hold a URL, as `href`, `src`, `cite`, `poster` and other attributes of HTML always do: what they lead to
+    /// is asked. Where memory is refused nothing changes.
     pub fn add_url(&mut self, name: &str) -> Result<(), AllocError>
         ensures ok { OnOk result (self.new ≡ record self.old { urls = self.old.urls ++ name.now ∷ [] }) }
         ensures err { OnErr result (self.new ≡ self.old) }
@@ -174,8 +203,8 @@ impl AllowList {
         Ok(())
     }
 
-    /// Has the value of each `id` and each `name` that is kept begin with this: it is put before those that don't. Where memory is refused
-    /// nothing changes.
+    /// Has each name of a thing in the page begin with this, in each `id` and `name` that is kept and in what refers to one: it is put
+    /// before those that don't. One with a blank or NUL is none. Where memory is refused nothing changes.
     pub fn set_prefix(&mut self, prefix: &str) -> Result<(), AllocError>
         ensures ok { OnOk result (self.new ≡ record self.old { prefix = Some prefix.now }) }
         ensures err { OnErr result (self.new ≡ self.old) }
@@ -185,7 +214,14 @@ impl AllowList {
         Ok(())
     }
 
-    /// Lets elements be nested so deep.
+    /// Says what may be open around the text where it is put.
+    pub fn set_around(&mut self, around: Around)
+        ensures { self.new ≡ record self.old { around = around } }
+    {
+        self.around = around;
+    }
+
+    /// Lets elements be nested so deep. Browsers put no element deeper than 512, those around the text counted.
     pub fn set_depth(&mut self, depth: usize)
         ensures { self.new ≡ record self.old { depth = depth } }
     {
@@ -204,7 +240,7 @@ impl AllowList {
     fn holds_url(&self, attribute: &str) -> bool
         ensures { result ≡ holds_url self.now attribute.now }
     {
-        is_url_name(attribute) || self.urls.has(attribute)
+        is_url_name(attribute) || is_another_url_name(attribute) || self.urls.has(attribute)
     }
 
     // Whether a URL is relative, where it may be, or has a scheme that is listed.
@@ -247,6 +283,11 @@ impl Policy for AllowList {
             Some(prefix) => Some(prefix.as_str()),
             None => None,
         }
+    }
+
+    // What was set, or items and descriptions.
+    fn around(&self) -> Around {
+        self.around
     }
 
     // What was set, or 256.

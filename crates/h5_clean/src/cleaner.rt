@@ -111,7 +111,7 @@ impl<'a, P: Policy, Wr: Write + Drop> Cleaner<'a, P, Wr> {
     {
         match self.elements.last() {
             Some(open) => open.place,
-            None => Place::in_flow(self.policy.depth()),
+            None => Place::first(self.policy.around(), self.policy.depth()),
         }
     }
 

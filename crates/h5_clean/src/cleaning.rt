@@ -15,6 +15,7 @@ ghost use Rattle.h5_clean.specs.Cleaned.{Builds, BuildsFragment, IsClean, IsClea
 use super::cleaner::Cleaner;
 use super::laws::{a_clean_text_stays, a_cleaned_text_stays};
 use super::policy::Policy;
+use super::texts::text_of_bytes;
 use h5_arena::{Arena, NodeRef};
 use h5_driver::ParseOpts;
 use h5_driver::standard::{Parser, parse_fragment};
@@ -97,13 +98,6 @@ pub fn clean_into<P: Policy, Wr: Write + Drop>(
     let arena = tree_of(alloc, html)?;
     let given = clean_fragment(alloc, &arena, policy, writer)?;
     Ok(given)
-}
-
-// Bytes as a text. What a cleaner has written is one.
-fn text_of_bytes(bytes: Vec<u8>) -> Result<String, AllocError>
-    ensures { IfOk result (λ text. string_bytes text ≡ bytes.items) }
-{
-    String::from_utf8(bytes).map_err(refused)
 }
 
 // What is left of a text, as bytes.

@@ -146,7 +146,6 @@ fn is_late_barrier(name: &str) -> bool
             | "menu"
             | "nav"
             | "ol"
-            | "search"
             | "section"
             | "summary"
             | "ul"

@@ -1,11 +1,16 @@
 //! The laws of cleaning, each the contract of a function that does nothing.
-ghost use Rattle.std.specs.Prelude.{◌≡◌, ℕ, Bool, false, true, List, []};
+ghost use Rattle.std.specs.Prelude.{◌≡◌, ◌≢◌, ◌++◌, ℕ, Bool, false, true, List, []};
 ghost use Rattle.std.specs.Str.{is_utf8};
 ghost use Rattle.h5_names.specs.AttributeText.{AttributeText};
 ghost use Rattle.h5_names.specs.declared.qualified.QualName.{QualName};
 ghost use Rattle.h5_interface.specs.Seen.{Seen};
 ghost use Rattle.h5_interface.specs.SinkChoices.{SinkChoices};
+ghost use Rattle.h5_states.specs.Reading.{ReaderPlace};
+ghost use Rattle.h5_rules.specs.Run.{View};
+ghost use Rattle.h5_rules.specs.Sound.{Fitting};
 ghost use Rattle.h5_plain.specs.Rebuilding.{HoldsDocument};
+ghost use Rattle.h5_plain.specs.Staying.{IsBox};
+ghost use Rattle.h5_round_trip.specs.Inside.{IsInData, StaysRead, text_before};
 ghost use Rattle.h5_driver.specs.Options.{default_options};
 ghost use Rattle.h5_driver.specs.PlainFragments.{FragmentStands, IsBodyContext};
 ghost use Rattle.h5_driver.specs.StandardTexts.{ParsesFragment};
@@ -17,14 +22,16 @@ ghost use Rattle.h5_plain.specs.Plain.{ArePlain, Flow, IsPlain, Nodes, nothing_o
 ghost use Rattle.h5_round_trip.specs.Readable.{AreReadable, CanBeRead, IsReadable};
 ghost use Rattle.h5_round_trip.specs.Written.{written_fragment};
 ghost use Rattle.h5_clean.specs.Calls.{after_call, first_state, text_of};
-ghost use Rattle.h5_clean.specs.Pass.{AllLet, IsWithin, cleaned, with_first};
-ghost use Rattle.h5_clean.specs.Policies.{ArePrefixed, Rules, attributes_left};
+ghost use Rattle.h5_clean.specs.Pass.{AllLet, IsWithin, cleaned, first_place, with_first};
+ghost use Rattle.h5_clean.specs.Places.{around};
+ghost use Rattle.h5_clean.specs.Policies.{ArePrefixed, MayStay, Rules, attributes_left};
 ghost use Rattle.h5_clean.specs.Source.{Source, calls_before, source_of};
 ghost use Rattle.h5_clean.specs.Texts.{readable, without_marks};
 
 use h5_arena::laws::calls_stand_around_those_of_children;
 use h5_driver::Reader;
 use h5_driver::laws::{fragments_come_back, fragments_come_back_over};
+use h5_round_trip::laws::standard::texts_stay_in_their_box;
 
 /// What is left of a text is read as it was written, and all is left of a text that is read so.
 pub fn what_is_left_of_a_text_can_be_read()
@@ -40,13 +47,21 @@ pub fn what_is_left_of_attributes_can_be_read()
         attributes_left rules element (attributes_left rules element attrs) ≡ attributes_left rules element attrs }
 {}
 
-/// Of the attributes that are left, the value of each `id` and each `name` begins with the prefix, if one is set.
+/// Whatever the rules say, no attribute that is left begins with `on`, is `style`, `srcdoc` or another that is refused, or acts without a
+/// prefix on another element.
+pub fn what_is_left_of_attributes_may_stay()
+    ensures { (rules : Rules) (element : List ℕ) (attrs : List AttributeText) → MayStay rules (attributes_left rules element attrs) }
+{}
+
+/// Of the attributes that are left, each name of a thing in the page begins with the prefix, if one is set: in `id` and `name`, and in those
+/// that refer to one or several.
 pub fn what_is_left_of_names_is_prefixed()
     ensures { (rules : Rules) (element : List ℕ) (attrs : List AttributeText) → ArePrefixed rules (attributes_left rules element attrs) }
 {}
 
 /// What is left of a tree is a plain fragment that can be read, of which the rules let all through.
 pub fn what_is_left_fits()
+    ensures around { (rules : Rules) (source : Source) → IsPlain true (Flow false (around (first_place rules))) (cleaned rules source) }
     ensures plain { (rules : Rules) (source : Source) → IsPlain true (Flow false nothing_open) (cleaned rules source) }
     ensures readable { (rules : Rules) (source : Source) → CanBeRead (cleaned rules source) }
     ensures allowed { (rules : Rules) (source : Source) → AllLet rules (cleaned rules source) × IsWithin rules.depth (cleaned rules source) }
@@ -55,7 +70,7 @@ pub fn what_is_left_fits()
 
 /// Of a plain fragment that can be read, that doesn't begin with U+FEFF, and of which the rules let all through, all is left.
 pub fn what_fits_is_left()
-    ensures { (rules : Rules) (nodes : Nodes) → IsPlain true (Flow false nothing_open) nodes → CanBeRead nodes
+    ensures { (rules : Rules) (nodes : Nodes) → IsPlain true (Flow false (around (first_place rules))) nodes → CanBeRead nodes
         → AllLet rules nodes → IsWithin rules.depth nodes → with_first without_marks nodes ≡ nodes
         → cleaned rules (source_of nodes) ≡ nodes }
 {}
@@ -111,6 +126,20 @@ pub fn what_is_left_comes_back_over<R: Reader>()
         → FragmentStands told.forest (cleaned rules cleaned_is.source) }
 {
     fragments_come_back_over::<R>();
+}
+
+/// What is left of a text stays in its box. Where the standard's reader is in data, over a builder that stands in the middle of a page, at
+/// an element in which no more is open than the rules say, it reads the text up to what follows, as behind one opaque element: the open
+/// elements, the mode and the list of active formatting elements are the same then, and what was let through stands behind that element's
+/// children.
+pub fn what_is_left_stays_in_its_box()
+    ensures { (choices : SinkChoices) (rules : Rules) (html out : List ℕ) (cleaned_is : IsCleaned rules html out)
+        (foreign : View → Bool) (place : ReaderPlace) (view : View) (box : IsBox (around (first_place rules)) view.world) (rest : List ℕ) →
+        IsInData place → Fitting view.world → view.ended ≡ false → view.failed ≡ false → rest ≢ []
+        → (text_before (cleaned rules cleaned_is.source) rest ≡ out ++ rest)
+        × StaysRead choices foreign place view (around (first_place rules)) box (cleaned rules cleaned_is.source) rest }
+{
+    texts_stay_in_their_box();
 }
 
 /// A cleaned text stays.

@@ -25,10 +25,11 @@ mod texts;
 mod urls;
 
 pub use allow_list::AllowList;
+pub use attributes::{is_prefix, is_refused, may_act};
 pub use cleaner::{Cleaner, Front};
 pub use cleaning::{clean, clean_into, clean_tree};
 pub use elements::OpenElement;
 pub use kind::{Kind, kind_of};
-pub use place::{Place, Spot};
+pub use place::{Around, Place, Spot};
 pub use policy::Policy;
 pub use text_policy::TextPolicy;

@@ -1,5 +1,5 @@
 //! Where nodes may stand.
-ghost use Rattle.std.specs.Prelude.{◌≡◌, false};
+ghost use Rattle.std.specs.Prelude.{◌≡◌, false, true};
 ghost use Rattle.h5_clean.specs.Places.{fits, fits_at, fits_in_flow, inside, nowhere};
 ghost use Rattle.h5_clean.specs.Places as places;
 
@@ -39,18 +39,77 @@ pub struct Place {
     pub room: usize,
 }
 
-impl Place {
-    /// In flow, where nothing is open.
-    pub fn in_flow(room: usize) -> Place
-        ensures { result ≡ record { spot = Spot.InFlow; in_p = false; in_heading = false; in_item = false; in_description = false; in_link = false; room = room } }
+/// What may be open around a text in the page that it is put into, of what the rules of "in body" ask.
+#[derive(Clone, Copy, Debug, PartialEq, Eq)]
+pub struct Around {
+    /// A `p`.
+    pub in_p: bool,
+    /// A heading, right around it.
+    pub in_heading: bool,
+    /// An `li` that no other element hides.
+    pub in_item: bool,
+    /// A `dd` or `dt` that no other element hides.
+    pub in_description: bool,
+    /// An `a`.
+    pub in_link: bool,
+}
+
+impl Around {
+    /// Nothing: the text is a fragment of its own, or stands right in an element that hides what is around.
+    pub fn nothing() -> Around
+        ensures { result ≡ record { in_p = false; in_heading = false; in_item = false; in_description = false; in_link = false } }
     {
-        Place {
-            spot: Spot::InFlow,
+        Around {
             in_p: false,
             in_heading: false,
             in_item: false,
             in_description: false,
             in_link: false,
+        }
+    }
+
+    /// An item of a list, or a description, as where comments are items of a list.
+    pub fn items() -> Around
+        ensures { result ≡ record { in_p = false; in_heading = false; in_item = true; in_description = true; in_link = false } }
+    {
+        let mut around = Around::nothing();
+        around.in_item = true;
+        around.in_description = true;
+        around
+    }
+
+    /// These, and a link.
+    pub fn link() -> Around
+        ensures { result ≡ record { in_p = false; in_heading = false; in_item = true; in_description = true; in_link = true } }
+    {
+        let mut around = Around::items();
+        around.in_link = true;
+        around
+    }
+
+    /// All of it: the text stands in a line of a `p`, a heading or a link, so it holds no blocks.
+    pub fn line() -> Around
+        ensures { result ≡ record { in_p = true; in_heading = true; in_item = true; in_description = true; in_link = true } }
+    {
+        let mut around = Around::link();
+        around.in_p = true;
+        around.in_heading = true;
+        around
+    }
+}
+
+impl Place {
+    /// In flow, where this is open around.
+    pub fn first(around: Around, room: usize) -> Place
+        ensures { result ≡ record { spot = Spot.InFlow; in_p = around.in_p; in_heading = around.in_heading; in_item = around.in_item; in_description = around.in_description; in_link = around.in_link; room = room } }
+    {
+        Place {
+            spot: Spot::InFlow,
+            in_p: around.in_p,
+            in_heading: around.in_heading,
+            in_item: around.in_item,
+            in_description: around.in_description,
+            in_link: around.in_link,
             room,
         }
     }
@@ -114,7 +173,7 @@ impl Place {
     fn alone(&self) -> Place
         ensures { result ≡ places.alone self.now }
     {
-        Place::in_flow(self.room.saturating_sub(1))
+        Place::first(Around::nothing(), self.room.saturating_sub(1))
     }
 
     // Inside of an element through which an item is seen.

@@ -47,3 +47,10 @@ pub fn without_marks(text: &str) -> &str
 {
     text.trim_start_matches('\u{feff}')
 }
+
+/// Bytes as a text. An `AllocError` where they are none.
+pub fn text_of_bytes(bytes: Vec<u8>) -> Result<String, AllocError>
+    ensures { IfOk result (λ text. string_bytes text ≡ bytes.items) }
+{
+    String::from_utf8(bytes).map_err(|_| AllocError)
+}

@@ -86,7 +86,7 @@ unfoldable pub barrier_names : List (List ℕ)
 barrier_names =
     codes "article" ∷ codes "aside" ∷ codes "blockquote" ∷ codes "center" ∷ codes "details" ∷ codes "dir" ∷ codes "dl" ∷
     codes "fieldset" ∷ codes "figcaption" ∷ codes "figure" ∷ codes "footer" ∷ codes "header" ∷ codes "hgroup" ∷ codes "main" ∷
-    codes "menu" ∷ codes "nav" ∷ codes "ol" ∷ codes "search" ∷ codes "section" ∷ codes "summary" ∷ codes "ul" ∷ []
+    codes "menu" ∷ codes "nav" ∷ codes "ol" ∷ codes "section" ∷ codes "summary" ∷ codes "ul" ∷ []
 
 -- what has no end tag and stands in a line
 unfoldable pub mark_names : List (List ℕ)

@@ -4,6 +4,7 @@ ghost use Rattle.h5_token.specs.TokenText.{TokenText};
 ghost use Rattle.h5_interface.specs.SinkChoices.{SinkChoices};
 ghost use Rattle.h5_rules.specs.Run.{View};
 ghost use Rattle.h5_plain.specs.Rebuilding.{RebuildsAll, RebuildsFragments};
+ghost use Rattle.h5_plain.specs.Staying.{StayInBox};
 
 /// The tokens of a plain document, however its texts are cut, rebuild exactly that document: from a builder
 /// that took nothing yet, with the default options, over any sink that holds its document alone, in no
@@ -26,4 +27,12 @@ pub fn documents_are_rebuilt()
 /// these nodes below the root.
 pub fn fragments_are_rebuilt()
     ensures { (choices : SinkChoices) (tokens : List TokenText) (view : View) → RebuildsFragments choices tokens view }
+{}
+
+/// Nodes stay in their box. Where a builder, of a document or of a fragment, stands in the middle of a page at an element that takes what
+/// stands in flow (`IsBox`), the tokens of nodes that fit there leave the same elements open, the same mode and the same list of active
+/// formatting elements: of the forest that element alone has changed, behind whose children these nodes stand. So what comes behind
+/// them is read as behind one opaque child.
+pub fn nodes_stay_in_their_box()
+    ensures { (choices : SinkChoices) (tokens : List TokenText) (view : View) → StayInBox choices tokens view }
 {}

@@ -51,7 +51,7 @@ open_block_all = (record { tag = record { first = 97; more = codes "ddress"; is 
 
 barrier_all : AreOrdinary barrier_names
 unfolding barrier_names void_names raw_names
-barrier_all = (record { tag = record { first = 97; more = codes "rticle"; is = refl; letter = refl; bytes = (refl, (refl, (refl, (refl, (refl, (refl, (refl, tt))))))) }; ends = refl; other = refl; raw = refl; noscript = refl }, (record { tag = record { first = 97; more = codes "side"; is = refl; letter = refl; bytes = (refl, (refl, (refl, (refl, (refl, tt))))) }; ends = refl; other = refl; raw = refl; noscript = refl }, (record { tag = record { first = 98; more = codes "lockquote"; is = refl; letter = refl; bytes = (refl, (refl, (refl, (refl, (refl, (refl, (refl, (refl, (refl, (refl, tt)))))))))) }; ends = refl; other = refl; raw = refl; noscript = refl }, (record { tag = record { first = 99; more = codes "enter"; is = refl; letter = refl; bytes = (refl, (refl, (refl, (refl, (refl, (refl, tt)))))) }; ends = refl; other = refl; raw = refl; noscript = refl }, (record { tag = record { first = 100; more = codes "etails"; is = refl; letter = refl; bytes = (refl, (refl, (refl, (refl, (refl, (refl, (refl, tt))))))) }; ends = refl; other = refl; raw = refl; noscript = refl }, (record { tag = record { first = 100; more = codes "ir"; is = refl; letter = refl; bytes = (refl, (refl, (refl, tt))) }; ends = refl; other = refl; raw = refl; noscript = refl }, (record { tag = record { first = 100; more = codes "l"; is = refl; letter = refl; bytes = (refl, (refl, tt)) }; ends = refl; other = refl; raw = refl; noscript = refl }, (record { tag = record { first = 102; more = codes "ieldset"; is = refl; letter = refl; bytes = (refl, (refl, (refl, (refl, (refl, (refl, (refl, (refl, tt)))))))) }; ends = refl; other = refl; raw = refl; noscript = refl }, (record { tag = record { first = 102; more = codes "igcaption"; is = refl; letter = refl; bytes = (refl, (refl, (refl, (refl, (refl, (refl, (refl, (refl, (refl, (refl, tt)))))))))) }; ends = refl; other = refl; raw = refl; noscript = refl }, (record { tag = record { first = 102; more = codes "igure"; is = refl; letter = refl; bytes = (refl, (refl, (refl, (refl, (refl, (refl, tt)))))) }; ends = refl; other = refl; raw = refl; noscript = refl }, (record { tag = record { first = 102; more = codes "ooter"; is = refl; letter = refl; bytes = (refl, (refl, (refl, (refl, (refl, (refl, tt)))))) }; ends = refl; other = refl; raw = refl; noscript = refl }, (record { tag = record { first = 104; more = codes "eader"; is = refl; letter = refl; bytes = (refl, (refl, (refl, (refl, (refl, (refl, tt)))))) }; ends = refl; other = refl; raw = refl; noscript = refl }, (record { tag = record { first = 104; more = codes "group"; is = refl; letter = refl; bytes = (refl, (refl, (refl, (refl, (refl, (refl, tt)))))) }; ends = refl; other = refl; raw = refl; noscript = refl }, (record { tag = record { first = 109; more = codes "ain"; is = refl; letter = refl; bytes = (refl, (refl, (refl, (refl, tt)))) }; ends = refl; other = refl; raw = refl; noscript = refl }, (record { tag = record { first = 109; more = codes "enu"; is = refl; letter = refl; bytes = (refl, (refl, (refl, (refl, tt)))) }; ends = refl; other = refl; raw = refl; noscript = refl }, (record { tag = record { first = 110; more = codes "av"; is = refl; letter = refl; bytes = (refl, (refl, (refl, tt))) }; ends = refl; other = refl; raw = refl; noscript = refl }, (record { tag = record { first = 111; more = codes "l"; is = refl; letter = refl; bytes = (refl, (refl, tt)) }; ends = refl; other = refl; raw = refl; noscript = refl }, (record { tag = record { first = 115; more = codes "earch"; is = refl; letter = refl; bytes = (refl, (refl, (refl, (refl, (refl, (refl, tt)))))) }; ends = refl; other = refl; raw = refl; noscript = refl }, (record { tag = record { first = 115; more = codes "ection"; is = refl; letter = refl; bytes = (refl, (refl, (refl, (refl, (refl, (refl, (refl, tt))))))) }; ends = refl; other = refl; raw = refl; noscript = refl }, (record { tag = record { first = 115; more = codes "ummary"; is = refl; letter = refl; bytes = (refl, (refl, (refl, (refl, (refl, (refl, (refl, tt))))))) }; ends = refl; other = refl; raw = refl; noscript = refl }, (record { tag = record { first = 117; more = codes "l"; is = refl; letter = refl; bytes = (refl, (refl, tt)) }; ends = refl; other = refl; raw = refl; noscript = refl }, tt)))))))))))))))))))))
+barrier_all = (record { tag = record { first = 97; more = codes "rticle"; is = refl; letter = refl; bytes = (refl, (refl, (refl, (refl, (refl, (refl, (refl, tt))))))) }; ends = refl; other = refl; raw = refl; noscript = refl }, (record { tag = record { first = 97; more = codes "side"; is = refl; letter = refl; bytes = (refl, (refl, (refl, (refl, (refl, tt))))) }; ends = refl; other = refl; raw = refl; noscript = refl }, (record { tag = record { first = 98; more = codes "lockquote"; is = refl; letter = refl; bytes = (refl, (refl, (refl, (refl, (refl, (refl, (refl, (refl, (refl, (refl, tt)))))))))) }; ends = refl; other = refl; raw = refl; noscript = refl }, (record { tag = record { first = 99; more = codes "enter"; is = refl; letter = refl; bytes = (refl, (refl, (refl, (refl, (refl, (refl, tt)))))) }; ends = refl; other = refl; raw = refl; noscript = refl }, (record { tag = record { first = 100; more = codes "etails"; is = refl; letter = refl; bytes = (refl, (refl, (refl, (refl, (refl, (refl, (refl, tt))))))) }; ends = refl; other = refl; raw = refl; noscript = refl }, (record { tag = record { first = 100; more = codes "ir"; is = refl; letter = refl; bytes = (refl, (refl, (refl, tt))) }; ends = refl; other = refl; raw = refl; noscript = refl }, (record { tag = record { first = 100; more = codes "l"; is = refl; letter = refl; bytes = (refl, (refl, tt)) }; ends = refl; other = refl; raw = refl; noscript = refl }, (record { tag = record { first = 102; more = codes "ieldset"; is = refl; letter = refl; bytes = (refl, (refl, (refl, (refl, (refl, (refl, (refl, (refl, tt)))))))) }; ends = refl; other = refl; raw = refl; noscript = refl }, (record { tag = record { first = 102; more = codes "igcaption"; is = refl; letter = refl; bytes = (refl, (refl, (refl, (refl, (refl, (refl, (refl, (refl, (refl, (refl, tt)))))))))) }; ends = refl; other = refl; raw = refl; noscript = refl }, (record { tag = record { first = 102; more = codes "igure"; is = refl; letter = refl; bytes = (refl, (refl, (refl, (refl, (refl, (refl, tt)))))) }; ends = refl; other = refl; raw = refl; noscript = refl }, (record { tag = record { first = 102; more = codes "ooter"; is = refl; letter = refl; bytes = (refl, (refl, (refl, (refl, (refl, (refl, tt)))))) }; ends = refl; other = refl; raw = refl; noscript = refl }, (record { tag = record { first = 104; more = codes "eader"; is = refl; letter = refl; bytes = (refl, (refl, (refl, (refl, (refl, (refl, tt)))))) }; ends = refl; other = refl; raw = refl; noscript = refl }, (record { tag = record { first = 104; more = codes "group"; is = refl; letter = refl; bytes = (refl, (refl, (refl, (refl, (refl, (refl, tt)))))) }; ends = refl; other = refl; raw = refl; noscript = refl }, (record { tag = record { first = 109; more = codes "ain"; is = refl; letter = refl; bytes = (refl, (refl, (refl, (refl, tt)))) }; ends = refl; other = refl; raw = refl; noscript = refl }, (record { tag = record { first = 109; more = codes "enu"; is = refl; letter = refl; bytes = (refl, (refl, (refl, (refl, tt)))) }; ends = refl; other = refl; raw = refl; noscript = refl }, (record { tag = record { first = 110; more = codes "av"; is = refl; letter = refl; bytes = (refl, (refl, (refl, tt))) }; ends = refl; other = refl; raw = refl; noscript = refl }, (record { tag = record { first = 111; more = codes "l"; is = refl; letter = refl; bytes = (refl, (refl, tt)) }; ends = refl; other = refl; raw = refl; noscript = refl }, (record { tag = record { first = 115; more = codes "ection"; is = refl; letter = refl; bytes = (refl, (refl, (refl, (refl, (refl, (refl, (refl, tt))))))) }; ends = refl; other = refl; raw = refl; noscript = refl }, (record { tag = record { first = 115; more = codes "ummary"; is = refl; letter = refl; bytes = (refl, (refl, (refl, (refl, (refl, (refl, (refl, tt))))))) }; ends = refl; other = refl; raw = refl; noscript = refl }, (record { tag = record { first = 117; more = codes "l"; is = refl; letter = refl; bytes = (refl, (refl, tt)) }; ends = refl; other = refl; raw = refl; noscript = refl }, tt))))))))))))))))))))
 
 term_all : AreOrdinary term_names
 unfolding term_names void_names raw_names

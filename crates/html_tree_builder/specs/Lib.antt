@@ -31,6 +31,8 @@ pub use Rattle.h5_selectors.specs.Selected
 pub use Rattle.h5_selectors.specs.Ways
 pub use Rattle.h5_plain.specs.Plain
 pub use Rattle.h5_plain.specs.Rebuilding
+pub use Rattle.h5_plain.specs.Staying
+pub use Rattle.h5_round_trip.specs.Inside
 pub use Rattle.h5_round_trip.specs.Readable
 pub use Rattle.h5_round_trip.specs.Written
 pub use Rattle.h5_rules.specs.Run

@@ -496,3 +496,22 @@ module _ {M : Type 0} (reply_to : M → TokenText → Reply) (after : M → Toke
   pub fragment_read : {b : Bool} (ns : Nodes) (m : M) → Shape b ns → CanBeRead ns → AnswersCuts reply_to → Answers reply_to after m (fragment_tokens ns)
       → ReadsCut (first_place default_options) m (written_fragment ns) (fragment_tokens ns)
   fragment_read ns m shape readable cuts answers = nodes_read (as_written ns) m (shape_written shape) (read_written ns readable) cuts answers
+
+  -- in the middle of an input, the text of nodes is read as their tokens, from data to data
+  pub nodes_inside : {b : Bool} (ns : Nodes) (p : ReaderPlace) (m : M) (rest : List ℕ) → Shape b ns → CanBeRead ns → IsSome rest → IsIn p (TextState text.Data) → Answers reply_to after m (tokens_before ns [])
+      → Reached p m (written_before ns rest) (tokens_before ns []) false [] rest
+  nodes_inside ns p m rest shape readable some is answers =
+      let xs = written_before ns rest in
+      let first : Reached p m xs (tokens_before ns []) false (tokens_before ns []) xs = record {
+        place = p;
+        meaning = m;
+        handed = [];
+        reply = Continues;
+        goes = refl;
+        read = nothing_read;
+        is_in = is;
+        answers = answers;
+        whole = refl;
+        quietly = λ s none. begins_quietly reply_to after foreign p s m xs none;
+      } in
+      nodes_taken p m xs (tokens_before ns []) ns [] rest shape readable (room ns rest some) first

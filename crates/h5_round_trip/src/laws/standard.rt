@@ -15,7 +15,9 @@ ghost use Rattle.h5_states.specs.declared.position.Spot.{Spot};
 ghost use Rattle.h5_states.specs.declared.position.ToldError.{ToldError};
 ghost use Rattle.h5_standard.specs.Options.{first_place};
 ghost use Rattle.h5_plain.specs.Plain.{Flow, IsPlain, Nodes, PlainDocument, document_tokens, fragment_tokens, nothing_open};
+ghost use Rattle.h5_interface.specs.SinkChoices.{SinkChoices};
 ghost use Rattle.h5_round_trip.specs.Answers.{Answers};
+ghost use Rattle.h5_round_trip.specs.Inside.{TextsStay};
 ghost use Rattle.h5_round_trip.specs.Readable.{CanBeRead, IsReadableDocument};
 ghost use Rattle.h5_round_trip.specs.Written.{written_fragment, written_of};
 ghost use Rattle.h5_round_trip.specs.Markup.{AreMarks, Mark, page_tokens, written_page};
@@ -64,4 +66,11 @@ pub fn fragments_are_read<S: TokenSink>()
     ensures { (nodes : Nodes) (m : S.Meaning) → IsPlain true (Flow false nothing_open) nodes → CanBeRead nodes → AnswersCuts S.reply_to → Answers S.reply_to S.after m (fragment_tokens nodes)
         → (tokens : List TokenText) × ((join tokens ≡ join (fragment_tokens nodes))
         × ((n : S.Meaning) × ReadsToEnd references S.reply_to S.after S.is_foreign S.ended (first_place default_options) m (written_fragment nodes) tokens n)) }
+{}
+
+/// The text of nodes stays in its box. Where the standard's reader is in data, over a builder that stands in the middle of a page at an
+/// element that takes what stands in flow, it reads the text of nodes that fit there up to what follows, if something does. It is in data
+/// then, and the builder stands where it stood, but that the nodes stand behind that element's children.
+pub fn texts_stay_in_their_box()
+    ensures { (choices : SinkChoices) → TextsStay choices }
 {}
