@@ -1,12 +1,11 @@
 #!/usr/bin/env python3
 """Extracts title, text, links and cleaned HTML from many pages, with processes of this machine, over dask.distributed.
 
-    `pages.py PAGES FOLDER [--workers N] [--bytes N] [--parquet] [--reckon N]`
+    `pages.py PAGES FOLDER [--workers N] [--bytes N] [--parquet]`
 
 PAGES is a folder of *.html, *.htm, *.warc and *.warc.gz, or one of these files. Each task writes a part into FOLDER: JSON lines, or
 Parquet, which needs pyarrow. A task has one page, or pages of at most 4 MB or the given number of bytes. The time and memory of all tasks
-are printed at the end, and with `--reckon` also an estimate for N pages. If a worker dies, others do its tasks again: no page is lost, and
-none is written twice.
+are printed at the end. If a worker dies, others do its tasks again: no page is lost, and none is written twice.
 """
 from __future__ import annotations
 
@@ -62,29 +61,21 @@ def summary(answers: List[Answer], tasks: List[List[extract.Place]], wall: float
     }
 
 
-def tell(took: Dict[str, float], pages: Optional[int]) -> None:
+def report(took: Dict[str, float]) -> None:
     count = max(took["pages"], 1)
     read, written, milliseconds = took["read"] / count / 1000, took["written"] / count / 1000, took["seconds"] / count * 1000
     print(f"{took['pages']} pages, {took['errors']} with an error, in {took['tasks']} tasks and {took['wall']:.1f} seconds")
     print(f"a page: {read:.1f} KB read, {written:.1f} KB written, {milliseconds:.2f} ms of a processor")
     print(f"a task: {took['task']:.0f} bytes sent, {took['answer']:.0f} bytes answered; a worker: {took['memory'] / 1e6:.0f} MB at most")
-    if pages:
-        moved = (took["task"] + took["answer"]) * took["tasks"] * pages / count
-        print(
-            f"{pages:.0e} pages: {milliseconds * pages / 3.6e6:,.0f} processor hours, {read * pages / 1e9:.1f} TB read, "
-            f"{written * pages / 1e9:.1f} TB written, {took['tasks'] * pages / count:,.0f} tasks, {moved / 1e9:.2f} GB between "
-            "scheduler and workers"
-        )
 
 
 def main() -> int:
-    words = argparse.ArgumentParser(description="Takes title, text, links and cleaned HTML out of many pages.")
+    words = argparse.ArgumentParser(description="Extracts title, text, links and cleaned HTML from many pages.")
     words.add_argument("pages")
     words.add_argument("folder")
     words.add_argument("--workers", type=int, default=os.cpu_count() or 1)
     words.add_argument("--bytes", type=int, default=4_000_000)
     words.add_argument("--parquet", action="store_true")
-    words.add_argument("--reckon", type=float, metavar="N")
     asked = words.parse_args()
     if glob.glob(f"{glob.escape(asked.folder)}/part-*"):
         words.error(f"{asked.folder} has parts already")
@@ -99,7 +90,7 @@ def main() -> int:
     with LocalCluster(n_workers=asked.workers, threads_per_worker=1, processes=True, dashboard_address=None) as cluster:
         with Client(cluster) as client:
             answers = run(client, tasks, os.path.abspath(asked.folder), asked.parquet)
-    tell(summary(answers, tasks, time.time() - begun), int(asked.reckon) if asked.reckon else None)
+    report(summary(answers, tasks, time.time() - begun))
     return 0
 
 
