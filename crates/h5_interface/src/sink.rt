@@ -194,8 +194,9 @@ pub trait TreeSink {
         requires { IsElement (sees self.old).forest (node element.now) }
         ensures { sees self.new ≡ after_pop choices (node element.now) (sees self.old) };
 
-    /// Associates an element with a form (HTML standard, section 13.2.6.1, create an element for a token). `nodes` are the intended parent
-    /// and, if there is one, a node outside of it.
+    /// Associates an element with a form (HTML standard, section 13.2.6.1, create an element for a token). `nodes` is the place where the
+    /// tree builder will insert the element: in the first node; or, if there is a second one, before the first, or in the second if the
+    /// first has no parent.
     fn associate_with_form(
         &mut self,
         target: &Self::Handle,
