@@ -17,7 +17,7 @@ found_mapped : {A B : Type 0} (f : A → B) (table : Table A) (l : List ℕ) →
 found_mapped f [] l = refl
 found_mapped f (row ∷ rows) l = at_row (is_same_text l row.0) f row.1 (found_at rows l) (found_at (table_map f rows) l) (found_mapped f rows l)
 
--- the value that a search finds for a text, or a default, corresponds in both tables
+-- the value that a search finds for a text, or a default, is the same with a changed table and with a changed result
 pub same_found : {A B : Type 0} (f : A → B) (table : Table A) (found : Option A) (l m : List ℕ) (or : B) → found ≡ found_at table m → m ≡ l
     → unwrap_or (option_map f found) or ≡ unwrap_or (found_at (table_map f table) l) or
 same_found f table found l m or e same =
