@@ -119,8 +119,8 @@ impl Arena {
         Ok(NodeId { index })
     }
 
-    /// Appends a child to a node, as `append` does; a text is joined with a text before it. Fails if the child isn't allowed there: the
-    /// error is the reason. Finds a cycle by walking up from the node. If it fails, the arena is unchanged.
+    /// Appends a child to a node, as `append` does; a text is joined with a text before it. Fails with the reason if the child isn't
+    /// allowed there, and with `Memory` if an allocation fails; then the arena is unchanged. A cycle is found by walking up from the node.
     pub fn try_append(&mut self, parent: NodeId, child: NodeOrText<NodeId>) -> Result<(), TreeFault>
         ensures ok { OnOk result (seen_of self.new ≡ after_append parent.index (child_of place child) (seen_of self.old)) }
         ensures may { OnOk result (CanAppend (forest_seen self.old) parent.index (child_of place child)) }
@@ -136,8 +136,8 @@ impl Arena {
         Ok(())
     }
 
-    /// Inserts a child before a sibling, as `append_before_sibling` does; a text is joined with a text before it. Fails if the child isn't
-    /// allowed there: the error is the reason. If it fails, the arena is unchanged.
+    /// Inserts a child before a sibling, as `append_before_sibling` does; a text is joined with a text before it. Fails with the reason if
+    /// the child isn't allowed there, and with `Memory` if an allocation fails; then the arena is unchanged.
     pub fn try_insert_before(
         &mut self,
         sibling: NodeId,

@@ -13,6 +13,8 @@ use std::marker::Model;
 
 /// A tree whose nodes are in one vector, in the order in which they were made. The contents of a template are a separate node, which comes
 /// after the template.
+///
+/// The ids passed to a call must be those of nodes of this arena, as `holds` tests. Only `try_append` and `try_insert_before` test them.
 #[derive(Drop)]
 pub struct Arena {
     pub(crate) nodes: Vec<NodeData>,

@@ -5,8 +5,9 @@
 //! and attributes (HTML standard, section 13.2.6.1). `example` builds a small tree over any sink: a caller can know the whole tree from the
 //! interface alone.
 //!
-//! A sink chooses its fresh nodes, marks, shadow roots, integration points and copies of options, as functions of the forest alone
-//! (`specs/SinkChoices.antt`).
+//! Each call changes the forest exactly as its definition says, or fails and leaves it unchanged. Under the conditions of the call, the
+//! result is a forest again. A sink chooses its fresh nodes, marks, shadow roots, integration points and copies of options, as functions of
+//! the forest alone (`specs/SinkChoices.antt`).
 //!
 //! This crate depends on h5_names only. The rules of tree construction use it, and `h5_arena` is a sink. Begin with `specs/Forest.antt`
 //! (nodes), `specs/Changes.antt` (changes of a forest) and `specs/Seen.antt` (the effect of each call); then read `src/sink.rt`.

@@ -6,6 +6,8 @@
 //! texts. `text`, `attributes` and `doctypes` compute the meaning of a text, and of the inside of a tag or a doctype; `keeping` drops
 //! duplicate attributes, `shared_names` makes names, and `plain` finds bytes that mean themselves.
 //!
+//! Each function returns what its definition in specs/ says.
+//!
 //! This crate depends on h5_names and h5_token. The tokenizers use it. Begin with `specs/Matching.antt` (found, not found, open) and
 //! `specs/Cuts.antt`; then read `specs/Text.antt` and `src/text.rt`.
 #![tactic(auto)]

@@ -3,8 +3,8 @@
 //! Types: `modes` has the insertion modes (HTML standard, section 13.2.4.1), `turns` the tokens that take turns, and how a turn ends,
 //! `entry` an entry of the list of active formatting elements (section 13.2.4.3), and `options` the options of a tree builder.
 //!
-//! Sets: `name_sets` has sets of local names, each a bit of a known name's flags. `sets` tests names and elements for each set;
-//! `element_sets` has sets as values, for searches in the stack of open elements.
+//! Sets: each has exactly the elements of its list in `specs/TagSets.antt`. `name_sets` has sets of local names, each a bit of a known
+//! name's flags. `sets` tests names and elements for each set; `element_sets` has sets as values.
 //!
 //! Tables: `svg_tags`, `attribute_names` and `attributes` adjust names in SVG and MathML (section 13.2.6.1), with `table` and `place`.
 //! `identifiers` and `doctypes` judge a doctype (section 13.2.6.4.1). `meta_encoding` reads the `content` of a `meta` (section 13.2.3.2).

@@ -11,7 +11,7 @@ use Rattle.h5_arena.specs.ArenaModel.{arena_choices, child_parent, child_parent_
 abbrev pub detach_child : ℕ → Forest → Forest
 detach_child c f = detach_from (option_and_then child_parent (f.node c)) c f
 
--- that rearranges a forest
+-- removing a child rearranges a forest
 pub detach_child_rearranges : (f : Forest) (c : ℕ) → IsForest f → IsNode f c → Rearranges f (detach_child c f)
 detach_child_rearranges f c k there = at (f.node c) refl
   where
