@@ -1,4 +1,4 @@
--- What a sink shows, the conditions of its calls, and the effect of each call on what it shows.
+-- The state that a sink shows, the conditions of its calls, and the effect of each call on that state.
 use Rattle.std.specs.Prelude.{◌≡◌, ◌≢◌, ℕ, Bool, true, false, List, [], Option, None, Some, string_bytes}
 use Rattle.std.specs.Option.{option_map_or}
 use Rattle.h5_names.specs.declared.qualified.QualName.{QualName}
@@ -112,11 +112,11 @@ abbrev pub with_child_by : Option ℕ → (element prev : ℕ) → Child → For
 with_child_by None element prev x = with_last_child prev x
 with_child_by (Some p) element prev x = with_child_before element x
 
--- what is shown after the forest changed
+-- the state after the forest changed
 abbrev pub changed : (Forest → Forest) → Seen → Seen
 changed change s = record s { forest = change s.forest }
 
--- what is shown after each call
+-- the state after each call
 abbrev pub after_create_element : SinkChoices → QualName → List AttributeText → ElementFlags → Seen → Seen
 after_create_element choices name attrs flags = changed (make_element choices name attrs flags)
 

@@ -32,7 +32,7 @@ pub trait TreeSink {
 
     type Output;
 
-    // What the sink shows: its forest, its quirks mode and the mark of errors.
+    // The state that contracts see: the forest, the quirks mode and the mark of errors.
     ghost sees: { Self → Seen };
 
     // The node that a handle names.
@@ -41,7 +41,7 @@ pub trait TreeSink {
     // The choices of the sink.
     ghost choices: { SinkChoices };
 
-    // What the result shows.
+    // The state that the result shows.
     ghost told: { Self.Output → Seen };
 
     /// Returns the result, which shows what the sink showed.

@@ -19,7 +19,7 @@ abbrev pub before : (ℕ → Bool) → List ℕ → List ℕ
 before stop [] = []
 before stop (x ∷ xs) = if stop x then [] else x ∷ before stop xs
 
--- that byte, and the bytes after it
+-- the first byte that stops, and the bytes after it
 abbrev pub from : (ℕ → Bool) → List ℕ → List ℕ
 from stop [] = []
 from stop (x ∷ xs) = if stop x then x ∷ xs else from stop xs

@@ -40,6 +40,6 @@ partless view parts read = present read >>= (λ one. Found (taken (view one.valu
 abbrev pub seen_as : {A B : Type 0} → (A → B) → Outcome (Taken A) → Outcome (Taken B)
 seen_as view read = read >>= (λ one. Found (taken (view one.value) one.parts one.rest))
 
--- one more part, if any is left
+-- a part, if any is left
 abbrev pub part : {A : Type 0} → (ℕ → Outcome A) → ℕ → Outcome A
 part behind parts = if parts == 0 then TooMany else behind (parts - 1)

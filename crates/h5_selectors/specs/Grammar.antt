@@ -71,7 +71,7 @@ unfoldable pub repeated : {A : Type 0} → NextReader A → ℕ → A → Reader
 repeated next zero all parts text = Found (taken all parts text)
 repeated next (suc n) all parts text = next all parts text >>= going_on (repeated next n) all
 
--- one more after a comma, joined with the result so far
+-- a further item after a comma, joined with the result so far
 abbrev pub comma_next : {A : Type 0} → (join : A → Asked → A) → (item : Reader Asked) → NextReader A
 comma_next join item all parts text =
     if begins_with 44 text then item parts (drop 1 text) >>= (λ one. Found (Goes (join all one.value) one.parts one.rest)) else Found (Ends parts text)
@@ -138,7 +138,7 @@ module _ (arguments : ArgumentsReader) where
   unfoldable pub compound_at : Reader Asked
   compound_at parts text = part (compound_of text) parts
 
-  -- one more combinator, and a compound selector after it
+  -- a further combinator, and a compound selector after it
   abbrev pub link_joined : List Linked → (parts : ℕ) → List ℕ → Option (Reading Combinator) → Outcome (Next (List Linked))
   link_joined links parts rest None = Found (Ends parts rest)
   link_joined links parts rest (Some sign) = compound_at parts sign.rest >>= (λ one. Found (Goes (links ++ linked sign.value one.value ∷ []) one.parts one.rest))

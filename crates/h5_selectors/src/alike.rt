@@ -46,7 +46,7 @@ fn alike_behind(query: &Query<'_>, rows: &Rows, at: usize) -> Option<usize>
     None
 }
 
-// One more than the count of a row; 0 without a row.
+// The count of a row plus 1; 0 without a row.
 fn one_more(counts: &[usize], link: Option<usize>) -> usize
     requires { (k : ℕ) → get_or counts.now k 0 < 18446744073709551615 }
     ensures { result ≡ one_more counts.now link }

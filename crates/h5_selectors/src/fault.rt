@@ -6,7 +6,7 @@ ghost use Rattle.h5_selectors.specs.declared.fault.SelectorFault.TheVariants.{In
 use std::alloc::{AllocError, AllocFailed};
 use thiserror::Error;
 
-/// What is wrong with a text.
+/// The problem of a text.
 #[derive(Clone, Copy, Debug, PartialEq, Eq, Error)]
 pub enum Problem {
     /// A selector is missing.
@@ -64,7 +64,7 @@ pub enum SelectorFault {
 /// The reason that parsing stopped.
 #[derive(Clone, Copy)]
 pub(crate) enum Refusal {
-    /// What is wrong, and the number of characters left.
+    /// The problem, and the number of characters left.
     Invalid { left: usize, problem: Problem },
     /// A selector has too many parts.
     TooLong { left: usize },

@@ -33,8 +33,8 @@ pub trait Serializer {
     // The text written for a call, unless an allocation or a writer fails.
     ghost writes: { Meaning → Call → List ℕ };
 
-    // What may hold after a call in which an allocation or a writer failed: the meaning and the text before it, the call, its error, and
-    // the meaning and the text after it.
+    // The relation for a call in which an allocation or a writer failed: the meaning and the text before it, the call, its error, and the
+    // meaning and the text after it.
     ghost breaks: { Meaning → Option (List ℕ) → Call → SerializeFault → Meaning → Option (List ℕ) → Type 0 };
 
     /// The start of an element with these attributes. Not all of them need be read if the outcome doesn't depend on them.

@@ -2,7 +2,7 @@
 
 use super::place::Place;
 
-// Of SVG.
+// SVG attributes.
 pub static SVG_ATTRIBUTES: [(&str, (Place, &str)); 58] = [
     ("attributename", (Place::Unqualified, "attributeName")),
     ("attributetype", (Place::Unqualified, "attributeType")),
@@ -79,13 +79,13 @@ pub static SVG_ATTRIBUTES: [(&str, (Place, &str)); 58] = [
     ("zoomandpan", (Place::Unqualified, "zoomAndPan")),
 ];
 
-// Of MathML.
+// MathML attributes.
 pub static MATHML_ATTRIBUTES: [(&str, (Place, &str)); 1] = [(
     "definitionurl",
     (Place::Unqualified, "definitionURL"),
 )];
 
-// Of both.
+// Attributes of both.
 pub static FOREIGN_ATTRIBUTES: [(&str, (Place, &str)); 11] = [
     ("xlink:actuate", (Place::XLink, "actuate")),
     ("xlink:arcrole", (Place::XLink, "arcrole")),
