@@ -1,4 +1,4 @@
-//! Whether a child may stand below a node.
+//! Tests if a child may be inserted.
 ghost use Rattle.std.specs.Prelude.{◌≡◌, ◌<◌, IfErr, IfNone, IfSome, OnOk, false, length, true};
 ghost use Rattle.h5_interface.specs.Ancestors.{AtOrAbove};
 ghost use Rattle.h5_interface.specs.Forest.{ChildNode, IsForest, parent_of};
@@ -10,7 +10,7 @@ use super::fault::TreeFault;
 use super::nodes::{Kind, NodeData, NodeId};
 use h5_interface::NodeOrText;
 
-// Whether the one node is the other, or stands above it: from the other node one goes up, parent by parent.
+// Returns true if `above` is `id` or an ancestor of it. Walks up from `id`, parent by parent.
 fn is_at_or_above(nodes: &[NodeData], above: NodeId, id: NodeId) -> bool
     requires held { id.index < length nodes.now }
     requires forest { IsForest (forest_in nodes.now) }
@@ -31,7 +31,7 @@ fn is_at_or_above(nodes: &[NodeData], above: NodeId, id: NodeId) -> bool
     unreachable!()
 }
 
-// Whether a node may become a child of another, or why not.
+// Succeeds if a node may become a child of another; the error is the reason why not.
 fn check_node(nodes: &[NodeData], parent: NodeId, id: NodeId) -> Result<(), TreeFault>
     requires parent { parent.index < length nodes.now }
     requires held { id.index < length nodes.now }
@@ -52,7 +52,7 @@ fn check_node(nodes: &[NodeData], parent: NodeId, id: NodeId) -> Result<(), Tree
     Ok(())
 }
 
-// Whether a child that is there may stand below a node, or why not.
+// Succeeds if an existing child may be inserted below a node; the error is the reason why not.
 fn check_below(
     nodes: &[NodeData],
     parent: NodeId,
@@ -75,7 +75,7 @@ fn check_below(
     }
 }
 
-// Whether a child is there, where it is a node.
+// Returns true if a child is a text or a node of the arena.
 fn is_there(nodes: &[NodeData], child: &NodeOrText<NodeId>) -> bool
     ensures there { result ≡ true → IsThere (forest_in nodes.now) (child_of place child.now) }
     ensures gone { result ≡ false → ¬ (IsThere (forest_in nodes.now) (child_of place child.now)) }
@@ -86,7 +86,7 @@ fn is_there(nodes: &[NodeData], child: &NodeOrText<NodeId>) -> bool
     }
 }
 
-// Whether a child may become the last child of a node, or why not.
+// Succeeds if a child may be appended to a node; the error is the reason why not.
 pub(crate) fn check_append(
     nodes: &[NodeData],
     parent: NodeId,
@@ -105,7 +105,7 @@ pub(crate) fn check_append(
     check_below(nodes, parent, child)
 }
 
-// Whose child a node is.
+// The node whose child a node is.
 fn parent_of_child(nodes: &[NodeData], id: NodeId) -> Option<NodeId>
     requires { id.index < length nodes.now }
     ensures child { IfSome result (λ parent. IsChildOf (forest_in nodes.now) id.index parent.index) }
@@ -118,7 +118,7 @@ fn parent_of_child(nodes: &[NodeData], id: NodeId) -> Option<NodeId>
     }
 }
 
-// Whether a child may be put before a sibling, or why not.
+// Succeeds if a child may be inserted before a sibling; the error is the reason why not.
 pub(crate) fn check_insert(
     nodes: &[NodeData],
     sibling: NodeId,

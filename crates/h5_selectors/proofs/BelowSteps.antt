@@ -1,4 +1,4 @@
--- What stands below a node stands in its children and below them.
+-- Everything below a node is in its children or below them.
 use Rattle.std.proofs.Common.{◌≡◌, ◌≢◌, ◌∙◌, ℕ, ◌+◌, ◌<◌, ◌≤◌, Bool, true, false, ◌||◌, List, [], ◌∷◌, ◌++◌, Some, ap, arith, cond, eqb, length, refl, rules, sym, tests}
 use Rattle.std.specs.Prelude.{nat_lt}
 use Rattle.std.specs.List.{AllByRecursion, IsDistinct, flat_map, list_any}
@@ -15,7 +15,7 @@ use Rattle.h5_selectors.specs.Rows as rows
 use Rattle.h5_selectors.specs.Rows.{AreBare}
 use Rattle.h5_selectors.specs.Ways.{below, child_elements, elements, elements_among, is_element}
 
--- what isn't in a list is no entry of it
+-- a number that isn't in a list differs from each entry
 apart : (n : ℕ) (xs : List ℕ) → ((a : ℕ) → list_any (eqb a) xs ≡ true → n ≢ a) → AllByRecursion (λ y. eqb n y ≡ false) xs
 apart n [] h = tt
 apart n (x ∷ xs) h = (differ (eqb n x) refl, apart n xs (λ a w. h a (or_right (eqb a x) _ w)))
@@ -40,7 +40,7 @@ inside f n k there = at (nat_lt n f.bound) refl
     at true e = search (rules, tests)
     at false e = absurd (there (k.bounded n (search (rules, tests))))
 
--- numbers that are no two the same, each of which is an ancestor of n
+-- pairwise different numbers, each of which is an ancestor of n
 record AreOver (f : Forest) (n : ℕ) (over : List ℕ) : Type 0 where
   pub ancestors : (a : ℕ) → list_any (eqb a) over ≡ true → IsAncestor (parent_of f) a n
   pub distinct : IsDistinct eqb over
@@ -60,7 +60,7 @@ one_more_over f n m over k h e = record {
     at a true w g = Parent (rw (eqb-true a n w) e)
     at a false w g = Further n (h.ancestors a (rw w at g)) e
 
--- a node has fewer nodes over it than there are
+-- a node has fewer ancestors than there are nodes
 few_over : (f : Forest) (n : ℕ) (over : List ℕ) → IsForest f → IsNode f n → AreOver f n over → length over < f.bound
 unfolding IsDistinct
 few_over f n over k there h =

@@ -6,7 +6,7 @@ ghost use Rattle.h5_selectors.specs.declared.fault.SelectorFault.TheVariants.{In
 use std::alloc::{AllocError, AllocFailed};
 use thiserror::Error;
 
-/// What is wrong with a text.
+/// The problem of a text.
 #[derive(Clone, Copy, Debug, PartialEq, Eq, Error)]
 pub enum Problem {
     /// A selector is missing.
@@ -61,10 +61,10 @@ pub enum SelectorFault {
     Memory,
 }
 
-/// Why parsing stopped.
+/// The reason that parsing stopped.
 #[derive(Clone, Copy)]
 pub(crate) enum Refusal {
-    /// What is wrong, and how many characters are left.
+    /// The problem, and the number of characters left.
     Invalid { left: usize, problem: Problem },
     /// A selector has too many parts.
     TooLong { left: usize },
@@ -109,7 +109,7 @@ impl Refusal {
     ghost use Rattle.h5_selectors.specs.Fault.{IsWithin, Tells};
     ghost use Rattle.h5_selectors.specs.Reads.{Lacks};
 
-    /// The error in a text of this many characters.
+    /// The error in a text with this number of characters.
     pub(crate) fn in_text(self, length: usize) -> SelectorFault
         ensures place { IsWithin length result }
         ensures tells { (read : Outcome (List Asked)) → Lacks self read → Tells result read }

@@ -14,7 +14,7 @@ type PageParser = BytesParser<StandardReader<Arena>>;
 
 const PAGE: &[u8] = b"<!DOCTYPE html><meta charset=koi8-r><p>\xF7";
 
-// With these a page decides its encoding.
+// These bytes complete the 1,024 that decide the encoding.
 const SPACES: [u8; 1024] = [b' '; 1024];
 
 const TREE: &str =

@@ -10,7 +10,7 @@ use std::test::Fail;
 const PAGE: &str =
     "<!DOCTYPE html><ul id=a class=\"x y\"><li>1<li lang=en-GB>2<li><a href=u>3</a></ul><p title=\"one two\">4<p><a>5</a><p>6<b></b>";
 
-// Selectors, and how many elements of the page each selects.
+// Selectors, and the number of elements of the page that each selects.
 const ROWS: [(&str, usize); 11] = [
     ("li", 3),
     ("ul.x.y#a", 1),
