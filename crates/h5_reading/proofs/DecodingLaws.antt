@@ -19,7 +19,7 @@ no_char_in_nothing c rest s is = absurd (omega (arith, ap length is, length-appe
 pub nothing_unfinished : IsUnfinished []
 nothing_unfinished = record { no_char = no_char_in_nothing; no_error = utf8_error_len-nil; few = omega arith }
 
--- no character begins behind the longest front that is UTF-8
+-- no character begins after the longest prefix that is UTF-8
 pub no_char_behind_text : (bs : List ℕ) (n : ℕ) → n ≡ utf8_valid_len bs → StartsWithNoChar (drop n bs)
 no_char_behind_text bs n is = ⊎_elim
     (λ whole. subst StartsWithNoChar (sym (ap (λ k. drop k bs) (is ∙ utf8_valid_len-IsUtf8 bs whole) ∙ drop-length bs)) no_char_in_nothing)
@@ -42,7 +42,7 @@ pub decodes_before : (bs text left more : List ℕ) → Decodes bs text left →
 decodes_before bs text left more decodes others =
     ap utf8_lossy (append_assoc bs more others) ∙ decodes (more ++ others) ∙ ap (λ t. text ++ utf8_lossy t) (sym (append_assoc left more others))
 
--- a text, and an error behind it
+-- a text, and an error after it
 pub text_decodes : (bs text rest : List ℕ) → IsUtf8 text → text ++ rest ≡ bs → Decodes bs text rest
 text_decodes bs text rest utf8 parts more =
     ap (λ t. utf8_lossy (t ++ more)) (sym parts) ∙ ap utf8_lossy (append_assoc text rest more) ∙ text_at_front text (rest ++ more) utf8

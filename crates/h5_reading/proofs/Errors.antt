@@ -104,7 +104,7 @@ no_error_is_short bs none = ⊎_elim
     absurd (long_is_error (length bs) (slice_index bs 0) (slice_index bs 1) (slice_index bs 2) long (sym (utf8_error_len_some bs some) ∙ none)))
     (cases_lt (length bs) 4)
 
--- bytes at the front of a character are no error
+-- a proper prefix of a character isn't an error
 of_front_of_two : (c n x y z : ℕ) → 128 ≤ c → c < 2048 → n < 2 → x ≡ 192 + c / 64 → of_one n x y z ≡ None
 of_front_of_two c n x y z low high few first =
     cond-true _ _ _ (let t : is_in_range 0xC2 0xF4 x ≡ true = grind (arith, nat_tests) in t)
@@ -129,7 +129,7 @@ of_front_of_four c n x y z low high few first second third =
     cond-true _ _ _ (let t : is_in_range 0x80 0xBF z ≡ true = grind (arith, nat_tests) in t)
     ∙ none_yet n 4 _ (λ all. absurd (omega arith))))
 
--- where a character begins with all of some bytes and goes on, they are no error
+-- if a character begins with all of some bytes and goes on, they aren't an error
 module _ (bs more rest : List ℕ) (c : ℕ) (some : 0 < length bs) (few : length bs < length (encode_utf8 c)) (is : bs ++ more ≡ encode_utf8 c ++ rest) where
   byte_of : (i : ℕ) → i < length bs → slice_index bs i ≡ slice_index (encode_utf8 c) i
   byte_of i within = sym (get_or_append_left bs more 0 i within) ∙ ap (λ t. slice_index t i) is ∙ get_or_append_left (encode_utf8 c) rest 0 i (omega arith)
@@ -158,7 +158,7 @@ module _ (bs more rest : List ℕ) (c : ℕ) (some : 0 < length bs) (few : lengt
       (cases_lt c 2048))
       (cases_lt c 128)
 
--- where bytes are an error and begin no character, they begin none with more bytes behind them
+-- if bytes are an error and begin no character, they begin none when more bytes follow
 still_no_char : (bs more : List ℕ) (k : ℕ) → StartsWithNoChar bs → utf8_error_len bs ≡ Some k → StartsWithNoChar (bs ++ more)
 still_no_char bs more k none error c rest s is =
     let size = length (encode_utf8 c) in

@@ -1,11 +1,11 @@
-//! Whether the reader still reads.
+//! Why a tokenizer reads no longer.
 
-/// Whether the reader still reads.
+/// Why a tokenizer reads no longer.
 #[derive(Clone, Copy, Debug, PartialEq, Eq)]
 pub enum Stage {
     Reading,
-    /// The end was handed on.
+    /// The end was passed to the sink.
     Ended,
-    /// A call met a fault.
+    /// A call failed.
     Failed,
 }
