@@ -34,7 +34,7 @@ at_place bytes i lt =
     let one : suc i ≡ i + 1 = omega arith in
     drop-cons bytes i 0 lt ∙ ap (λ k. get_or bytes i 0 ∷ drop k bytes) one
 
--- what is found where so many bytes were passed
+-- the result at a position
 pub scan_found : (bytes : List ℕ) (i : ℕ) (here : Here) → i < length bytes → found_here (drop i bytes) ≡ here
     → scan 0 (drop i bytes) ≡ found_or here (λ rest. scan (length (drop (i + 1) bytes) - length rest) (drop (i + 1) bytes))
 scan_found bytes i here lt is =
