@@ -83,6 +83,6 @@ module _ {M : Type 0} (reply_to : M → TokenText → Reply) (after : M → Toke
   all_part : (xs : List ℕ) → Part xs []
   all_part xs = record { front = xs; split = sym (append-nil xs); apart = refl }
 
-  -- the line behind all that is left, and behind all of the input
+  -- the line after all that is left, and after all of the input
   pub last_line : {p : ReaderPlace} {m : M} {xs : List ℕ} {ts : List TokenText} {q : ReaderPlace} {n : M} {ys : List ℕ} → p.line ≤ 2 ^ 64 - 1 → Readings reply_to after foreign p m xs ts q n ys → line_behind q.line ys [] ≡ line_behind p.line xs []
   last_line {p} {xs} {ys} le readings = ap (λ l. line_behind l ys []) (readings_line le readings) ∙ line_twice p.line xs ys [] (readings_part readings) (all_part ys)

@@ -1,4 +1,4 @@
--- Readings do what is done bit by bit, up to cuts of texts.
+-- Readings do what deeds bit by bit do, except how texts are split.
 use Rattle.std.proofs.Common.{◌≡◌, ℕ, ◌<◌, Bool, true, false, List, [], ◌∷◌, ◌++◌, length, refl, sym, ap, ◌∙◌, subst, arith, append-nil}
 use Rattle.h5_token.specs.TokenText.{TokenText, Characters, EndOfFile}
 use Rattle.h5_token.specs.Reply.{Reply}
@@ -48,12 +48,12 @@ told_glues (x ∷ bit) [] full = ap (λ l. Characters (x ∷ l) ∷ []) (append-
 told_glues (x ∷ bit) (y ∷ text) full = refl
 
 module _ {M : Type 0} (reply_to : M → TokenText → Reply) (after : M → TokenText → ℕ → M) (foreign : M → Bool) (ended : M → M) (alike : M → M → Type 0) (blind : IsBlindToCuts reply_to after foreign ended alike) where
-  -- a bit, and the text behind it; texts are told with any line
+  -- a bit, and the text after it; texts are passed with any line
   after_cut : (m n : M) (bit text : List ℕ) → IsFull bit → alike (after_text after (after m (Characters bit) 0) text 0) n → alike (after_text after m (bit ++ text) 0) n
   after_cut m n [] text full h = absurd full
   after_cut m n (x ∷ bit) text full h = blind.transitive _ _ n (text_cut reply_to after foreign ended alike blind m (x ∷ bit) text 0 0 0) h
 
-  -- the same was done bit by bit, but for the line
+  -- bit by bit the effect is equal, except for the line
   pub record Follows (p : ReaderPlace) (m : M) (xs : List ℕ) (ts : List TokenText) (q : ReaderPlace) (n : M) (ys : List ℕ) : Type 0 where
     pub tokens : List TokenText
     pub meaning : M
@@ -167,7 +167,7 @@ module _ {M : Type 0} (reply_to : M → TokenText → Reply) (after : M → Toke
   closing_alike None m n i j k l like = blind.kept m n EndOfFile j l like
   closing_alike (Some t) m n i j k l like = blind.kept (after m t i) (after n t k) EndOfFile j l (blind.kept m n t i k like)
 
-  -- the end, behind readings that came to alike meanings and the same rest
+  -- the end, after readings with equivalent meanings and equal suffixes
   ends_alike : (m n : M) (s t : Option TokenText) (i j k l : ℕ) → s ≡ t → alike m n → alike (ended (after_closing after m s i j)) (ended (after_closing after n t k l))
   ends_alike m n s t i j k l e like =
       subst (λ (o : Option TokenText). alike (ended (after_closing after m s i j)) (ended (after_closing after n o k l))) e
@@ -184,7 +184,7 @@ module _ {M : Type 0} (reply_to : M → TokenText → Reply) (after : M → Toke
       (subst (λ (o : M). alike (ended (after_closing after a.meaning s a.place.line i)) o) (sym b.closed)
       (ends_alike a.meaning b.meaning s t a.place.line i b.place.line j settled meanings))
 
-  -- how an input is cut doesn't matter
+  -- how an input is split doesn't matter
   pub cuts_agree : (p : ReaderPlace) (m n : M) (xs : List ℕ) (ts us : List TokenText) (k l : M) → alike m n
       → ReadsToEnd reply_to after foreign ended p m xs ts k → ReadsToEnd reply_to after foreign ended p n xs us l
       → (join ts ≡ join us) × alike k l

@@ -112,7 +112,7 @@ module _ {M : Type 0} (reply_to : M → TokenText → Reply) (after : M → Toke
   meaning_alike m n (Done (Whole t)) h = blind.kept m n t 0 0 h
   meaning_alike m n (Done (Switch mode)) h = h
 
-  -- two runs from one input, each to a front that what follows decides, do the same
+  -- two runs from one input, each until further input decides, do the same
   pub same_runs : {p q r : ReaderPlace} {m n k o : M} {xs ys zs : List ℕ} {ts us : List TokenText}
       → alike m k → Runs reply_to after foreign p m xs ts q n ys → deed q (foreign n) ys ≡ Open
       → Runs reply_to after foreign p k xs us r o zs → deed r (foreign o) zs ≡ Open

@@ -36,7 +36,7 @@ module _ {M : Type 0} (reply_to : M → TokenText → Reply) (after : M → Toke
       → Step reply_to after foreign p m (xs ++ more) ts reply (behind q (xs ++ more) (ys ++ more)) n (ys ++ more) → Step reply_to after foreign p m (xs ++ more) ts reply (behind q xs ys) n (ys ++ more)
   same_line p m xs ts reply q n ys more step = subst (λ (r : ReaderPlace). Step reply_to after foreign p m (xs ++ more) ts reply r n (ys ++ more)) (behind_on q xs ys more) step
 
-  -- a step behind which more follows
+  -- a step after which more follows
   step_goes_on : {p : ReaderPlace} {m : M} {xs : List ℕ} {ts : List TokenText} {reply : Reply} {q : ReaderPlace} {n : M} {ys : List ℕ} (rest : List ℕ) → Step reply_to after foreign p m xs ts reply q n ys → Step reply_to after foreign p m (xs ++ rest) ts reply q n (ys ++ rest)
   step_goes_on rest (marked {xs} {rest = r} s h) = marked s (found_stays tt xs r rest (literal_stable (0xef ∷ 0xbb ∷ 0xbf ∷ [])) h)
   step_goes_on rest (unmarked {xs} s h) = unmarked s (no_stays xs rest (literal_stable (0xef ∷ 0xbb ∷ 0xbf ∷ [])) h)

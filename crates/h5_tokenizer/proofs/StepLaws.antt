@@ -56,7 +56,7 @@ module _ {M : Type 0} (reply_to : M → TokenText → Reply) (after : M → Toke
       subst (λ l. Leads p m xs (Characters l) ys) (sym whole)
       (text_leads_by p m xs ys (first.text ++ second.text) started less (bits_join first.shorter first.bits second.bits))
 
-  -- a token that was taken, behind so many newlines
+  -- a token that was taken, after this number of newlines
   pub turned : {H : Type 0} (node : H → ℕ) (p : ReaderPlace) (m : M) (xs : List ℕ) (ys : Bor (List ℕ)) (t : TokenText) (q : ReaderPlace) (n : M) (lines : ℕ) (stopped : Option (Stop H)) → lines ≡ newlines_passed xs ys.now → Leads p m xs t ys.now → HandedOn reply_to after node p m t q n stopped → Makes reply_to after foreign node p m xs q n (Ok (turn_of stopped ys lines))
   turned node p m xs ys t q n lines None line leads h = record {
     reply = reply_to m t;
