@@ -1,4 +1,4 @@
--- The one way to read an input to its end in which each row's text is handed on by itself.
+-- The one way to read an input to its end in which the text of each row is a separate token.
 use Rattle.std.proofs.Common.{◌≡◌, ℕ, Bool, true, false, true≢false, List, [], ◌∷◌, ◌++◌, refl, sym, ap, ◌∙◌, subst, if◌then◌else◌}
 use Rattle.h5_token.specs.TokenText.{TokenText, EndOfFile}
 use Rattle.h5_token.specs.Reply.{Reply}
@@ -56,7 +56,7 @@ module _ {M : Type 0} (reply_to : M → TokenText → Reply) (after : M → Toke
   pub move_row : (table : List Reference) (p : ReaderPlace) (m : M) (x : ℕ) (d : Outcome) → is_dropped p x ≡ false → outcome table p x ≡ d → move table p m x ≡ moved_by p m x d
   move_row table p m x d e f = ap (λ b. if b then dropped p m else moved_by p m x (outcome table p x)) e ∙ ap (moved_by p m x) f
 
-  -- an input is read so: these tokens are handed on, those of its end too, and this is what there is before the end
+  -- an input is read in this way: the tokens, including those of its end, and the state before the end
   pub data ByRows (table : List Reference) : ReaderPlace → M → List ℕ → List TokenText → ReaderPlace → M → Type 0 where
     ends : {p : ReaderPlace} {m : M} → ByRows table p m [] (last_tokens table p ++ EndOfFile ∷ []) p m
     consumes : {p q : ReaderPlace} {m n : M} {x : ℕ} {xs : List ℕ} {ts : List TokenText} → (move table p m x).is_consumed ≡ true

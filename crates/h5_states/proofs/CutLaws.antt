@@ -41,7 +41,7 @@ module _ {M : Type 0} (reply_to : M → TokenText → Reply) (after : M → Toke
         joins = refl;
       }
 
-  -- where the rest of the text is told behind a part of it
+  -- the remainder of the text is passed after a part of it
   rest_alike : (m n : M) (t more : List ℕ) (j k : ℕ) → alike (after_text after m (t ++ more) j) n
       → alike (after_text after (after_text after m t k) more j) n
   rest_alike m n t more j k h =
@@ -103,7 +103,7 @@ module _ {M : Type 0} (reply_to : M → TokenText → Reply) (after : M → Toke
         joins = refl;
       }
 
-  -- what is flat behind some tokens is flat with them in front
+  -- what is flat after some tokens is flat with them
   flat_before : {p q r : ReaderPlace} {m k l : M} {xs ys : List ℕ} (ts us vs : List TokenText)
       → (behind : Flat q k ys us vs r l) → Flat p m xs ts behind.tokens r behind.meaning → Flat p m xs (ts ++ us) vs r l
   flat_before {l = l} ts us vs behind flat = record {

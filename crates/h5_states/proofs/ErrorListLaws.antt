@@ -1,4 +1,4 @@
--- A list of the first errors that were told goes on.
+-- A list of the first errors that were reported goes on.
 use Rattle.std.proofs.Common.{◌≡◌, ℕ, ◌+◌, List, [], ◌∷◌, ◌++◌, ap, ◌∙◌, sym, arith, append_assoc, append-nil, length-append}
 use Rattle.std.proofs.lemmas.List.{nil_from_length}
 use Rattle.std.specs.Io.Iter.{u64_saturate}

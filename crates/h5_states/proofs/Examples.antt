@@ -1,4 +1,4 @@
--- Texts, and what is handed on of them, by computing.
+-- Texts, and what they emit, by computing.
 use Rattle.std.proofs.Common.{◌≡◌, true, false, [], ◌∷◌, ◌++◌, refl, codes}
 use Rattle.std.specs.Prelude.{Some, None}
 use Rattle.h5_token.specs.TokenText.{DoctypeIs, CommentIs, Characters, NullCharacter, EndOfFile}
@@ -47,7 +47,7 @@ values_with_references : tokens_from false (Text Data) [] (codes "<a b=" ++ (34 
 unfolding references lib.Utf8.encode
 values_with_references = refl
 
--- what begins as a tag and is none
+-- what begins like a tag and isn't one
 no_tags : tokens_from false (Text Data) [] (codes "<3 </ ></><?php><!x>")
     ≡ Characters (codes "<3 ") ∷ CommentIs (codes " ") ∷ CommentIs (codes "?php") ∷ CommentIs (codes "x") ∷ EndOfFile ∷ []
 unfolding references lib.Utf8.encode
@@ -59,7 +59,7 @@ unfinished_tag : tokens_from false (Text Data) [] (codes "a<b c=" ++ (34 ∷ [])
 unfolding references lib.Utf8.encode
 unfinished_tag = refl
 
--- so are no openings
+-- these aren't openings either
 unfinished_openings : tokens_from false (Text Data) [] (codes "</b></")
     ≡ end (codes "b") false [] false ∷ Characters (codes "</") ∷ EndOfFile ∷ []
 unfolding references lib.Utf8.encode
@@ -104,7 +104,7 @@ quirky_doctypes : tokens_from false (Text Data) [] (codes "<!DOCTYPE><!DOCTYPEa 
 unfolding references lib.Utf8.encode
 quirky_doctypes = refl
 
--- identifiers without blanks between them, something behind them, and one that '>' cuts off
+-- identifiers without whitespace between them, something after them, and one that '>' ends
 odd_identifiers : tokens_from false (Text Data) [] (codes "<!DOCTYPE a PUBLIC'b''c'x><!DOCTYPE d SYSTEM 'e>")
     ≡ DoctypeIs (record { name = Some (codes "a"); public_id = Some (codes "b"); system_id = Some (codes "c"); force_quirks = false })
     ∷ DoctypeIs (record { name = Some (codes "d"); public_id = None; system_id = Some (codes "e"); force_quirks = true }) ∷ EndOfFile ∷ []
@@ -117,7 +117,7 @@ unfinished_doctype : tokens_from false (Text Data) [] (codes "<!DOCTYPE a PUB")
 unfolding references lib.Utf8.encode
 unfinished_doctype = refl
 
--- openings that are none, or not here
+-- openings that aren't any, or aren't allowed here
 markup_declarations : tokens_from false (Text Data) [] (codes "<!DOC><![CDATA[x]]><!-")
     ≡ CommentIs (codes "DOC") ∷ CommentIs (codes "[CDATA[x]]") ∷ CommentIs (codes "-") ∷ EndOfFile ∷ []
 unfolding references lib.Utf8.encode
@@ -135,13 +135,13 @@ unfinished_cdata : tokens_from false (Text CdataSection) [] (codes "a" ++ (0 ∷
 unfolding references lib.Utf8.encode
 unfinished_cdata = refl
 
--- names, the longest, one of two characters, and what is none
+-- names: the longest one, one with two characters, and what isn't a name
 named_references : tokens_from false (Text Data) [] (codes "&amp;&ampx&notit;&notin;&ngE;&x;&;&")
     ≡ Characters (codes "&&x" ++ (194 ∷ 172 ∷ []) ++ codes "it;" ++ (226 ∷ 136 ∷ 137 ∷ 226 ∷ 137 ∷ 167 ∷ 204 ∷ 184 ∷ []) ++ codes "&x;&;&") ∷ EndOfFile ∷ []
 unfolding references lib.Utf8.encode
 named_references = refl
 
--- numbers, those that are replaced, and what is none
+-- numbers, those that are replaced, and what isn't a number
 numbers : tokens_from false (Text Data) [] (codes "&#65;&#x42;&#X43 &#128;&#0;&#xD800;&#x110000;&#;&#x;&#13;&#xFDD0;")
     ≡ Characters (codes "ABC " ++ (226 ∷ 130 ∷ 172 ∷ 239 ∷ 191 ∷ 189 ∷ 239 ∷ 191 ∷ 189 ∷ 239 ∷ 191 ∷ 189 ∷ []) ++ codes "&#;&#x;" ++ (13 ∷ 239 ∷ 183 ∷ 144 ∷ []))
     ∷ EndOfFile ∷ []

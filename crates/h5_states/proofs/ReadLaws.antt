@@ -1,4 +1,4 @@
--- Readings go on and join, and what they hand on is proper.
+-- Readings go on and join, and what they emit is proper.
 use Rattle.std.proofs.Common.{◌≡◌, ℕ, Bool, true, List, ◌++◌, refl, ◌∙◌, append_assoc, append-nil}
 use Rattle.h5_token.specs.TokenText.{TokenText}
 use Rattle.h5_token.specs.Reply.{Reply}

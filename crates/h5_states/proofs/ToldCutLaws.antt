@@ -1,4 +1,4 @@
--- Whatever is told is told row by row as well, so how an input is cut doesn't matter for its errors.
+-- Whatever is reported is also reported row by row, so how an input is split doesn't matter for its errors.
 use Rattle.std.proofs.Common.{◌≡◌, ℕ, ◌+◌, ◌/◌, ◌%◌, ◌<◌, ◌≤◌, Bool, true, false, true≢false, List, [], ◌∷◌, ◌++◌, refl, sym, ap, ◌∙◌, subst, append-nil, append_assoc, arith, cond, ltb, if◌then◌else◌}
 use Rattle.std.proofs.lemmas.Bool.{and_parts, leb-true, ltb-true}
 use Rattle.std.proofs.lemmas.Str.{encode_same}
@@ -51,12 +51,12 @@ input_same (inside {x} {xs} h) (of_character d more scalar f) = absurd (begins_o
 input_same (inside h) (inside g) = refl
 input_same not_new not_new = refl
 
--- what is left behind a byte that was consumed, or before it
+-- what is left after a byte that was consumed, or before it
 abbrev left : Bool → ℕ → List ℕ → List ℕ
 left true x xs = xs
 left false x xs = x ∷ xs
 
--- where reading is then, behind a LINE FEED that was dropped or another byte
+-- the spot afterwards, after a LINE FEED that was dropped or another byte
 abbrev moved_spot : Bool → Bool → ℕ → Spot → Spot
 moved_spot true is_consumed x s = spot_past s
 moved_spot false true x s = spot_behind x s
@@ -68,12 +68,12 @@ asked foreign at (Asks there error elsewhere) = if foreign then [] else told_at 
 asked foreign at deed = []
 
 module _ {M : Type 0} (reply_to : M → TokenText → Reply) (after : M → TokenText → ℕ → M) (foreign : M → Bool) (table : List Reference) where
-  -- what is told at a byte
+  -- what is reported at a byte
   abbrev told_by : Bool → Bool → ReaderPlace → Spot → ℕ → List ParseError → List ToldError
   told_by true is_foreign p s x input = []
   told_by false is_foreign p s x input = told_at_byte table p (position p.line s) x input ++ asked is_foreign (position p.line s) (outcome table p x)
 
-  -- an input is read to its end, each row's text handed on by itself, and these errors are told
+  -- an input is read to its end, each row's text as a separate token, and these errors are reported
   data TellsRows : ReaderPlace → Spot → M → List ℕ → List ToldError → ReaderPlace → Spot → Type 0 where
     ends : {p : ReaderPlace} {s : Spot} {m : M} → TellsRows p s m [] [] p s
     meets : {p q : ReaderPlace} {s t : Spot} {m : M} {x : ℕ} {xs : List ℕ} {es : List ToldError} (input : List ParseError)
@@ -122,7 +122,7 @@ module _ {M : Type 0} (reply_to : M → TokenText → Reply) (after : M → Toke
 
 module _ {M : Type 0} (reply_to : M → TokenText → Reply) (after : M → TokenText → ℕ → M) (foreign : M → Bool) (ended : M → M) (alike : M → M → Type 0)
     (blind : IsBlindToCuts reply_to after foreign ended alike) (table : List Reference) where
-  -- from meanings that are alike the same is told
+  -- equivalent meanings have the same reports
   rows_alike : {p q : ReaderPlace} {s t : Spot} {m n : M} {xs : List ℕ} {es : List ToldError} → alike m n
       → TellsRows reply_to after foreign table p s n xs es q t → TellsRows reply_to after foreign table p s m xs es q t
   rows_alike h ends = ends
@@ -153,7 +153,7 @@ module _ {M : Type 0} (reply_to : M → TokenText → Reply) (after : M → Toke
         behind_it.1,
       )
 
-  -- what the sink means once the text that is held is handed on
+  -- the sink's meaning after the held text
   abbrev whole : Reached M → M
   whole r = after_text after r.meaning r.text r.line
 
@@ -166,7 +166,7 @@ module _ {M : Type 0} (reply_to : M → TokenText → Reply) (after : M → Toke
   alike_so : {k m n : M} → k ≡ m → alike m n → alike k n
   alike_so {n = n} e h = subst (λ o. alike o n) (sym e) h
 
-  -- a text that is emitted behind what is held
+  -- a text that is emitted after what is held
   alike_emitting : (r : Reached M) (text : List ℕ) (n : M) → alike (after_text after r.meaning (r.text ++ text) r.line) n → alike (after_text after (whole r) text r.place.began) n
   alike_emitting r text n h =
       let all = after_text after r.meaning (r.text ++ text) r.line in
@@ -180,7 +180,7 @@ module _ {M : Type 0} (reply_to : M → TokenText → Reply) (after : M → Toke
   asked_so true told errors more es = told_so told errors es
   asked_so false told errors more es = sym (append_assoc told (errors ++ more) es)
 
-  -- what was told up to here, and then what is told row by row
+  -- what was reported up to here, and then what is reported row by row
   rows_before : {start r : Reached M} {told us : List ToldError} {n : M} {q : ReaderPlace} {t : Spot} → Reaches table reply_to after foreign start r told
       → alike (whole r) n → TellsRows reply_to after foreign table r.place r.spot n r.rest us q t
       → TellsRows reply_to after foreign table start.place start.spot (whole start) start.rest (told ++ us) q t
@@ -227,7 +227,7 @@ module _ {M : Type 0} (reply_to : M → TokenText → Reply) (after : M → Toke
 -- ---- pieces
 
 module _ (table : List Reference) {M : Type 0} (reply_to : M → TokenText → Reply) (after : M → TokenText → ℕ → M) (foreign : M → Bool) where
-  -- with more of the input behind it
+  -- with more input after it
   pub tellings_go_on : {p q : ReaderPlace} {s t : Spot} {m n : M} {xs ys : List ℕ} {told : List ToldError} (more : List ℕ)
       → Tellings table reply_to after foreign p s m xs told q t n ys → Tellings table reply_to after foreign p s m (xs ++ more) told q t n (ys ++ more)
   tellings_go_on more no_telling = no_telling

@@ -1,19 +1,19 @@
-//! Kinds of what is read: texts, depths of escape, quotes, identifiers.
+//! Kinds of texts, escapes, quotes and identifiers.
 
 /// The states that read text (HTML standard, sections 13.2.5.1 to 13.2.5.5 and 13.2.5.69).
 #[derive(Clone, Copy, Debug, PartialEq, Eq)]
 pub enum TextKind {
-    /// Tags, comments and character references are read.
+    /// Has tags, comments and character references.
     Data,
-    /// Character references are read, and one end tag.
+    /// Has character references, and ends at an end tag.
     Rcdata,
-    /// One end tag is read.
+    /// Ends at an end tag.
     Rawtext,
-    /// One end tag is read, and what looks like a comment hides others.
+    /// Ends at an end tag. A comment-like escape may hide end tags.
     ScriptData,
-    /// All is text, to the end.
+    /// Is text to the end of the input.
     Plaintext,
-    /// All is text up to `]]>`.
+    /// Is text up to `]]>`.
     CdataSection,
 }
 
@@ -23,16 +23,16 @@ pub enum RawTextKind {
     Rcdata,
     Rawtext,
     ScriptData,
-    /// A script, in what looks like a comment.
+    /// A script inside a comment-like escape.
     EscapedScriptData,
 }
 
 /// How deep a script is escaped.
 #[derive(Clone, Copy, Debug, PartialEq, Eq)]
 pub enum Escape {
-    /// In what looks like a comment.
+    /// After `<!--`.
     Escaped,
-    /// In what looks like a script, in what looks like a comment.
+    /// After `<!--` and `<script`.
     DoubleEscaped,
 }
 
