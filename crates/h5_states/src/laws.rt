@@ -55,7 +55,7 @@ pub fn no_errors_and_no_empty_texts<S: TokenSink>()
 {}
 
 /// The state that a reply chooses for a raw element, such as `title`, `style` or `script`, emits only texts up to an end tag.
-/// The same is true of each state that a step from it reaches after a text or without a token.
+/// So does each state that a step from it reaches after a text or without a token.
 pub fn raw_elements_have_texts_and_an_end_tag<S: TokenSink>()
     ensures chosen { (kind : RawKind) → IsRaw (chosen_state (TurnsRaw kind)) }
     ensures step { (table : List Reference) (p : ReaderPlace) (m : S.Meaning) (xs : List ℕ) (ts : List TokenText) (reply : Reply)
@@ -100,8 +100,8 @@ pub fn any_input_is_read_to_its_end<S: TokenSink>()
         IsReadToEnd table S.reply_to S.after S.is_foreign S.ended p m xs }
 {}
 
-/// A reading passes a prefix of the input, and ends in the line in which it began plus the newlines of that prefix. The same is
-/// true of readings. CARRIAGE RETURN LINE FEED is one newline, even if an earlier reading passed the CARRIAGE RETURN.
+/// A reading passes a prefix of the input, and ends in the line in which it began plus the newlines of that prefix. So do
+/// readings. CARRIAGE RETURN LINE FEED is one newline, even if an earlier reading passed the CARRIAGE RETURN.
 pub fn lines_are_counted<S: TokenSink>()
     ensures reading { (table : List Reference) (p : ReaderPlace) (m : S.Meaning) (xs : List ℕ) (ts : List TokenText) (reply : Reply)
         (q : ReaderPlace) (n : S.Meaning) (ys : List ℕ) →
