@@ -26,7 +26,7 @@ changed code n h =
     sym (cond-false (at_or replacements n == 0) code (at_or replacements n) (ne_eqb (at_or replacements n) 0 (λ e. h (sym (is_at replacements n) ∙ e)))
     ∙ is_at replacements n)
 
--- they are no surrogates
+-- they aren't surrogates
 pub replacement_is_low : (n : ℕ) → get_or replacements n 0 < 0xd800
 replacement_is_low n = low_at replacements n refl
 
@@ -34,7 +34,7 @@ no_scalar : (code : ℕ) → OutOfScalarRange code → (nat_lt 0x10ffff code || 
 no_scalar code (inl range) = or_right (nat_lt 0x10ffff code) (is_surrogate code) (and_from _ _ (le-leb 0xd800 code range.0) (le-leb code 0xdfff range.1))
 no_scalar code (inr high) = or_left (nat_lt 0x10ffff code) (is_surrogate code) (lt-ltb 0x10ffff code (omega arith))
 
--- what stands for a number that is no character
+-- the replacement of a number that isn't a character
 pub unknown : (code : ℕ) → OutOfScalarRange code → encode_utf8 0xfffd ≡ (if nat_lt 0x10ffff code || is_surrogate code then replacement else encode_utf8 code)
 unfolding encode_utf8
 unknown code h = sym (cond-true (nat_lt 0x10ffff code || is_surrogate code) replacement (encode_utf8 code) (no_scalar code h))

@@ -147,7 +147,7 @@ cut_by : (b : Bool) (run : Run) (xs : List ℕ) (n : ℕ) → is_narrow run ≡ 
 cut_by true run xs n e utf8 within some h stops = cut_narrow run xs n e utf8 within some h
 cut_by false run xs n e utf8 within some h stops = (within, λ lt wide. absurd (omega (arith, behind_wide run (slice_index xs n) e (stops lt))))
 
--- a text may be cut behind a run
+-- a text may be split after a run
 pub cut_run : (run : Run) (bytes xs : List ℕ) (n : ℕ) → bytes ≡ xs → IsUtf8 xs → n ≤ length bytes → 0 < n → are_in run (take n bytes) ≡ true → (n < length bytes → is_in run (slice_index bytes n) ≡ false) → IsCharBoundary xs n
 cut_run run bytes xs n e utf8 within some h stops = cut_by (is_narrow run) run xs n refl utf8 (rw e at within) some (rw e at h) (rw e at stops)
 

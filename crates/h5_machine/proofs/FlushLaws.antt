@@ -21,7 +21,7 @@ use Rattle.h5_machine.specs.OutcomeOf.{Does, outcome_of}
 use Rattle.h5_machine.specs.Flushing.{DoesSeen, Flushes, text_named}
 use Rattle.h5_machine.proofs.OutcomeLaws.{does_same, nothing_more}
 
--- a name and what is behind it, as a record
+-- a name and what follows it, as a record
 abbrev found_as : List ℕ → List ℕ → List ℕ → Longest
 found_as name text rest = record { name = name; text = text; rest = rest }
 

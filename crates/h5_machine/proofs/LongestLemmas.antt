@@ -63,7 +63,7 @@ meaning_at (r ∷ table) (suc k) lt order =
     cond-false (bytes_eq r.0 (get_or table k ([], [])).0) (Some r.1) (meaning_of table (get_or table k ([], [])).0) (not_same r.0 (get_or table k ([], [])).0 (order 0 (omega arith)))
     ∙ meaning_at table k (omega arith) (λ i h. order (suc i) (omega arith))
 
--- and what is no name of it stands for nothing
+-- and what isn't a name of it has no text
 no_meaning : (table : List Reference) (seen : List ℕ) → ((k : ℕ) → k < length table → (get_or table k ([], [])).0 ≡ seen → ⊥) → meaning_of table seen ≡ None
 no_meaning [] seen none = refl
 no_meaning (r ∷ table) seen none =
@@ -91,7 +91,7 @@ first_is_no_name : (seen : List ℕ) (from to : ℕ) → from < to → AreCandid
 first_is_no_name seen from to some are differ =
     no_meaning references seen (λ k lt e. differ (name_is_first seen from to k are some (omega (arith, length-references)) e))
 
--- what begins no name is none
+-- what begins no name isn't a name
 none_is_name : (table : List Reference) (seen : List ℕ) → is_beginning table seen ≡ false → meaning_of table seen ≡ None
 none_is_name [] seen fails = refl
 none_is_name (r ∷ table) seen fails =

@@ -38,7 +38,7 @@ no_return x h = grind (arith, nat_tests)
 name_byte : (x : ℕ) → is_name_byte x ≡ true → NameByte x
 name_byte x h = record { low = small x h; feed = no_feed x h; return = no_return x h }
 
--- the byte behind what was seen
+-- the byte after what was seen
 last_of : (seen : List ℕ) (x : ℕ) (xs : List ℕ) → list_all is_name_byte (seen ++ x ∷ xs) ≡ true → is_name_byte x ≡ true
 last_of [] x xs h = (and_parts (is_name_byte x) (list_all is_name_byte xs) h).0
 last_of (y ∷ seen) x xs h = last_of seen x xs (and_parts (is_name_byte y) (list_all is_name_byte (seen ++ x ∷ xs)) h).1
@@ -102,7 +102,7 @@ took_name m n return_to xs ys front out k at is_front is_rest some kept h e =
       put = sym (append-nil out);
     }
 
--- a text may be cut behind such bytes
+-- a text may be split after such bytes
 byte_at : (seen xs : List ℕ) (n : ℕ) → n < length xs → list_all is_name_byte (seen ++ take (suc n) xs) ≡ true → is_name_byte (slice_index xs n) ≡ true
 byte_at (y ∷ seen) xs n lt h = byte_at seen xs n lt (and_parts (is_name_byte y) (list_all is_name_byte (seen ++ take (suc n) xs)) h).1
 byte_at [] [] n lt h = absurd (omega arith)

@@ -26,7 +26,7 @@ key_past [] depth le = refl
 key_past (x ∷ name) zero le = absurd (omega arith)
 key_past (x ∷ name) (suc depth) le = key_past name depth (omega arith)
 
--- names in order go on in order behind what they both begin with
+-- names in order go on in order after what they both begin with
 before_le : (x y : ℕ) (e b : Bool) → (x == y) ≡ e → cond e b (nat_lt x y) ≡ true → x ≤ y
 before_le x y true b is h = let eq : x ≡ y = eqb-true x y is in omega arith
 before_le x y false b is h = let lt : x < y = ltb-true x y h in omega arith

@@ -1,4 +1,4 @@
--- The names are in order, and a name stands behind what it begins with.
+-- The names are in order, and a name is after its prefixes.
 use Rattle.std.proofs.Common.{◌≡◌, ℕ, zero, suc, ◌<◌, true, false, ◌==◌, refl, sym, ◌∙◌, List, [], ◌∷◌, length, get_or, arith}
 use Rattle.std.specs.Prelude.{nat_lt}
 use Rattle.std.proofs.lemmas.Bool.{and_parts, cond-true, eq-eqb, eqb-true, false≢true}

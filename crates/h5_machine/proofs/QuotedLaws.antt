@@ -30,7 +30,7 @@ use Rattle.h5_machine.specs.declared.runs.Run.TheVariants as run
 use Rattle.h5_machine.proofs.PassLaws.{behind_run, run_passed}
 use Rattle.h5_machine.proofs.RunLaws.{none_of_four, neither}
 
--- the place in such a state, behind a byte that is no CARRIAGE RETURN, in this line
+-- the place in such a state, after a byte other than CARRIAGE RETURN, in this line
 abbrev here : ReaderPlace → State → ℕ → ReaderPlace
 here p state line = record p { state = state; after_return = false; line = line }
 

@@ -47,7 +47,7 @@ last_is_ascii : (xs : List ℕ) (x : ℕ) → is_ascii (xs ++ x ∷ []) ≡ true
 last_is_ascii [] x h = ltb-true x 128 (and_parts (ltb x 128) true h).0
 last_is_ascii (y ∷ xs) x h = last_is_ascii xs x (and_parts (ltb y 128) (is_ascii (xs ++ x ∷ [])) h).1
 
--- no name has a byte that is no ASCII
+-- no name has a byte other than ASCII
 pub no_beginning : (xs : List ℕ) (x : ℕ) → 128 ≤ x → is_beginning references (xs ++ x ∷ []) ≡ false
 no_beginning xs x wide =
     false_from_ne_true (is_beginning references (xs ++ x ∷ []))

@@ -48,7 +48,7 @@ spelled_in (r ∷ table) seen all h =
 pub beginning_is_spelled : (seen : List ℕ) → is_beginning references seen ≡ true → is_further_name seen ≡ true
 beginning_is_spelled seen h = spelled_in references seen all_references h
 
--- no name goes on behind a semicolon
+-- no name goes on after a semicolon
 closed_is_not_spelled : (seen : List ℕ) (x : ℕ) → ends_in semicolon seen ≡ true → is_further_name (seen ++ x ∷ []) ≡ true → false ≡ true
 closed_is_not_spelled [] x closed h = closed
 closed_is_not_spelled (s ∷ []) x closed h =

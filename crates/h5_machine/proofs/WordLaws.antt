@@ -1,4 +1,4 @@
--- Words that are compared with the front of others.
+-- Words that are compared with the prefixes of others.
 use Rattle.std.proofs.Common.{◌≡◌, ℕ, List, [], ◌∷◌, refl, ap}
 use Rattle.std.specs.Prelude.{◌&&◌, ◌==◌, nat_eq}
 use Rattle.std.specs.List.{starts_with}
