@@ -143,12 +143,12 @@ made_bare kind xs inner name rest h = ap (λ l. token_of (new_tag kind l)) (sym 
 name_of_bare : (xs : List ℕ) (kind : TagKind) (name rest : List ℕ) → IsBareTag xs kind name rest → AreNameBytes name
 name_of_bare xs kind name rest t = (parted t.inner name rest t.bare).bytes
 
--- where the machine is behind it
+-- the machine's place after the tag
 place_behind : (m n : MachineText) → m.at ≡ at.Text (text_state.Text Data) → n ≡ record m { after_return = false; began = m.line } → (kind : TagKind) (name : List ℕ)
     → behind 62 (Text Data) (in_tag (place_of m) kind name) ≡ place_of n
 place_behind m n e f kind name = rw (f, e) refl
 
--- behind such a tag there is less to do
+-- after such a tag less is left to do
 pub bare_less : {H : Type 0} (p q : ReaderPlace) (xs : List ℕ) (kind : TagKind) (name : List ℕ) (behind_it : Bor (List ℕ)) (stopped : Option (Stop H)) → IsBareTag xs kind name behind_it.now
     → IsLess p xs q (Ok (progress_of stopped behind_it))
 bare_less p q xs kind name behind_it None h = shorter_is_less p q xs behind_it.now (bare_shorter xs kind name behind_it.now h)
@@ -169,7 +169,7 @@ module _ {M : Type 0} (reply_to : M → TokenText → Reply) (after : M → Toke
       (subst (λ t. HandsOn reply_to after node (place_of n) l t m.began q o result) same
       (subst (λ i. HandsOn reply_to after node (place_of n) l token i q o result) told e)))
 
-  -- the text that is held is none
+  -- no text is held
   held_none : (p : ReaderPlace) (k : M) (xs text : List ℕ) (held : ℕ) (q : ReaderPlace) (l : M) (rest : List ℕ) → text ≡ [] → Holds reply_to after foreign p k xs text held q l rest → Holds reply_to after foreign p k xs [] held q l rest
   held_none p k xs text held q l rest e h = subst (λ t. Holds reply_to after foreign p k xs t held q l rest) e h
 

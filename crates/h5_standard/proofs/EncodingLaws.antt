@@ -49,7 +49,7 @@ pub encoded_wide : (c b : ℕ) (behind tail : List ℕ) → encode_utf8 c ++ beh
 unfolding encode_utf8
 encoded_wide c b behind tail e low = wide_by (ltb c 128) (ltb c 2048) (ltb c 65536) c b behind tail (ltb-true c 128) e low
 
--- the bytes of the character at the front, and what follows them
+-- the bytes of the first character, and what follows them
 front_of : (xs ys : List ℕ) → take (length xs) (xs ++ ys) ≡ xs
 front_of xs ys = grind (arith, common_steps)
 

@@ -1,4 +1,4 @@
--- A text that is held grows, and is handed on.
+-- A held text grows, and is passed to the sink.
 use Rattle.std.proofs.Common.{◌≡◌, ℕ, Bool, false, List, [], ◌∷◌, ◌++◌, refl, sym, subst, if◌then◌else◌, Result, Ok, Err, Option, Some, None}
 use Rattle.h5_token.specs.TokenText.{TokenText, Characters}
 use Rattle.h5_token.specs.Reply.{Reply, Continues, Refuses}
@@ -14,7 +14,7 @@ use Rattle.h5_states.proofs.ReadLaws.{passes_join}
 use Rattle.h5_standard.specs.Steps.{Stopped, ReadsOn, Holds, RefusedAt, HandsOn, Leads}
 
 module _ {M : Type 0} (reply_to : M → TokenText → Reply) (after : M → TokenText → ℕ → M) (foreign : M → Bool) where
-  -- a reading, and a step behind it
+  -- a reading, and a step after it
   step_more : {p q r : ReaderPlace} {m n o : M} {xs ys zs : List ℕ} {us : List TokenText} {reply : Reply} → ReadsOn reply_to after foreign p m xs q n ys
       → Step references reply_to after foreign q n ys us reply r o zs → Stopped reply_to after foreign p m xs reply r o zs
   step_more {us} h step = record { tokens = h.stopped.tokens ++ us; read = read_on h.stopped.read h.goes_on step }
@@ -31,7 +31,7 @@ module _ {M : Type 0} (reply_to : M → TokenText → Reply) (after : M → Toke
       → Passes references q ys more r zs → Holds reply_to after foreign p m xs (text ++ more) line r n zs
   holds_more h passes = record { place = h.place; rest = h.rest; reads = h.reads; passes = passes_join references h.passes passes; began = h.began }
 
-  -- the text is handed on
+  -- the text is passed to the sink
   pub text_is_handed_on : {p q : ReaderPlace} {m n : M} {xs ys text : List ℕ} {x line : ℕ} → Holds reply_to after foreign p m xs (x ∷ text) line q n ys
       → Stopped reply_to after foreign p m xs (reply_to n (Characters (x ∷ text))) q (after n (Characters (x ∷ text)) line) ys
   text_is_handed_on h = rw h.began (step_more h.reads (text_step h.passes))
@@ -41,7 +41,7 @@ module _ {M : Type 0} (reply_to : M → TokenText → Reply) (after : M → Toke
       → ReadsOn reply_to after foreign p m xs q n ys
   no_text_is_handed_on h = record { reply = Continues; goes_on = refl; stopped = step_more h.reads (quiet_step h.passes) }
 
-  -- a token is handed on
+  -- a token is passed to the sink
   pub token_is_handed_on : {p q : ReaderPlace} {m n : M} {xs ys : List ℕ} {x : ℕ} {token : TokenText} {state : State} → ReadsOn reply_to after foreign p m xs q n (x ∷ ys)
       → is_dropped q x ≡ false → outcome references q x ≡ Emitted token state
       → Stopped reply_to after foreign p m xs (reply_to n token) (after_token token (reply_to n token) (behind x state q)) (after n token q.began) ys
@@ -61,7 +61,7 @@ module _ {M : Type 0} (reply_to : M → TokenText → Reply) (after : M → Toke
       (subst (λ t. Stopped reply_to after foreign p m xs other t l ys) (sym f)
       (subst (λ a. Stopped reply_to after foreign p m xs a r l ys) e h))
 
-  -- the sink refused what was handed on
+  -- the sink refused what was passed to it
   pub was_refused : {p q : ReaderPlace} {m k l : M} {xs ys : List ℕ} {reply : Reply} (f : BuildFault) → (reply ≡ Refuses f) × (k ≡ l)
       → Stopped reply_to after foreign p m xs reply q l ys → RefusedAt reply_to after foreign p m xs f k
   was_refused {q} {ys} f h stopped = record { place = q; rest = ys; stopped = in_other_words h.0 refl h.1 stopped }
@@ -81,7 +81,7 @@ module _ {M : Type 0} (reply_to : M → TokenText → Reply) (after : M → Toke
   leads node r q k (Err fault.NotInText) h e = was_refused fault.NotInText e h
   leads node r q k (Err fault.Failed) h e = was_refused fault.Failed e h
 
-  -- where handing on the text leads
+  -- the effect of passing the text to the sink
   pub text_leads : {H : Type 0} (node : H → ℕ) {p q : ReaderPlace} {m n : M} {xs ys : List ℕ} {line : ℕ} (text : List ℕ) (k : M) (result : Result (Option (Stop H)) BuildFault)
       → (text ≡ [] → ⊥) → Holds reply_to after foreign p m xs text line q n ys → HandsOn reply_to after node q n (Characters text) line q k result
       → Leads reply_to after foreign node p m xs q ys k result

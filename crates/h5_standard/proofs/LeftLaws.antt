@@ -12,7 +12,7 @@ use Rattle.h5_states.specs.Reading.{ReaderPlace, Passes, passed, drops, goes, ag
 use Rattle.h5_standard.specs.Mark.{mark, behind, behind_mark}
 use Rattle.h5_standard.specs.Steps.{Stopped}
 
--- an input is a front and what is left of it
+-- an input is a prefix and what is left of it
 pub record Leaves (xs ys : List ℕ) : Type 0 where
   pub front : List ℕ
   pub split : xs ≡ front ++ ys

@@ -85,7 +85,7 @@ module _ {M : Type 0} (reply_to : M → TokenText → Reply) (after : M → Toke
       → Holds reply_to after foreign p k xs old line (place_of m) l ys → Holds reply_to after foreign p k xs new line (place_of n) l zs
   holds_run c h = held_so c.put (holds_more reply_to after foreign h c.passes)
 
-  -- a token is handed on where no text is held
+  -- a token is passed to the sink when no text is held
   token_leads : {H : Type 0} (node : H → ℕ) {p : ReaderPlace} {k l : M} {xs ys old new : List ℕ} {held x line : ℕ} {m n : MachineText} {construct : CurrentToken} (q : ReaderPlace) (o : M) (result : Result (Option (Stop H)) BuildFault)
       → (c : Completes m x old new n construct line) → IsQuiet (outcome references (place_of m) x) ⊎ (old ≡ []) → Holds reply_to after foreign p k xs old held (place_of m) l (x ∷ ys)
       → HandsOn reply_to after node (place_of n) l (made_of construct n.parts) line q o result → Leads reply_to after foreign node p k xs q ys o result
@@ -110,7 +110,7 @@ module _ {M : Type 0} (reply_to : M → TokenText → Reply) (after : M → Toke
       subst (λ r. ReadsOn reply_to after foreign p k xs r l ys) (sym (f ∙ c.place))
       (subst (λ b. ReadsOn reply_to after foreign p k xs (behind x (if b then Text CdataSection else c.elsewhere) (place_of m)) l ys) (sym e) asked)
 
-  -- all was handed on
+  -- everything was passed to the sink
   pub none_held : {p q : ReaderPlace} {k n : M} {xs ys text : List ℕ} {line : ℕ} → text ≡ [] → line ≡ q.began → ReadsOn reply_to after foreign p k xs q n ys
       → Holds reply_to after foreign p k xs text line q n ys
   none_held {p} {q} {k} {n} {xs} {ys} e f h = held_so e (subst (λ i. Holds reply_to after foreign p k xs [] i q n ys) (sym f) (holds_none reply_to after foreign h))
@@ -122,7 +122,7 @@ module _ {M : Type 0} (reply_to : M → TokenText → Reply) (after : M → Toke
   turns node p k xs text line q n None rest e f h = none_held e f h
   turns node p k xs text line q n (Some s) rest e f h = h
 
-  -- The same of a byte at the front of a rest.
+  -- What is held, before the first byte of a suffix.
   at_front : (p : ReaderPlace) (k : M) (xs text : List ℕ) (line : ℕ) (q : ReaderPlace) (l : M) (x : ℕ) (rest : List ℕ) → rest ≡ x ∷ drop 1 rest
       → Holds reply_to after foreign p k xs text line q l rest → Holds reply_to after foreign p k xs text line q l (x ∷ drop 1 rest)
   at_front p k xs text line q l x rest front h = subst (λ r. Holds reply_to after foreign p k xs text line q l r) front h

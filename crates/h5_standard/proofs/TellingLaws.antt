@@ -1,4 +1,4 @@
--- What the steps of the reader that tells errors did, as a reading with its errors.
+-- What the steps of the tokenizer that reports errors did, as a reading with its errors.
 use Rattle.std.proofs.Common.{◌≡◌, ◌⊎◌, inl, inr, ℕ, ◌<◌, ◌≤◌, ◌==◌, Bool, true, false, true≢false, List, [], ◌∷◌, ◌++◌, refl, sym, ap, ◌∙◌, subst, arith, eq-eqb, ne_eqb, append-nil, append_assoc, drop, length, slice_index, Result, Ok, Err, Option, Some, None, if◌then◌else◌}
 use Rattle.std.proofs.lemmas.Bool.{and_from, and_parts, eqb-true, le-leb, leb-true}
 use Rattle.std.specs.Char.{IsScalar}
@@ -55,7 +55,7 @@ asked_place false n p x elsewhere e = e
 drops_none : (p : ReaderPlace) (x : ℕ) → is_dropped p x ≡ true → 128 ≤ x → ⊥
 drops_none p x d low = omega (arith, eqb-true x 10 (and_parts p.after_return (x == 10) d).1)
 
--- it is consumed, and the state behind it takes such bytes, too
+-- it is consumed, and the state after it takes such bytes as well
 wide_at : (p : ReaderPlace) (x : ℕ) → is_wide p.state ≡ true → 128 ≤ x → WideRow (turn references p.last p.state (normal x))
 wide_at p x wide low = wide_row p.last p.state (normal x) wide (subst (λ y. 128 ≤ y) (sym (normal_wide x low)) low)
 
@@ -109,12 +109,12 @@ taken_whole m n x xs front old new ys split low within wide narrow run =
     let none = none_left ys there.1 (narrow (wide_so n.at n.parts ∙ there.0)) in
     subst (λ l. PassesRun m front old new n l) none run
 
--- what is told at a byte, behind these errors of the input
+-- what is reported at a byte, after these errors of the input
 abbrev row_told : ReaderPlace → Spot → ℕ → List ParseError → List ToldError
 row_told p s x input = told_at_byte references p (position p.line s) x input
 
 module _ {M : Type 0} (reply_to : M → TokenText → Reply) (after : M → TokenText → ℕ → M) (foreign : M → Bool) {E : Type 0} (told : E → List ToldError → Type 0) (start : Reached M) (first : E) where
-  -- a row is done whose errors were told
+  -- a row is done whose errors were reported
   pub goes_before : {text : List ℕ} {line : ℕ} {p : ReaderPlace} {s : Spot} {m : M} {x : ℕ} {xs : List ℕ} {now : E} (more : List ℕ) (state : State)
       → CameBefore reply_to after foreign told start first text line p s m (x ∷ xs) x now → is_dropped p x ≡ false → outcome references p x ≡ Consumed more state
       → CameOn reply_to after foreign told start first (text ++ more) line (behind x state p) (spot_behind x s) m xs now
@@ -147,7 +147,7 @@ module _ {M : Type 0} (reply_to : M → TokenText → Reply) (after : M → Toke
       → CameOn reply_to after foreign told start first text line (behind_newline p) (spot_past s) m xs now
   drops_on h d = record { reply = Continues; goes_on = refl; came = record { errors = h.came.errors; reaches = drops h.came.reaches h.goes_on refl d; tells = h.came.tells } }
 
-  -- the text that is held is handed on
+  -- the held text is passed to the sink
   pub text_on : {line : ℕ} {p : ReaderPlace} {s : Spot} {m : M} {xs : List ℕ} {now : E} (x : ℕ) (text : List ℕ)
       → CameOn reply_to after foreign told start first (x ∷ text) line p s m xs now
       → CameTo reply_to after foreign told start first (reply_to m (Characters (x ∷ text))) p s (after m (Characters (x ∷ text)) line) xs now
@@ -158,7 +158,7 @@ module _ {M : Type 0} (reply_to : M → TokenText → Reply) (after : M → Toke
       → CameOn reply_to after foreign told start first [] line p s m xs now → CameOn reply_to after foreign told start first [] p.began p s m xs now
   nothing_on h = record { reply = Continues; goes_on = refl; came = record { errors = h.came.errors; reaches = hands_nothing h.came.reaches h.goes_on refl; tells = h.came.tells } }
 
-  -- a token is handed on
+  -- a token is passed to the sink
   pub token_before : {line : ℕ} {p : ReaderPlace} {s : Spot} {m : M} {x : ℕ} {xs : List ℕ} {now : E} (token : TokenText) (state : State)
       → CameBefore reply_to after foreign told start first [] line p s m (x ∷ xs) x now → is_dropped p x ≡ false → outcome references p x ≡ Emitted token state
       → CameTo reply_to after foreign told start first (reply_to m token) (after_token token (reply_to m token) (behind x state p)) (spot_behind x s) (after m token p.began) xs now
@@ -207,7 +207,7 @@ module _ {M : Type 0} (reply_to : M → TokenText → Reply) (after : M → Toke
   inside_passes rest (reading.again {p} {x = x} {xs = xs} t state d e passes) none within wide new h =
       absurd (wide_stays p x t state wide (inside_is_wide x (and_parts (is_inside x) (list_all is_inside xs) within).0) e)
 
-  -- a character is passed whose errors were told
+  -- a character is passed whose errors were reported
   character_passes : {p q : ReaderPlace} {front more ys : List ℕ} {text : List ℕ} {line : ℕ} {s : Spot} {m : M} {now : E} (x : ℕ) (xs rest : List ℕ) → Passes references p front more q ys → ys ≡ [] → front ≡ x ∷ xs
       → 128 ≤ x → list_all is_inside xs ≡ true → is_wide p.state ≡ true
       → CameBefore reply_to after foreign told start first text line p s m (x ∷ (xs ++ rest)) x now
@@ -262,7 +262,7 @@ module _ {M : Type 0} (reply_to : M → TokenText → Reply) (after : M → Toke
   leads_telling node s l xs now token line r q k (Err fault.NotInText) h e = refused_so fault.NotInText e h
   leads_telling node s l xs now token line r q k (Err fault.Failed) h e = refused_so fault.Failed e h
 
-  -- the text that is held is handed on, or there is none
+  -- the held text is passed to the sink, if there is any
   pub text_leads_telling : {H : Type 0} (node : H → ℕ) {p : ReaderPlace} {s : Spot} {m : M} {xs : List ℕ} {now : E} {line : ℕ} (text : List ℕ) (k : M) (result : Result (Option (Stop H)) BuildFault)
       → (text ≡ [] → ⊥) → CameOn reply_to after foreign told start first text line p s m xs now → HandsOn reply_to after node p m (Characters text) line p k result
       → LeadsTelling reply_to after foreign told start first node [] p.began p s k xs now result
@@ -298,7 +298,7 @@ module _ {M : Type 0} (reply_to : M → TokenText → Reply) (after : M → Toke
         };
       }
 
-  -- A machine takes a byte at the front of a rest, whose errors were told.
+  -- A machine takes the first byte of a suffix, whose errors were reported.
   at_front : {text : List ℕ} {line : ℕ} {p : ReaderPlace} {s : Spot} {l : M} {x : ℕ} {now : E} (rest : List ℕ) → rest ≡ x ∷ drop 1 rest
       → CameBefore reply_to after foreign told start first text line p s l rest x now → CameBefore reply_to after foreign told start first text line p s l (x ∷ drop 1 rest) x now
   at_front {text} {line} {p} {s} {l} {x} {now} rest front h = subst (λ r. CameBefore reply_to after foreign told start first text line p s l r x now) front h
@@ -392,7 +392,7 @@ module _ {M : Type 0} (reply_to : M → TokenText → Reply) (after : M → Toke
   in_other_words node p s m xs now text line (Ok (Some stop)) e f h = h
   in_other_words node p s m xs now text line (Err f) e g h = h
 
-  -- a character past ASCII is taken, whose errors were told
+  -- a character outside ASCII is taken, whose errors were reported
   pub wide_tells : (m n : MachineText) (x : ℕ) (others front rest behind_it old new : List ℕ) (line : ℕ) (s t : Spot) (l : M) (old_errors now : E) → rest ≡ front ++ behind_it → front ≡ x ∷ others → 128 ≤ x → list_all is_inside others ≡ true
       → takes_wide m.at ≡ true → PassesRun m front old new n [] → t ≡ spot_behind_all front s
       → CameOn reply_to after foreign told start first old line (place_of m) s l rest old_errors → TellsRow told old_errors now (place_of m) s rest x
