@@ -18,7 +18,7 @@ module _ {R S H O : Type 0} (reader : Ghosts R S H O) {choices : SinkChoices} (l
   abbrev ParsesText : Parsing R → List ℕ → Seen → Type 0
   ParsesText p xs told = Parses reader.Reads choices (text_of reader p) (view_of reader p) xs told
 
-  -- of what waits, with more bytes behind it
+  -- from what waits, with more bytes after it
   abbrev ParsesWith : ParsingBytes R → List ℕ → Seen → Type 0
   ParsesWith p bytes told = ParsesText p.parser (p.parser.waiting ++ utf8_lossy (p.unfinished ++ bytes)) told
 

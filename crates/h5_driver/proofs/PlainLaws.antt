@@ -118,7 +118,7 @@ rebuilt choices seen d holds =
 pub document_answers : (choices : SinkChoices) (seen : Seen) (d : PlainDocument) → HoldsDocument seen.forest → Answers (replies choices) (after choices) (first_building seen types.default_options).view (document_tokens d)
 document_answers choices seen d holds = (rebuilt choices seen d holds).answers
 
--- and the document stands in what its sink tells after them and the end
+-- and the document is what its sink shows after them and the end
 pub document_stands : (choices : SinkChoices) (seen told : Seen) (d : PlainDocument) (n : View) → HoldsDocument seen.forest → n ≡ ended choices (after_all choices (document_tokens d) (first_building seen types.default_options).view)
     → told.forest ≡ n.world.forest → told.quirks ≡ n.world.seen_quirks → ComesBack told d
 document_stands choices seen told d n holds same forest quirks =

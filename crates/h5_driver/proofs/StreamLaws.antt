@@ -18,7 +18,7 @@ module _ {R S H O : Type 0} (reader : Ghosts R S H O) {choices : SinkChoices} (l
   advance r v xs (text ∷ texts) old new a (now, (took, rest)) =
       subst (λ ys. UpTo r v ys new) (append_assoc xs text (joined texts)) (advance r v (xs ++ text) texts now new (piece_taken law text a took.advances took.none_waits) rest)
 
-  -- what a parser makes of what waits, with a text behind it
+  -- what a parser makes from what waits, with a text after it
   abbrev ParsesWith : Parsing R → List ℕ → Seen → Type 0
   ParsesWith p xs told = Parses reader.Reads choices (text_of reader p) (view_of reader p) xs told
 

@@ -1,4 +1,4 @@
--- A builder that is ready takes what isn't refused in a text where it is in one, and is ready behind it, whatever reads.
+-- A builder that is ready takes, in the mode "text", what this mode doesn't refuse, and is ready afterwards, for any tokenizer.
 use Rattle.std.proofs.Common.{◌≡◌, ◌≢◌, ℕ, true, false, Err, refl, ap, sym, subst}
 use Rattle.h5_token.specs.Reply.{Continues, Indicates, Refuses, Reply, RunsScript, TurnsPlain, TurnsRaw}
 use Rattle.h5_token.specs.TokenText.{EndOfFile, TagIs, TokenText}
@@ -62,7 +62,7 @@ token_takes (TagIs tag) m n r h = tag_takes tag.kind r n h
 token_takes EndOfFile m n r h = calm_takes r h.0
 token_takes _ m n r h = calm_takes r h.0
 
--- a token that isn't refused: what the builder keeps behind it, and where its answer leads
+-- a token that isn't refused: the builder's meaning after it, and the effect of its reply
 pub record IsTaken (t : TokenText) (m : InsertionMode) (reply : Reply) (n : View) : Type 0 where
   pub ready : IsReady n
   pub leads : TokenLeads t m reply n.world.mode
@@ -85,7 +85,7 @@ token_taken choices t v r n =
     } in
     subst (λ o. IsTaken t v.world.mode (tell_or_refuse choices t o v).reply (take_or_refuse choices t o v)) (sym (is_taken v t r.unfailed r.unended n)) k
 
--- a fault is want of memory
+-- an error is a failed allocation
 no_refusal : (r : Reply) (f : BuildFault) → refuses r ≡ false → r ≡ Refuses f → ⊥
 no_refusal r f h e = let i : refuses r ≡ true = ap refuses e in cc
 

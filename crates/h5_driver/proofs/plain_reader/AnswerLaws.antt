@@ -1,4 +1,4 @@
--- A builder that works takes what isn't refused in a text where it is in one, and works at the place behind it.
+-- A builder that works takes, in the mode "text", what this mode doesn't refuse, and works at the next place.
 use Rattle.std.proofs.Common.{◌≡◌, ℕ, true, false, List, sym, subst}
 use Rattle.h5_token.specs.Reply.{Continues, Indicates, Reply, RunsScript, TurnsPlain, TurnsRaw}
 use Rattle.h5_token.specs.TokenText.{CommentIs, Characters, DoctypeIs, EndOfFile, NullCharacter, ParseErrorIs, TagIs, TokenText}

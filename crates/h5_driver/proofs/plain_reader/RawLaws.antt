@@ -1,4 +1,4 @@
--- What a reader of raw text hands on: nothing that is refused in a text, and it turns to no other state by itself.
+-- What a tokenizer emits of raw text: nothing that the mode "text" refuses, and it doesn't change the state itself.
 use Rattle.std.proofs.Common.{◌≡◌, ℕ, Bool, false, List, [], ◌∷◌, Option, Some, None, codes, refl, subst}
 use Rattle.h5_token.specs.TokenText.{TokenText}
 use Rattle.h5_token.specs.declared.states.RawKind.{RawKind}
@@ -51,7 +51,7 @@ end_tag_raw (c ∷ cs) xs = then_raw (literal (codes "</") xs) _ (λ u rest. say
 opening_raw : (kind : RawKind) (last : List ℕ) (foreign : Bool) (xs : List ℕ) → IsRawOpening (opening (RawData kind) last foreign xs)
 opening_raw kind last foreign xs = or_raw (raw_end_tag last xs) _ (end_tag_raw last xs) (stands_raw (escape (reads_references kind) xs))
 
--- so a whole token at the front is no start tag, comment or null
+-- so a whole token at the start isn't a start tag, comment or null
 abbrev IsRawPiece : Match Piece → Type 0
 IsRawPiece (Found (Whole token) rest) = is_refused_in_text token ≡ false
 IsRawPiece (Found (Switch mode) rest) = ⊥

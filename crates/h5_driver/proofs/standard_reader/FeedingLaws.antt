@@ -159,9 +159,9 @@ module _ {H : Type 0} (choices : SinkChoices) (node : H → ℕ) (r : ReaderText
     memory = ap Err (fault_is_memory choices node r v xs s w ys f at_first h);
   }
 
--- ---- the end of a builder that works: a fault is want of memory
+-- ---- the end of a builder that works: an error is a failed allocation
 
--- a token at the end, which is none in raw text
+-- a token at the end; raw text has none
 token_closes : (choices : SinkChoices) (m n : View) (o : Option TokenText) (line last : ℕ) (f : BuildFault) → IsReady m → (m.world.mode ≡ Text → o ≡ None)
     → ClosesWith (replies choices) (after choices) (ended choices) m (told.handed o) line last n (Err f) → f ≡ Memory
 token_closes choices m n None line last f r raw h = finishes_memory choices m n last f r h

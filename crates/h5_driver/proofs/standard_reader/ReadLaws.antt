@@ -1,4 +1,4 @@
--- A reading of nothing, and how much is left to do behind an answer that stops reading.
+-- A reading of nothing, and how much is left to do after a reply that stops reading.
 use Rattle.std.proofs.Common.{◌≡◌, ◌≢◌, ◌<◌, ◌≤◌, ℕ, Bool, true, false, List, [], ◌∷◌, refl, sym, ◌∙◌, arith}
 use Rattle.std.proofs.lemmas.Bool.{false≢true}
 use Rattle.h5_token.specs.Reply.{Reply}

@@ -1,4 +1,4 @@
--- A builder that works takes what the standard reader hands on, and works at the place behind it.
+-- A builder that works takes what the standard tokenizer emits, and works at the next place.
 use Rattle.std.proofs.Common.{◌≡◌, ℕ, true, false, List, [], ◌∷◌, refl}
 use Rattle.std.proofs.lemmas.Bool.{false≢true}
 use Rattle.h5_token.specs.Reply.{Continues, Indicates, Reply, RunsScript, TurnsPlain, TurnsRaw}
