@@ -11,13 +11,13 @@ use Rattle.h5_driver.proofs.ReadingLaws.{followed_by, parses_behind}
 use Rattle.h5_bytes.specs.Parsing.{IsHanded, ParsingPage, ProcessedAllBytes, ProcessedBytes}
 use Rattle.h5_bytes.specs.Texts.{text_behind, text_in}
 
--- where a piece was handed on
+-- a chunk of text was passed
 pub handed_on : {P Q : Type 0} (result : Result (Unit {0}) BuildFault) → (P → Q) → OnOk result P → OnOk result Q
 handed_on (Ok tt) f p = f p
 handed_on (Err fault) f p = p
 
 module _ {R S H O : Type 0} (reader : Ghosts R S H O) {choices : SinkChoices} (law : AreReadings choices reader.first reader.Readings reader.Reads) where
-  -- what a parser makes of what waits, with a text behind it
+  -- what a parser makes from what waits, with a text after it
   abbrev ParsesText : Parsing R → List ℕ → Seen → Type 0
   ParsesText p text told = Parses reader.Reads choices (text_of reader p) (view_of reader p) (p.waiting ++ text) told
 

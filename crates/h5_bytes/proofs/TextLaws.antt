@@ -14,7 +14,7 @@ use Rattle.h5_bytes.specs.Texts.{Takes, encoding_of_bytes, text_of_bytes}
 encoding_decided : (opts : EncodingOpts) (bytes more : List ℕ) → 1024 ≤ length bytes → encoding_of_bytes opts (bytes ++ more) ≡ encoding_of_bytes opts bytes
 encoding_decided opts bytes more enough = ap (encoding_of opts) (take-append-le 1024 bytes more enough)
 
--- bytes that came, behind those that waited, decide the encoding
+-- bytes that follow those that waited determine the encoding
 pub decided : (opts : EncodingOpts) (first : Vec ℕ Global) (now bytes text : List ℕ) (source : Source) (decoder : State) → now ≡ first.items ++ bytes → 1024 ≤ length now
     → source ≡ (encoding_of_bytes opts now).1 → Decodes (start (encoding_of_bytes opts now).0) now text decoder → Takes opts (Sniffing first) bytes (Some text) (Decoding decoder source)
 decided opts first now bytes text source decoder same enough by decodes =
