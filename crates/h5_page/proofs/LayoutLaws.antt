@@ -44,7 +44,7 @@ high_encode c high = by (ltb c 128) (le-ltb c 128 high) (ltb c 2048) (ltb c 6553
     by false e false true = (omega arith, (omega arith, (omega arith, tt)))
     by false e false false = (omega arith, (omega arith, (omega arith, (omega arith, tt))))
 
--- a character that is no line end, where blanks stay, and that is no blank, where they fold
+-- a character other than a newline, if whitespace is kept, or other than whitespace, if it is collapsed
 abbrev pub IsInk : (keeps_blanks : Bool) → ℕ → Type 0
 IsInk true c = c ≢ 10
 IsInk false c = is_blank c ≡ false
