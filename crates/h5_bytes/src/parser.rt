@@ -18,9 +18,9 @@ use std::marker::Model;
 /// A parser of a document from bytes, over a parser of text. It decodes the page's encoding, which is determined by the first
 /// 1,024 bytes, or by all if there are fewer, and by the options (HTML standard, section 13.2.3.2).
 ///
-/// It takes bytes in chunks, and how they are split doesn't matter. The first 1,023 bytes wait, and the parser of text gets
-/// nothing until more come or the bytes end. U+FFFD replaces each error that the encoding's decoder returns. A byte order mark
-/// is decoded like any other character; the tokenizer's option `discard_bom` decides what becomes of it.
+/// It takes bytes in chunks, and how they are split doesn't matter. While fewer than 1,024 bytes came, they wait, and the parser
+/// of text gets nothing. U+FFFD replaces each error that the encoding's decoder returns. A byte order mark is decoded like any
+/// other character; the tokenizer's option `discard_bom` decides what becomes of it.
 ///
 /// Contracts see it as its parser, the options, its stage, and whether it has failed. It has failed after an error, and then
 /// every call that returns a result fails with `Failed`.

@@ -44,7 +44,7 @@ module _ {T : Type 0} {choices : SinkChoices} {first : TokenizerOpts → T} {Rea
   parsed {r = r} {s = s} {v = v} {w = w} {o = o} {xs = xs} {ys = ys} ready a h e f =
       parses_of (a.tokens ++ h.tokens) ready (law.to_end r s v w o xs ys a.tokens h.tokens a.readings h.reads) e f
 
-  -- what was read before, and then the rest
+  -- what was read before, and then the remaining input
   pub parses_behind : {r s : T} {v w : View} {xs ys : List ℕ} {told : Seen} → IsReady v → Advances Readings r v xs s w ys → Parses Reads choices s w ys told → Parses Reads choices r v xs told
   parses_behind {w = w} ready a h =
       let own = h.any h.tokens (ended choices (after_all choices h.tokens w)) h.reads in

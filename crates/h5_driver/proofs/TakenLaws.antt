@@ -19,12 +19,12 @@ use Rattle.h5_reading.specs.Answers.{refuses}
 use Rattle.h5_reading.specs.Taking.{Finishes, Takes}
 use Rattle.h5_driver.specs.Working.{IsReady, after, ended, replies}
 
--- what isn't refused in a text, or comes in no text, isn't refused
+-- a token that the mode "text" doesn't refuse, or that comes in another mode, isn't refused
 pub comes : (m : InsertionMode) (t : TokenText) → (m ≡ Text → is_refused_in_text t ≡ false) → refuses_in m t ≡ false
 comes Text t h = h refl
 comes _ t h = refl
 
--- no text is kept to go back to
+-- the mode to return to isn't "text"
 no_text : (m : InsertionMode) → m ≢ Text → is_text m ≡ false
 no_text Text h = absurd (h refl)
 no_text _ h = refl
@@ -32,14 +32,14 @@ no_text _ h = refl
 pub text_no_text : (m : InsertionMode) → is_text m ≡ false → m ≢ Text
 text_no_text m h e = let i : is_text m ≡ true = ap is_text e in cc
 
--- where a token leaves the builder in a text only if it was in one
+-- a token leaves the builder in the mode "text" only if it was in it
 pub was_text : (m n : InsertionMode) → (is_text n ≡ true → is_text m ≡ true) → n ≡ Text → m ≡ Text
 was_text m n h e = mode_is_text m (h (ap is_text e))
 
 none_behind : (v : View) → IsReady v → NoTextBehind v.world
 none_behind v r = (no_text (saved_mode v.world) r.saved, r.kinds)
 
--- no answer refuses
+-- no reply refuses
 calm_takes : (r : Reply) → IsCalm r → refuses r ≡ false
 calm_takes Continues h = refl
 calm_takes (RunsScript node) h = refl

@@ -10,7 +10,7 @@ use super::said::Said;
 use super::xml::xml_encoding;
 use std::alloc::{AllocError, Global};
 
-/// What bytes begin with.
+/// What the prescan finds at a position.
 #[derive(Clone, Copy, Debug, PartialEq, Eq)]
 pub enum Kind {
     Comment,

@@ -1,4 +1,4 @@
--- What the numbers of the C1 controls stand for.
+-- The replacements of the numbers of the C1 controls.
 use Rattle.std.proofs.Common.{◌≡◌, ℕ, zero, suc, ◌<◌, ◌==◌, ◌||◌, true, refl, subst, sym, ◌∙◌, List, [], ◌∷◌, get_or, inl, inr, ltb, arith}
 use Rattle.std.proofs.lemmas.Bool.{and_parts, cond-false, cond-true, eq-eqb, le-leb, lt-ltb, ltb-true, ne_eqb, and_from, or_left, or_right}
 use Rattle.std.specs.Prelude.{if◌then◌else◌, nat_lt}
@@ -17,7 +17,7 @@ low_at [] n h = omega arith
 low_at (x ∷ xs) zero h = ltb-true x 0xd800 (and_parts (ltb x 0xd800) (list_all (λ y. ltb y 0xd800) xs) h).0
 low_at (x ∷ xs) (suc n) h = low_at xs n (and_parts (ltb x 0xd800) (list_all (λ y. ltb y 0xd800) xs) h).1
 
--- 0 stands for none
+-- 0 means that there is none
 pub kept : (code n : ℕ) → get_or replacements n 0 ≡ 0 → code ≡ or_itself code (at_or replacements n)
 kept code n h = sym (cond-true (at_or replacements n == 0) code (at_or replacements n) (eq-eqb (at_or replacements n) 0 (is_at replacements n ∙ h)))
 

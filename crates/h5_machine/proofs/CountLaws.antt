@@ -53,7 +53,7 @@ newlines_of x e = rw e (one_newline (x == 10))
 pub none_more : {lines : ℕ} {b : Bool} → b ≡ false → lines + cond b 1 0 ≡ lines
 none_more {lines} e = rw e (omega arith)
 
--- a byte more
+-- one more byte
 pub counted_next : (run : Run) (xs : List ℕ) (n lines next : ℕ) → n < length xs → are_in run (take n xs) ≡ true → lines ≡ newlines false (take n xs) → is_in run (get_or xs n 0) ≡ true
     → next ≡ lines + cond (get_or xs n 0 == 10) 1 0 → (are_in run (take (n + 1) xs) ≡ true) × (next ≡ newlines false (take (n + 1) xs))
 counted_next run xs n lines next lt taken counted here e =

@@ -36,7 +36,7 @@ is_all_same [] (c ∷ word) = refl
 is_all_same (x ∷ xs) [] = refl
 is_all_same (x ∷ xs) (c ∷ word) = rw twice (ap (λ b. (x == c) && b) (is_all_same xs word))
 
--- no word of ASCII begins with what ends in a byte past it
+-- no word of ASCII begins with what ends in a byte outside ASCII
 pub begins_wide : (fold : ℕ → ℕ) (seen : List ℕ) (x : ℕ) (word : List ℕ) → 128 ≤ fold x → list_all (λ c. nat_lt (fold c) 128) word ≡ true → begins fold (seen ++ x ∷ []) word ≡ false
 begins_wide fold [] x [] h k = refl
 begins_wide fold [] x (c ∷ word) h k = and_left (fold x == fold c) true (wide_not (fold x) (fold c) (le-leb 128 (fold x) h) (and_parts _ _ k).0)

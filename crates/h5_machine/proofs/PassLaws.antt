@@ -1,5 +1,4 @@
--- The law of runs: bytes of a state's run are passed, one after another, and what they emit and what is under construction
--- then is what the run adds.
+-- The law of runs: the bytes of a state's run are passed, one after another, and emit and build what the run adds.
 use Rattle.std.proofs.Common.{◌≡◌, ℕ, ◌+◌, ◌-◌, ◌^◌, ◌<◌, ◌≤◌, Bool, true, false, List, [], ◌∷◌, ◌++◌, length, map, take, drop, slice_index, refl, sym, ap, ◌∙◌, subst, arith, append_assoc, ◌==◌, ◌&&◌, if◌then◌else◌, Option, Some, None}
 use Rattle.std.proofs.lemmas.Bool.{false≢true, and_parts, and_left}
 use Rattle.std.proofs.lemmas.Bool.Decides.{nat_tests}

@@ -37,7 +37,7 @@ record Quiet (turn : Turn) : Type 0 where
 quiet : {turn : Turn} → IsQuiet turn.outcome → Quiet turn
 quiet h = record { outcome = h }
 
--- what doesn't come
+-- bytes that aren't there
 never : {turn : Turn} (b : Bool) → b ≡ true → b ≡ false → Quiet turn
 never b h g = absurd (false≢true (sym g ∙ h))
 

@@ -21,7 +21,7 @@ name_is_spelled (x ∷ xs) h =
     let parts = and_parts (is_ascii_alphabetic x) (is_further_name xs) h in
     letter_further x xs parts.0 parts.1
 
--- and so is what a name begins with
+-- and so are its prefixes
 front_is_spelled : (seen name : List ℕ) → begins same seen name ≡ true → is_further_name name ≡ true → is_further_name seen ≡ true
 front_is_spelled [] name h spelled = refl
 front_is_spelled (s ∷ seen) [] h spelled = absurd (false≢true h)

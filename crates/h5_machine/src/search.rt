@@ -1,4 +1,5 @@
-//! Searches in the table of references: how much of a text begins a name, and the longest name in what was seen.
+//! Searches in the table of references: how much of a text begins a name, and the longest name in what was seen. They allocate
+//! nothing.
 ghost use Rattle.std.specs.Prelude.{◌≡◌, ◌<◌, ◌≤◌, ◌+◌, true, false, ◌++◌, length, take};
 ghost use Rattle.h5_states.specs.References.{is_beginning, longest};
 ghost use Rattle.h5_states.specs.ReferenceTable.{references};

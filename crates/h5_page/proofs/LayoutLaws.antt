@@ -1,11 +1,11 @@
--- What is laid out of a text, character by character.
+-- The layout of a text, character by character.
 use Rattle.std.proofs.Common.{◌≡◌, ◌≢◌, ℕ, ◌+◌, ◌*◌, ◌/◌, ◌%◌, ◌<◌, ◌≤◌, ◌==◌, ◌||◌, Bool, true, false, cond, ltb, List, [], ◌∷◌, ◌++◌, inl, inr, refl, sym, ap, ◌∙◌, arith, append_assoc, append-nil}
 use Rattle.std.specs.Char.{encode_utf8}
 use Rattle.std.proofs.lemmas.Bool.{cases_lt, ne_eqb, false≢true, le-ltb}
 use Rattle.std.proofs.lemmas.Str.{encode_ascii}
 use Rattle.h5_page.specs.Layout.{Laid, inked, inked_as, is_blank, opened, with_byte, with_text}
 
--- no byte is one of ASCII
+-- no byte is ASCII
 abbrev pub AreHigh : List ℕ → Type 0
 AreHigh [] = Unit {0}
 AreHigh (c ∷ cs) = (128 ≤ c) × AreHigh cs
@@ -21,7 +21,7 @@ high_byte : (k : Bool) (indent c : ℕ) (p : Laid) → 128 ≤ c → with_byte k
 high_byte true indent c p h = rw (ne_eqb c 10 (omega (arith, h))) refl
 high_byte false indent c p h = rw (no_blank c h) refl
 
--- there is one, and none is one of ASCII
+-- there is a byte, and none is ASCII
 abbrev pub IsHigh : List ℕ → Type 0
 IsHigh [] = ⊥
 IsHigh (c ∷ cs) = (128 ≤ c) × AreHigh cs

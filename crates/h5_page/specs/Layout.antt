@@ -22,7 +22,7 @@ abbrev pub behind_blank : Gap → Gap
 behind_blank Close = Blank
 behind_blank gap = gap
 
--- a block begins or ends: at least the line ends, if it isn't empty, and a paragraph has an empty line before it
+-- a block begins or ends: at least a newline, unless the line is empty, and an empty line before and after a paragraph
 abbrev pub behind_break : (is_wide : Bool) → Gap → Gap
 behind_break is_wide Start = Start
 behind_break is_wide Front = Front
@@ -36,7 +36,7 @@ abbrev pub behind_end : Gap → Gap
 behind_end Paragraph = Paragraph
 behind_end gap = Line
 
--- a line ends, as by `br`
+-- a newline, as by `br`
 abbrev pub behind_line_end : Gap → Gap
 behind_line_end Start = Start
 behind_line_end Front = Front

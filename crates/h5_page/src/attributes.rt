@@ -7,7 +7,7 @@ use html_tree_builder::serialize::AttrRef;
 use std::alloc::{AllocError, Global};
 use std::marker::Model;
 
-/// Whether an element is hidden, whether its numbers are reversed, and the value of the attribute that its display uses.
+/// The `hidden` and `reversed` flags of an element, and the value of the attribute that its display uses.
 #[derive(Drop)]
 pub struct Said {
     pub is_hidden: bool,

@@ -29,7 +29,7 @@ longest_front bs (suc m) =
     ))
     (cases_Bool (is_utf8 (take (suc m) bs)))
 
--- bytes are UTF-8, or they stop being it at `utf8_valid_len`
+-- bytes are UTF-8, or UTF-8 up to `utf8_valid_len`
 pub utf8_valid_len-cases : (bs : List ℕ) → IsUtf8 bs ⊎ IsValidUpTo bs (utf8_valid_len bs)
 unfolding utf8_valid_len
 utf8_valid_len-cases bs =

@@ -1,4 +1,4 @@
--- Joins of neighbouring texts.
+-- Joins of adjacent texts.
 use Rattle.std.proofs.Common.{◌≡◌, ℕ, List, [], ◌∷◌, ◌++◌, refl, sym, ap, ◌∙◌, append_assoc}
 use Rattle.h5_token.specs.TokenText.{TokenText, Characters}
 use Rattle.h5_token.specs.Joins.{glue, join}

@@ -1,4 +1,4 @@
--- Newlines, counted in parts, and the line that they come to.
+-- Newlines, counted in parts, and the resulting line.
 use Rattle.std.proofs.Common.{◌≡◌, ℕ, zero, suc, ◌<◌, ◌≤◌, ◌+◌, ◌-◌, ◌^◌, Bool, true, false, not, ◌&&◌, List, [], ◌∷◌, ◌++◌, cond, eqb, length, take, drop, get_or, refl, ap, ◌∙◌, subst, arith, length-append, length-drop}
 use Rattle.std.proofs.Math.Seq.{take-append_seam}
 use Rattle.std.proofs.lemmas.Bool.{eqb-true}
@@ -62,7 +62,7 @@ none_passed (x ∷ xs) (suc n) h =
     let none = high_by x (eqb x 13) (eqb x 10) refl refl (h 0 (omega arith)) in
     rw (none.0, none.1) (none_passed xs n (λ k lt. h (suc k) (omega arith)))
 
--- where none of the bytes up to one, and that one, may be a newline, there is none
+-- if none of the bytes up to and including one may be a newline, there is no newline
 quiet_through : (xs : List ℕ) (n : ℕ) → ((k : ℕ) → k < n → 13 < get_or xs k 0) → 13 < get_or xs n 0 → newlines false (take (suc n) xs) ≡ 0
 quiet_through [] n h i = refl
 quiet_through (x ∷ xs) zero h i =
@@ -95,7 +95,7 @@ in_line_more (x ∷ xs) inner rest some high e le h =
     ap (λ k. newlines false (take k (x ∷ xs))) same
     ∙ rw (none.0, none.1) (subst (λ (l : List ℕ). newlines_passed l rest ≡ 0) e h)
 
--- the same was passed, whatever follows
+-- the passed bytes don't depend on what follows
 passed_on : (xs ys more : List ℕ) → passed (xs ++ more) (ys ++ more) ≡ passed xs ys
 passed_on xs ys more =
     let n : length (xs ++ more) - length (ys ++ more) ≡ length xs - length ys = omega (arith, length-append xs more, length-append ys more) in
@@ -104,7 +104,7 @@ passed_on xs ys more =
 pub line_on : (line : ℕ) (xs ys more : List ℕ) → line_behind line (xs ++ more) (ys ++ more) ≡ line_behind line xs ys
 line_on line xs ys more = ap (λ l. u64_saturate (line + newlines false l)) (passed_on xs ys more)
 
--- what was passed, where that is known
+-- the passed bytes, if they are known
 pub passed_is : (xs ys front : List ℕ) → xs ≡ front ++ ys → passed xs ys ≡ front
 passed_is xs ys front split =
     let n : length xs - length ys ≡ length front = omega (arith, ap length split, length-append front ys) in

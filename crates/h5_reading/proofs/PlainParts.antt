@@ -13,7 +13,7 @@ pub record ArePlain (xs : List ℕ) (n lines : ℕ) : Type 0 where
   pub plain : (k : ℕ) → k < n → is_plain (get_or xs k 0) ≡ true
   pub counted : lines ≡ newlines false (take n xs)
 
--- a byte of a rest
+-- a byte of a suffix
 pub in_rest : (xs rest : List ℕ) (n k : ℕ) → rest ≡ drop n xs → get_or rest k 0 ≡ get_or xs (n + k) 0
 in_rest xs rest n k e = ap (λ l. get_or l k 0) e ∙ get_or-drop n xs k 0
 

@@ -1,4 +1,4 @@
--- The bytes of a character past ASCII.
+-- The bytes of a character outside ASCII.
 use Rattle.std.proofs.Common.{◌≡◌, ℕ, ◌+◌, ◌/◌, ◌%◌, ◌<◌, ◌≤◌, Bool, true, false, List, [], ◌∷◌, ◌++◌, refl, ap, arith, cond, drop, length, length-append, ltb, sym, take, ◌&&◌, ◌∙◌}
 use Rattle.std.proofs.lemmas.Bool.{and_from, le-leb, ltb-true}
 use Rattle.std.proofs.lemmas.Grind.{common_steps}
@@ -8,7 +8,7 @@ use Rattle.std.specs.Prelude.{nat_le}
 use Rattle.std.specs.List.{list_all}
 use Rattle.h5_states.specs.Spots.{is_inside}
 
--- the first is this one, and the others stand inside the character
+-- the first is this one, and the others are inside the character
 pub record WideCharacter (bytes : List ℕ) (b : ℕ) : Type 0 where
   pub others : List ℕ
   pub split : bytes ≡ b ∷ others

@@ -45,7 +45,7 @@ use Rattle.h5_standard.proofs.WideRows.{WideRow, is_wide, wide_row, wide_so}
 inside_is_wide : (x : ℕ) → is_inside x ≡ true → 128 ≤ x
 inside_is_wide x h = leb-true 128 x (and_parts (nat_le 128 x) (nat_le x 191) h).0
 
--- where the answer to the question leads
+-- the effect of the check of the adjusted current node
 asked_place : (b : Bool) (n p : ReaderPlace) (x : ℕ) (elsewhere : State) → n ≡ behind x elsewhere p
     → (if b then in_state (Text CdataSection) n else n) ≡ behind x (if b then Text CdataSection else elsewhere) p
 asked_place true n p x elsewhere e = ap (in_state (Text CdataSection)) e
@@ -78,7 +78,7 @@ rest_same e = cc
 cons_is_some : (x : ℕ) (xs : List ℕ) → x ∷ xs ≡ [] → ⊥
 cons_is_some x xs e = cc
 
--- Bytes past ASCII are taken all, in a state that takes them, where none is left before such a state.
+-- Bytes outside ASCII: a state that takes one of them takes all.
 abbrev are_wide : List ℕ → Bool
 are_wide = list_all (λ x. nat_le 128 x)
 
@@ -153,7 +153,7 @@ module _ {M : Type 0} (reply_to : M → TokenText → Reply) (after : M → Toke
       → CameTo reply_to after foreign told start first (reply_to m (Characters (x ∷ text))) p s (after m (Characters (x ∷ text)) line) xs now
   text_on x text h = record { errors = h.came.errors; reaches = hands_text h.came.reaches h.goes_on refl; tells = h.came.tells }
 
-  -- there is none
+  -- no text is held
   pub nothing_on : {line : ℕ} {p : ReaderPlace} {s : Spot} {m : M} {xs : List ℕ} {now : E}
       → CameOn reply_to after foreign told start first [] line p s m xs now → CameOn reply_to after foreign told start first [] p.began p s m xs now
   nothing_on h = record { reply = Continues; goes_on = refl; came = record { errors = h.came.errors; reaches = hands_nothing h.came.reaches h.goes_on refl; tells = h.came.tells } }
@@ -223,7 +223,7 @@ module _ {M : Type 0} (reply_to : M → TokenText → Reply) (after : M → Toke
   character_passes x xs rest (reading.again {p} {x = y} t state d e passes) none split low within wide h =
       absurd (wide_stays p y t state wide (subst (λ z. 128 ≤ z) (sym (first_same split)) low) e)
 
-  -- the same of a machine
+  -- as above, for a machine
   pub wide_on : (m n : MachineText) (x : ℕ) (xs rest front old new : List ℕ) (line : ℕ) (s : Spot) (l : M) (now : E) → front ≡ x ∷ xs → 128 ≤ x → list_all is_inside xs ≡ true → takes_wide m.at ≡ true
       → PassesRun m front old new n [] → CameBefore reply_to after foreign told start first old line (place_of m) s l (x ∷ (xs ++ rest)) x now
       → CameOn reply_to after foreign told start first new line (place_of n) (spot_behind_all front s) l rest now
@@ -251,7 +251,7 @@ module _ {M : Type 0} (reply_to : M → TokenText → Reply) (after : M → Toke
       → CameTo reply_to after foreign told start first reply p s l xs now → CameRefused reply_to after foreign told start first k now f
   refused_so {p = p} {s = s} {xs = xs} f e h = record { place = p; spot = s; rest = xs; came = answered_so e.0 refl e.1 h }
 
-  -- where the answer to a token leads, from a place
+  -- the effect of the reply to a token, from a place
   pub leads_telling : {H : Type 0} (node : H → ℕ) (s : Spot) (l : M) (xs : List ℕ) (now : E) (token : TokenText) (line : ℕ) (r q : ReaderPlace) (k : M) (result : Result (Option (Stop H)) BuildFault)
       → CameTo reply_to after foreign told start first (reply_to l token) (after_token token (reply_to l token) r) s (after l token line) xs now
       → HandsOn reply_to after node r l token line q k result → LeadsTelling reply_to after foreign told start first node [] q.began q s k xs now result
@@ -277,7 +277,7 @@ module _ {M : Type 0} (reply_to : M → TokenText → Reply) (after : M → Toke
   asked_errors true at es e = append-nil es
   asked_errors false at es e = refl
 
-  -- the adjusted current node is asked for
+  -- the adjusted current node is checked
   pub asks_before : {line : ℕ} {p : ReaderPlace} {s : Spot} {m : M} {x : ℕ} {xs : List ℕ} {now : E} (later : E) (there : State) (error : ParseError) (elsewhere : State)
       → CameBefore reply_to after foreign told start first [] line p s m (x ∷ xs) x now → is_dropped p x ≡ false → outcome references p x ≡ Asks there error elsewhere
       → Tells told now later (told_at (position p.line s) (if foreign m then [] else error ∷ []))

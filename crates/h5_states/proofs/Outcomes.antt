@@ -16,7 +16,7 @@ use Rattle.h5_states.specs.Reading.{ReaderPlace, is_dropped}
 use Rattle.h5_states.specs.End.{last_tokens}
 use Rattle.h5_states.proofs.ByRows.{Move, move}
 
--- what is done at a byte over a sink that answers to go on
+-- what is done at a byte over a sink whose reply is to go on
 abbrev pub silent : Bool → ReaderPlace → ℕ → Move (Unit {0})
 silent foreign p x = move (λ m t. Continues) (λ m t line. m) (λ m. foreign) references p (tt {0}) x
 
@@ -24,7 +24,7 @@ silent foreign p x = move (λ m t. Continues) (λ m t line. m) (λ m. foreign) r
 abbrev pub at_first : State → List ℕ → ReaderPlace
 at_first state last = record { state = state; last = last; after_return = false; line = 1; began = 1 }
 
--- each byte meets three rows at most
+-- each byte gets at most three rows
 abbrev pub rows_for : List ℕ → ℕ
 rows_for xs = 3 * length xs + 1
 

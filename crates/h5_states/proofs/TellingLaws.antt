@@ -151,7 +151,7 @@ module _ (table : List Reference) {M : Type 0} (reply_to : M → TokenText → R
   reaches_goes_on more (hands_token token state so e here) = hands_token token state (reaches_goes_on more so) e (meets_goes_on more here)
   reaches_goes_on more (asks there error elsewhere so e here) = asks there error elsewhere (reaches_goes_on more so) e (meets_goes_on more here)
 
-  -- a reading, and then another from where it came to
+  -- a reading, and then another from its end
   pub reaches_join : {start q r : Reached M} {told errors : List ToldError} → Reaches table reply_to after foreign start q told → goes_on q.reply ≡ true → q.text ≡ []
       → Reaches table reply_to after foreign (at_first q.place q.spot q.meaning q.rest) r errors → Reaches table reply_to after foreign start r (told ++ errors)
   reaches_join first on none begins = rw append-nil (hands_nothing first on none)

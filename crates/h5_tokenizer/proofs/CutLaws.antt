@@ -20,7 +20,7 @@ use Rattle.h5_tokenizer.specs.End.{settle}
 use Rattle.h5_tokenizer.proofs.ProperLaws.{IsFull, bit_full, bits_full}
 use Rattle.h5_tokenizer.proofs.DeedLaws.{Deed, Begun, Done, behind_mark, done, deed, deed_begins, deed_goes_on, deed_waits, tokens_of, place_behind, meaning_behind, unlined, next_unlined, Runs, stays, does, runs_join, same_runs}
 
--- what is text where a CDATA part might begin is text where none may
+-- what is text where a CDATA section may begin is also text where none may
 bit_by : (c d : Match Opening) (m : Match (Unit {0})) (r : Match Opening) (o : Match Piece) (bit rest : List ℕ)
     → or_else (and_then (or_else c (or_else d (or_else (says (Turns Cdata) m) r))) finished) o ≡ Found (Bit bit) rest
     → or_else (and_then (or_else c (or_else d (or_else No r))) finished) o ≡ Found (Bit bit) rest
@@ -84,14 +84,14 @@ module _ {M : Type 0} (reply_to : M → TokenText → Reply) (after : M → Toke
       one_bit p m n xs bit rest text ys begun like (bit_anyway p.mode p.last (foreign n) xs bit rest h)
       (follow_bits p (after m (Characters bit) 0) (after n (Characters bit) 0) begun (blind.kept m n (Characters bit) 0 0 like) bits)
 
-  -- the first bit is read where the sink's answer counts
+  -- the first bit is read when the sink's reply matters
   follow_first : (p : ReaderPlace) (m n : M) (xs text ys : List ℕ) → p.at_start ≡ false → alike m n → length ys < length xs → Bits p.mode p.last (foreign m) xs text ys → Follows p n xs (told text) p (after_text after m text 0) ys
   follow_first p m n xs text ys begun like less no_bit = absurd (omega arith)
   follow_first p m n xs text ys begun like less (more_bits {rest} {text = others} bit h bits) =
       one_bit p m n xs bit rest others ys begun like (ap (λ b. front p.mode p.last b xs) (sym (blind.spaces m n like)) ∙ h)
       (follow_bits p (after m (Characters bit) 0) (after n (Characters bit) 0) begun (blind.kept m n (Characters bit) 0 0 like) bits)
 
-  -- one deed, from a meaning that is alike
+  -- one deed, from an equivalent meaning
   one_deed : (p : ReaderPlace) (n : M) (xs rest : List ℕ) (d : Deed) (ts : List TokenText) (q : ReaderPlace) (k : M)
       → deed p (foreign n) xs ≡ Found d rest → place_behind reply_to after foreign (unlined p) n d ≡ unlined q → ts ≡ tokens_of d
       → alike k (meaning_behind reply_to after foreign n d) → Follows p n xs ts q k rest

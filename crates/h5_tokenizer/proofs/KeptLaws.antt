@@ -69,7 +69,7 @@ module _ {M : Type 0} (reply_to : M → TokenText → Reply) (after : M → Toke
   closing_kept m None i j h = refl
   closing_kept m (Some t) i j h = refl
 
-  -- what is meant right before the end
+  -- the meaning right before the end
   abbrev before_end : {ended : M → M} {p : ReaderPlace} {m : M} {xs : List ℕ} {ts : List TokenText} {n : M} → ReadsToEnd reply_to after foreign ended p m xs ts n → M
   before_end r = after_closing after r.meaning (settle r.place.mode r.place.last (foreign r.meaning) r.rest) r.place.line (line_behind r.place.line r.rest [])
 
@@ -91,7 +91,7 @@ module _ {M : Type 0} (reply_to : M → TokenText → Reply) (after : M → Toke
         };
       }
 
-  -- Where lines don't matter, nor how a text is cut to a meaning of which it holds, a text means the same however it is
+  -- If lines don't matter, nor, for a meaning with the property, how a text is split, then a text has one meaning however it is
   -- read.
   module _ (ended : M → M) (lines : (m : M) (t : TokenText) (k l : ℕ) → after m t k ≡ after m t l)
       (cut : (m : M) (x y : ℕ) (xs ys : List ℕ) (j k l : ℕ) → Holds m → after m (Characters ((x ∷ xs) ++ y ∷ ys)) j ≡ after (after m (Characters (x ∷ xs)) k) (Characters (y ∷ ys)) l) where

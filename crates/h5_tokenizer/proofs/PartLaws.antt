@@ -81,7 +81,7 @@ clean_parts xs Open h = tt
 clean_parts xs No h = tt
 clean_parts xs (Found a rest) h = record { front = h.front; split = h.split; apart = ap (λ b. newlines b rest) h.clean }
 
--- one byte more of a needle, where it stands in the input
+-- one more byte of a needle, at its position in the input
 byte_by : (c : Bool) (x : ℕ) (xs : List ℕ) (m : Match (Unit {0})) (same : Bool) → (same ≡ true → Cleans (eqb x 13) xs m) → Cleans c (x ∷ xs) (cond same m No)
 byte_by c x xs m true h = cleans_more c x xs m (h refl)
 byte_by c x xs m false h = tt

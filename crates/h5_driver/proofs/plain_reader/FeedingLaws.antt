@@ -1,4 +1,4 @@
--- What the plain reader's calls do over a builder that works.
+-- What the plain tokenizer's calls do over a builder that works.
 use Rattle.std.proofs.Common.{◌≡◌, ◌≢◌, ◌++◌, ◌<◌, ℕ, true, false, List, [], length, Option, Some, None, Result, Ok, Err, OnErr, OnOk, inl, inr, refl, ap, sym, subst, ◌∙◌, append-nil}
 use Rattle.h5_token.specs.Reply.{Reply}
 use Rattle.h5_token.specs.TokenText.{TokenText, Characters}

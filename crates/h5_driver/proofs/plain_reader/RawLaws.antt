@@ -16,7 +16,7 @@ use Rattle.h5_tokenizer.specs.declared.front.Mode.{Mode}
 use Rattle.h5_tokenizer.specs.declared.front.Mode.TheVariants.{RawData}
 use Rattle.h5_driver.specs.PlainReader.{IsRawMode}
 
--- nothing begins but an end tag, or what stands for a piece of text
+-- nothing begins except an end tag, or something that a text replaces
 abbrev IsRawOpening : Match Opening → Type 0
 IsRawOpening (Found (Begins RawEndTag) rest) = Unit {0}
 IsRawOpening (Found (Begins construct) rest) = ⊥
@@ -91,7 +91,7 @@ pub raw_stays : (mode : Mode) (last : List ℕ) (foreign : Bool) (xs rest : List
 raw_stays (RawData kind) last foreign xs rest next e r = subst IsRawPiece e (front_raw kind last foreign xs)
 raw_stays _ last foreign xs rest next e r = r
 
--- and at the end an undecided rest is a text, or nothing
+-- and at the end an undecided suffix is a text, or nothing
 abbrev IsRawRest : Option TokenText → Type 0
 IsRawRest None = Unit {0}
 IsRawRest (Some token) = is_refused_in_text token ≡ false
