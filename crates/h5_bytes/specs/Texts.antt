@@ -40,7 +40,7 @@ Follows (Decoding old by) bytes (Some text) (Decoding new source) = Unit {0}
 Follows _ _ _ _ = ⊥
 
 -- bytes were taken, and this is the chunk of text that they decide: for any bytes that follow, the text of all is that chunk,
--- followed by the text of what is left; and the encoding is equal
+-- followed by the text of what is left, and what is left determines the same encoding
 pub record Takes (opts : EncodingOpts) (old : Stage) (bytes : List ℕ) (piece : Option (List ℕ)) (new : Stage) : Type 0 where
   pub follows : Follows old bytes piece new
   pub text : (more : List ℕ) → text_behind opts old (bytes ++ more) ≡ text_in piece ++ text_behind opts new more

@@ -8,10 +8,10 @@ use Rattle.h5_driver.specs.PlainReader.{Reads, first}
 use Rattle.h5_driver.specs.WholeTexts.{ParsesDocumentBy, ParsesFragmentBy}
 use Rattle.h5_driver.specs.declared.options.ParseOpts.{ParseOpts}
 
--- from a document, into a sink
+-- the text of a document, into a sink
 abbrev pub ParsesDocument : SinkChoices → Seen → ParseOpts → List ℕ → Seen → Type 0
 ParsesDocument choices seen opts text told = ParsesDocumentBy (Reads choices) first choices seen opts text told
 
--- from a fragment, in a context that is created with this name and these attributes
+-- the text of a fragment, in a context that is created with this name and these attributes
 abbrev pub ParsesFragment : SinkChoices → Seen → ParseOpts → QualName → List AttributeText → (allows_scripting : Bool) → List ℕ → Seen → Type 0
 ParsesFragment choices seen opts name attrs allows_scripting text told = ParsesFragmentBy (Reads choices) first choices seen opts name attrs allows_scripting text told

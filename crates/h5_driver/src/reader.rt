@@ -49,8 +49,8 @@ pub trait Reader {
     // A number that each call decreases if it stops before the end of its input.
     ghost left: { Text → List ℕ → ℕ };
 
-    /// Reads the queue. If it returns `Done`, the queue is empty. The tokenizer must not have ended or failed, and must be
-    /// working.
+    /// Reads the queue. If it returns `Done`, the queue is empty. The tokenizer must not have ended or failed, and `IsWorking`
+    /// must hold.
     fn feed(
         &mut self,
         input: &mut BufferQueue,
@@ -65,7 +65,7 @@ pub trait Reader {
         ensures memory { OnErr result (result ≡ Err BuildFault.Memory) };
 
     /// Passes what the end makes of the undecided input to the builder, and then the end-of-file token. The tokenizer must not
-    /// have ended or failed, and must be working.
+    /// have ended or failed, and `IsWorking` and `IsUndecided` must hold.
     fn end(&mut self) -> Result<(), BuildFault>
         requires reading { stage (text self.old) ≡ Reading }
         requires works { IsWorking IsRaw (text self.old) (building self.old).view }

@@ -1,4 +1,4 @@
-//! Splits bytes at a byte of some class.
+//! Splitting bytes at a byte of some class.
 ghost use Rattle.std.specs.Prelude.{◌≡◌, ℕ, ◌<◌, ◌≤◌, drop, length, not, option_map, slice_index};
 ghost use Rattle.h5_markup.specs.Cuts.{before, from};
 ghost use Rattle.h5_encodings.specs.Cuts.{begins, begins_in, behind, is_in, past};

@@ -126,7 +126,7 @@ fn instead_of(encoding: Encoding) -> Encoding
 }
 
 impl Said {
-    /// Nothing is declared yet.
+    /// Returns the state before any attribute.
     pub fn new() -> Said
         ensures { result ≡ nothing_said }
     {

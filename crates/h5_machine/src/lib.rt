@@ -3,9 +3,9 @@
 //!
 //! `machine` has a state with what is being built in it, `machine_state` the states, and `transition` the results of rows. A
 //! row takes one byte: `texts`, `tags`, `comments`, `doctypes` and `references` have the rows as the definitions of these names
-//! in `h5_states` do. `tag`, `open_name` and `codes` have what is being built. `ending` has the end of the input; `telling`,
-//! `row_errors`, `end_errors` and the other modules of errors have parse errors. `runs` takes at once what a state only adds,
-//! and `quoted` whole attributes.
+//! in `h5_states` do. `tag` and `open_name` have what is being built, and `codes` the characters of numbers. `ending` has the
+//! end of the input; `telling`, `row_errors`, `end_errors` and the other modules of errors have parse errors. `runs` takes at
+//! once what a state only adds, and `quoted` whole attributes.
 //!
 //! `numbers` has the 2,231 names of references with their texts; `write_table.py` writes it from the definition's list,
 //! `specs/ReferenceTable.antt` of `h5_states`. `table` has a reference by its number, `candidates` those that begin with what

@@ -132,7 +132,7 @@ finished show.Group in_list p = broken false p
 finished show.Dialog in_list p = broken false p
 finished display in_list p = p
 
--- the state between two calls: the numbers of items of the lists that follow, the open elements, the layout, and, if links have
+-- the state between two calls: the item counts of the lists that follow, the open elements, the layout, and, if links have
 -- numbers, the `href` of each
 pub record Kept : Type 0 where
   pub counts : List ℕ

@@ -1,4 +1,4 @@
-//! The numbers of items of a page's lists.
+//! The item counts of a page's lists.
 ghost use Rattle.std.specs.Prelude.{◌≡◌, OnOk};
 ghost use Rattle.h5_page.specs.Counts as c;
 

@@ -3,7 +3,7 @@
 //! `page_text` returns the text of a page as a browser shows it without a style sheet, and `page_links` its links, with their
 //! texts; `page` makes the tree for both. `text_writer` receives the calls of a tree's walk: `display` has how an element is
 //! shown, `attributes` what its attributes say about that, `open` the open elements, `begin` what is laid out at an element's
-//! beginning and end, `counts` the numbers of items of lists, `number` the numbers of items, `layout` whitespace and lines, and
+//! beginning and end, `counts` the item counts of lists, `number` the numbers of items, `layout` whitespace and lines, and
 //! `wrap` long lines. `links` receives the calls of a walk, and collects links. `laws` has the laws that a page has one text
 //! and one list of links.
 //!

@@ -33,7 +33,7 @@ fn with_digit(size: usize, digit: u8) -> usize
     }
 }
 
-// Returns the number of the digits at the start of a text.
+// Returns the value of the digits at the start of a text.
 fn digits_in(text: &[u8]) -> usize
     ensures { result ≡ n.digits_in 0 text.now }
 {

@@ -45,7 +45,7 @@ pub struct PageText {
 /// The text of the calls so far.
 #[derive(Drop)]
 pub struct TextWriter {
-    // The numbers of items of the lists that follow; the first list is last.
+    // The item counts of the lists that follow; the first list is last.
     counts: Vec<usize>,
     elements: OpenElements,
     layout: Layout,
@@ -73,7 +73,7 @@ fn link_mark(alloc: Global, number: usize) -> Result<String, AllocError>
 }
 
 impl TextWriter {
-    /// Returns an empty text. `counts` has the numbers of items of the numbered lists that follow, the last list first.
+    /// Returns an empty text. `counts` has the item counts of the numbered lists that follow, the last list first.
     pub fn new(alloc: Global, opts: TextOpts, counts: Vec<usize>) -> TextWriter
         ensures { result ≡ t.nothing_kept opts (reverse counts.items) }
     {
@@ -109,7 +109,7 @@ impl TextWriter {
         }
     }
 
-    // Returns the number of items of the element that begins, if it is a numbered list.
+    // Returns the item count of the element that begins, if it is a numbered list.
     fn next_count(&mut self, display: Display) -> usize
         ensures count { result ≡ t.count_of display self.old.counts }
         ensures left { self.new ≡ t.counted display self.old }

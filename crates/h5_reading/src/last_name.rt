@@ -36,7 +36,7 @@ impl LastName {
         }
     }
 
-    /// Makes a name of that of a tag.
+    /// Makes the name of a tag that was read.
     pub fn read(name: LocalName) -> LastName
         ensures { result ≡ name }
     {

@@ -1,6 +1,6 @@
-//! Why a tokenizer reads no longer.
+//! The stage of a tokenizer: it reads, or it has ended or failed.
 
-/// Why a tokenizer reads no longer.
+/// The stage of a tokenizer.
 #[derive(Clone, Copy, Debug, PartialEq, Eq)]
 pub enum Stage {
     Reading,

@@ -24,7 +24,7 @@ pub fn stop_of<H: Drop>(answer: TokenSinkResult<H>) -> Option<Stop<H>>
     }
 }
 
-/// Returns the result of `feed` for it.
+/// Returns the result of `feed` for what stops the tokenizer.
 pub fn result_of<H: Drop>(stop: Stop<H>) -> TokenizerResult<H>
     ensures { result ≡ result_of stop }
 {

@@ -36,7 +36,7 @@ module _ {M : Type 0} (reply_to : M → TokenText → Reply) (after : M → Toke
   Feeds node old m xs new n queue (Ok (result.EncodingIndicator encoding)) = StopsAt old m xs (Indicates (string_bytes encoding)) new n queue
   Feeds node old m xs new n queue (Err fault) = FailsAt old m xs fault new n
 
--- the tokenizer has ended, or failed
+-- the tokenizer has ended or failed, by the result of `end`
 abbrev pub ClosedAs : ReaderText → Result (Unit {0}) BuildFault → Type 0
 ClosedAs new (Ok done) = new.stage ≡ Ended
 ClosedAs new (Err f) = new.stage ≡ Failed

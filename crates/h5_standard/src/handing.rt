@@ -28,7 +28,7 @@ fn raw_text(kind: RawKind) -> TextKind
     }
 }
 
-// Returns the text that a reply to a start tag chooses.
+// Returns the kind of text that a reply to a start tag chooses.
 pub fn chosen_text<H>(answer: &TokenSinkResult<H>) -> TextKind
     ensures { (node : H → ℕ) → Text result ≡ chosen_state (reply node answer.now) }
 {

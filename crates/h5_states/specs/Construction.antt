@@ -37,7 +37,7 @@ abbrev pub is_repeated : Tag → Bool
 is_repeated t = is_repeated_in t.attrs t.current
 
 -- The current attribute is complete. It is dropped if the tag already has one with its name. The standard drops it when its
--- name is complete; after that, only its own value depends on it.
+-- name is complete; after that, nothing uses it except what builds its own value.
 abbrev pub with_complete : Tag → Option Attribute → Tag
 with_complete t None = t
 with_complete t (Some a) =

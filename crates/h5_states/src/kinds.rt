@@ -3,17 +3,17 @@
 /// The states that read text (HTML standard, sections 13.2.5.1 to 13.2.5.5 and 13.2.5.69).
 #[derive(Clone, Copy, Debug, PartialEq, Eq)]
 pub enum TextKind {
-    /// Has tags, comments and character references.
+    /// Tags, comments and character references are recognized.
     Data,
-    /// Has character references, and ends at an end tag.
+    /// Character references and one end tag are recognized.
     Rcdata,
-    /// Ends at an end tag.
+    /// One end tag is recognized.
     Rawtext,
-    /// Ends at an end tag. A comment-like escape may hide end tags.
+    /// One end tag is recognized. A comment-like escape may hide end tags.
     ScriptData,
-    /// Is text to the end of the input.
+    /// Everything is text, to the end of the input.
     Plaintext,
-    /// Is text up to `]]>`.
+    /// Everything is text up to `]]>`.
     CdataSection,
 }
 

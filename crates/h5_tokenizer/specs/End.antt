@@ -46,7 +46,7 @@ module _ {M : Type 0} (reply_to : M → TokenText → Reply) (after : M → Toke
   Closes p m rest n result =
       ClosesWith reply_to after ended m (handed (settle p.mode p.last (foreign m) rest)) p.line (line_behind p.line rest []) n result
 
--- the tokenizer has ended, or failed
+-- the tokenizer has ended or failed, by the result of `end`
 abbrev pub ClosedAs : ReaderText → Result (Unit {0}) BuildFault → Type 0
 ClosedAs new (Ok done) = new.stage ≡ Ended
 ClosedAs new (Err f) = new.stage ≡ Failed
