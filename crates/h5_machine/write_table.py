@@ -19,14 +19,14 @@ LEMMAS = "h5_machine/proofs/CommonLemmas.antt"
 # The names that texts have most.
 COMMON_NAMES = ["amp;", "lt;", "gt;", "quot;", "nbsp;"]
 
-COMMON_HEAD = """//! The names that texts have most, told by their bytes alone. `write_table.py` writes this file.
+COMMON_HEAD = """//! The most frequent names, found by their bytes alone. `write_table.py` writes this file.
 ghost use Rattle.std.specs.Prelude.{◌≡◌, ◌<◌, true, IfSome};
 ghost use Rattle.h5_states.specs.References.{ends_in};
 ghost use Rattle.h5_states.specs.Signs.{semicolon};
 ghost use Rattle.h5_states.specs.Words.{begins, same};
 ghost use Rattle.h5_machine.specs.Numbered.{how_many, name_of};
 
-/// The number of a common name that a text begins with. The name ends in a semicolon, so it is the longest one there.
+/// Returns the number of a common name that a text begins with. The name ends in a semicolon, so no longer name is there.
 #[tactic(auto, using(crate::proofs::CommonLemmas::common_names))]
 pub fn common(text: &[u8]) -> Option<usize>
     ensures within_table { IfSome result (λ number. number < how_many) }
@@ -41,7 +41,7 @@ COMMON_END = """        _ => None,
 }
 """
 
-LEMMAS_HEAD = """-- The common names by their numbers, and the bytes by which they are told. `write_table.py` writes this file.
+LEMMAS_HEAD = """-- The common names by their numbers, and the bytes by which they are found. `write_table.py` writes this file.
 use Rattle.std.proofs.Common.{◌≡◌, ℕ, ◌≤◌, true, refl, ap, ◌∙◌, List, length, get_or, codes}
 use Rattle.h5_states.specs.ReferenceTable.{references}
 use Rattle.h5_states.specs.Words.{begins, same}
@@ -52,7 +52,7 @@ use Rattle.h5_machine.proofs.HasBytes.{has_begins}
 WIDTH = 100
 INDENT = " " * 4
 
-HEAD = """//! The table of named character references (HTML standard, section 13.5), without an address in it. `write_table.py`
+HEAD = """//! The table of named character references (HTML standard, section 13.5), with offsets in place of pointers. `write_table.py`
 //! writes this file.
 """
 
@@ -121,16 +121,16 @@ def written(references):
     names, texts = [name for name, _ in references], [text for _, text in references]
     name_begins, text_begins = begins_of(names), begins_of(texts)
     return f"""{HEAD}
-/// The names without their `&`, one behind the other.
+/// The names without their `&`, concatenated.
 pub static NAMES: [u8; {name_begins[-1]}] = *b{quoted([name.decode() for name in names])};
 
-/// Where each name begins, and where the last one ends.
+/// The start of each name, and the end of the last one.
 pub static NAME_BEGINS: [u16; {len(name_begins)}] = {listed(name_begins)};
 
-/// The texts that the names stand for, one behind the other.
+/// The texts of the names, concatenated.
 pub static TEXTS: &str = {quoted(["".join(map(escaped, text.decode())) for text in texts])};
 
-/// Where each text begins, and where the last one ends.
+/// The start of each text, and the end of the last one.
 pub static TEXT_BEGINS: [u16; {len(text_begins)}] = {listed(text_begins)};
 """
 

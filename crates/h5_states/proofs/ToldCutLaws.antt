@@ -1,4 +1,4 @@
--- Whatever is told is told row by row as well, so how an input is cut doesn't matter for its errors.
+-- Whatever is reported is also reported row by row, so how an input is split doesn't matter for its errors.
 use Rattle.std.proofs.Common.{◌≡◌, ℕ, ◌+◌, ◌/◌, ◌%◌, ◌<◌, ◌≤◌, Bool, true, false, true≢false, List, [], ◌∷◌, ◌++◌, refl, sym, ap, ◌∙◌, subst, append-nil, append_assoc, arith, cond, ltb, if◌then◌else◌}
 use Rattle.std.proofs.lemmas.Bool.{and_parts, leb-true, ltb-true}
 use Rattle.std.proofs.lemmas.Str.{encode_same}
@@ -29,7 +29,7 @@ use Rattle.h5_states.proofs.TellingLaws.{reaches_goes_on}
 first_same : {x y : ℕ} {xs ys : List ℕ} → x ∷ xs ≡ y ∷ ys → x ≡ y
 first_same e = cc
 
--- a character doesn't begin with a byte that stands inside one
+-- a character doesn't begin with a byte that is inside one
 begins_outside : (c x : ℕ) (rest xs : List ℕ) → encode_utf8 c ++ rest ≡ x ∷ xs → is_inside x ≡ true → ⊥
 unfolding encode_utf8
 begins_outside c x rest xs e h =
@@ -43,7 +43,7 @@ begins_outside c x rest xs e h =
     by false false true small low high e = omega (arith, high, first_same e)
     by false false false small low high e = omega (arith, high, first_same e)
 
--- they are the same, however they are found
+-- the errors don't depend on how they are found
 input_same : {b : Bool} {xs : List ℕ} {es fs : List ParseError} → InputErrors b xs es → InputErrors b xs fs → es ≡ fs
 input_same (of_character c rest scalar e) (of_character d more _ f) = ap character_errors (encode_same c d rest more (sym e ∙ f)).0
 input_same (of_character c rest scalar e) (inside {x} {xs} h) = absurd (begins_outside c x rest xs (sym e) h)
@@ -51,29 +51,29 @@ input_same (inside {x} {xs} h) (of_character d more scalar f) = absurd (begins_o
 input_same (inside h) (inside g) = refl
 input_same not_new not_new = refl
 
--- what is left behind a byte that was consumed, or before it
+-- what is left after a byte that was consumed, or before it
 abbrev left : Bool → ℕ → List ℕ → List ℕ
 left true x xs = xs
 left false x xs = x ∷ xs
 
--- where reading is then, behind a LINE FEED that was dropped or another byte
+-- the spot afterwards, after a LINE FEED that was dropped or another byte
 abbrev moved_spot : Bool → Bool → ℕ → Spot → Spot
 moved_spot true is_consumed x s = spot_past s
 moved_spot false true x s = spot_behind x s
 moved_spot false false x s = spot_again s
 
--- the error of a question, by its answer
+-- the error of a check of the adjusted current node, by the result
 abbrev asked : Bool → Position → Outcome → List ToldError
 asked foreign at (Asks there error elsewhere) = if foreign then [] else told_at at (error ∷ [])
 asked foreign at deed = []
 
 module _ {M : Type 0} (reply_to : M → TokenText → Reply) (after : M → TokenText → ℕ → M) (foreign : M → Bool) (table : List Reference) where
-  -- what is told at a byte
+  -- what is reported at a byte
   abbrev told_by : Bool → Bool → ReaderPlace → Spot → ℕ → List ParseError → List ToldError
   told_by true is_foreign p s x input = []
   told_by false is_foreign p s x input = told_at_byte table p (position p.line s) x input ++ asked is_foreign (position p.line s) (outcome table p x)
 
-  -- an input is read to its end, each row's text handed on by itself, and these errors are told
+  -- an input is read to its end, each row's text as a separate token, and these errors are reported
   data TellsRows : ReaderPlace → Spot → M → List ℕ → List ToldError → ReaderPlace → Spot → Type 0 where
     ends : {p : ReaderPlace} {s : Spot} {m : M} → TellsRows p s m [] [] p s
     meets : {p q : ReaderPlace} {s t : Spot} {m : M} {x : ℕ} {xs : List ℕ} {es : List ToldError} (input : List ParseError)
@@ -82,7 +82,7 @@ module _ {M : Type 0} (reply_to : M → TokenText → Reply) (after : M → Toke
         (move reply_to after foreign table p m x).meaning (left (move reply_to after foreign table p m x).is_consumed x xs) es q t
         → TellsRows p s m (x ∷ xs) (told_by (is_dropped p x) (foreign m) p s x input ++ es) q t
 
-  -- the same, by what the move is
+  -- as above, by the kind of the move
   meets_as : {p q : ReaderPlace} {s t : Spot} {m : M} {x : ℕ} {xs : List ℕ} {es : List ToldError} (b : Bool) (w : Move M) (input : List ParseError)
       → is_dropped p x ≡ b → move reply_to after foreign table p m x ≡ w → (b ≡ false → InputErrors s.is_new (x ∷ xs) input)
       → TellsRows w.place (moved_spot b w.is_consumed x s) w.meaning (left w.is_consumed x xs) es q t
@@ -99,7 +99,7 @@ module _ {M : Type 0} (reply_to : M → TokenText → Reply) (after : M → Toke
       → TellsRows (behind_newline p) (spot_past s) m xs es q t → TellsRows p s m (x ∷ xs) es q t
   drops_row {p} {m = m} {x = x} d rest = meets_as true (dropped reply_to after foreign p m) [] d (move_dropped reply_to after foreign table p m x d) (λ no. absurd (true≢false no)) rest
 
-  -- a row that was met, with the errors of a question
+  -- a row that was done, with the errors of a check
   meets_row : {r : Reached M} {q : ReaderPlace} {t : Spot} {x : ℕ} {xs : List ℕ} {errors es : List ToldError} (m : M) (deed : Outcome) → MeetsByte table r x xs deed errors
       → TellsRows (moved_by reply_to after foreign r.place m x deed).place (moved_spot false (moved_by reply_to after foreign r.place m x deed).is_consumed x r.spot)
       (moved_by reply_to after foreign r.place m x deed).meaning (left (moved_by reply_to after foreign r.place m x deed).is_consumed x xs) es q t
@@ -114,7 +114,7 @@ module _ {M : Type 0} (reply_to : M → TokenText → Reply) (after : M → Toke
       subst (λ l. TellsRows r.place r.spot m l ((errors ++ asked (foreign m) (here r) deed) ++ es) q t) (sym met.front)
       (subst (λ l. TellsRows r.place r.spot m (x ∷ xs) (l ++ es) q t) same one)
 
-  -- from another place that is the same
+  -- from another, equal place
   rows_so : {v w q : ReaderPlace} {t : Spot} {m : M} {es : List ToldError} (s : Spot) (x : ℕ) (xs : List ℕ) (d a b : Bool) → v ≡ w → a ≡ b
       → TellsRows w (moved_spot d b x s) m (left b x xs) es q t → TellsRows v (moved_spot d a x s) m (left a x xs) es q t
   rows_so {v} {w} {q} {t} {m} {es} s x xs d a b e f c =
@@ -122,7 +122,7 @@ module _ {M : Type 0} (reply_to : M → TokenText → Reply) (after : M → Toke
 
 module _ {M : Type 0} (reply_to : M → TokenText → Reply) (after : M → TokenText → ℕ → M) (foreign : M → Bool) (ended : M → M) (alike : M → M → Type 0)
     (blind : IsBlindToCuts reply_to after foreign ended alike) (table : List Reference) where
-  -- from meanings that are alike the same is told
+  -- equivalent meanings have the same reports
   rows_alike : {p q : ReaderPlace} {s t : Spot} {m n : M} {xs : List ℕ} {es : List ToldError} → alike m n
       → TellsRows reply_to after foreign table p s n xs es q t → TellsRows reply_to after foreign table p s m xs es q t
   rows_alike h ends = ends
@@ -153,7 +153,7 @@ module _ {M : Type 0} (reply_to : M → TokenText → Reply) (after : M → Toke
         behind_it.1,
       )
 
-  -- what the sink means once the text that is held is handed on
+  -- the sink's meaning after the held text
   abbrev whole : Reached M → M
   whole r = after_text after r.meaning r.text r.line
 
@@ -166,7 +166,7 @@ module _ {M : Type 0} (reply_to : M → TokenText → Reply) (after : M → Toke
   alike_so : {k m n : M} → k ≡ m → alike m n → alike k n
   alike_so {n = n} e h = subst (λ o. alike o n) (sym e) h
 
-  -- a text that is emitted behind what is held
+  -- a text that is emitted after what is held
   alike_emitting : (r : Reached M) (text : List ℕ) (n : M) → alike (after_text after r.meaning (r.text ++ text) r.line) n → alike (after_text after (whole r) text r.place.began) n
   alike_emitting r text n h =
       let all = after_text after r.meaning (r.text ++ text) r.line in
@@ -180,7 +180,7 @@ module _ {M : Type 0} (reply_to : M → TokenText → Reply) (after : M → Toke
   asked_so true told errors more es = told_so told errors es
   asked_so false told errors more es = sym (append_assoc told (errors ++ more) es)
 
-  -- what was told up to here, and then what is told row by row
+  -- what was reported up to here, and then what is reported row by row
   rows_before : {start r : Reached M} {told us : List ToldError} {n : M} {q : ReaderPlace} {t : Spot} → Reaches table reply_to after foreign start r told
       → alike (whole r) n → TellsRows reply_to after foreign table r.place r.spot n r.rest us q t
       → TellsRows reply_to after foreign table start.place start.spot (whole start) start.rest (told ++ us) q t
@@ -213,7 +213,7 @@ module _ {M : Type 0} (reply_to : M → TokenText → Reply) (after : M → Toke
       subst (λ l. TellsRows reply_to after foreign table p s m xs l r u) (sym (append_assoc told errors us))
       (rows_of_all tellings (blind.reflexive n) (rows_before reaches (alike_so (whole_none reached none) like) rows))
 
-  -- how an input is cut doesn't matter
+  -- how an input is split doesn't matter
   pub told_agree : (p : ReaderPlace) (s : Spot) (m n : M) (xs : List ℕ) (told others : List ToldError) → alike m n
       → TellsToEnd table reply_to after foreign p s m xs told → TellsToEnd table reply_to after foreign p s n xs others → told ≡ others
   told_agree p s m n xs told others like a b =
@@ -224,10 +224,10 @@ module _ {M : Type 0} (reply_to : M → TokenText → Reply) (after : M → Toke
       ∙ ap (λ (t : Spot). b.errors ++ told_at_end table b.place (position b.place.line t)) same.1.1
       ∙ sym b.told_are
 
--- ---- pieces
+-- ---- chunks
 
 module _ (table : List Reference) {M : Type 0} (reply_to : M → TokenText → Reply) (after : M → TokenText → ℕ → M) (foreign : M → Bool) where
-  -- with more of the input behind it
+  -- with more input after it
   pub tellings_go_on : {p q : ReaderPlace} {s t : Spot} {m n : M} {xs ys : List ℕ} {told : List ToldError} (more : List ℕ)
       → Tellings table reply_to after foreign p s m xs told q t n ys → Tellings table reply_to after foreign p s m (xs ++ more) told q t n (ys ++ more)
   tellings_go_on more no_telling = no_telling

@@ -1,4 +1,4 @@
--- Errors are told, and then more.
+-- Errors are reported, and then more.
 use Rattle.std.proofs.Common.{◌≡◌, ◌==◌, ℕ, Bool, true, false, if◌then◌else◌, List, [], ◌∷◌, ◌++◌, refl, sym, ap, ◌∙◌, subst, append-nil, append_assoc}
 use Rattle.h5_states.specs.declared.errors.ParseError.{ParseError}
 use Rattle.h5_states.specs.declared.position.Position.{Position}
@@ -33,11 +33,11 @@ first_or_last : (b : Bool) (row : List ToldError) → (if b then row else row ++
 first_or_last true row = refl
 first_or_last false row = append-nil row
 
--- where nothing is wrong with the input, what is told is the row's
+-- if the input has no errors, the reports are those of the row
 pub row_alone : (table : List Reference) (p : ReaderPlace) (at : Position) (x : ℕ) → told_at_byte table p at x [] ≡ told_of_row (seen_ahead table p.state) at (row_errors table p x)
 row_alone table p at x = first_or_last (seen_ahead table p.state == 0) (told_of_row (seen_ahead table p.state) at (row_errors table p x))
 
--- and where nothing is wrong with that, nothing is told
+-- and if the row has none either, nothing is reported
 pub none_at_byte : (table : List Reference) (p : ReaderPlace) (at : Position) (x : ℕ) → row_errors table p x ≡ [] → told_at_byte table p at x [] ≡ []
 none_at_byte table p at x e = row_alone table p at x ∙ ap (told_of_row (seen_ahead table p.state) at) e
 

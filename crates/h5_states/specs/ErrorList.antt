@@ -1,4 +1,4 @@
--- A list of the first errors that were told, and how many came behind them.
+-- A list of the first errors that were reported, and the number of later ones.
 use Rattle.std.specs.Prelude.{◌≡◌, ℕ, List, ◌++◌, length}
 use Rattle.std.specs.Io.Iter.{u64_saturate}
 use Rattle.h5_states.specs.declared.position.ToldError.{ToldError}

@@ -1,4 +1,4 @@
--- What contracts cite of the crates below, handed on, so that a caller names this crate alone.
+-- What contracts cite from the crates below, re-exported, so that a caller depends on this crate alone.
 pub use Rattle.h5_names.specs.AttributeText
 pub use Rattle.h5_names.specs.KnownNames
 pub use Rattle.h5_names.specs.Urls
