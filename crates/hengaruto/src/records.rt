@@ -68,7 +68,13 @@ fn answer_of(
     let alloc = rt.alloc();
     let mut answer = begin_answer(alloc, Some(record), line)?;
     let Some(page) = record.page() else {
-        end_answer(alloc, &mut answer, "error", "record has neither `html` nor `path`", false)?;
+        end_answer(
+            alloc,
+            &mut answer,
+            "error",
+            "record has neither `html` nor `path`",
+            false,
+        )?;
         return Ok(answer);
     };
     match printed_of(rt, asked, page) {
