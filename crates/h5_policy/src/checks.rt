@@ -23,7 +23,9 @@ fn items_of<'a>(table: &'a Table, key: &str) -> &'a [Value] {
 
 // Returns true if an element is allowed.
 fn is_allowed(table: &Table, element: &str) -> bool {
-    items_of(table, "elements").iter().any(|item| is_name(item, element))
+    items_of(table, "elements")
+        .iter()
+        .any(|item| is_name(item, element))
 }
 
 // No element is both allowed and dropped.
@@ -32,9 +34,7 @@ fn check_dropped(alloc: Global, table: &Table) -> Result<(), PolicyFault> {
         if let Value::String(name) = item
             && is_allowed(table, name.as_str())
         {
-            return Err(wrong(format!(in alloc;
-                "element \"{name}\" is both allowed and dropped"
-            )));
+            return Err(wrong(format!(in alloc; "element \"{name}\" is both allowed and dropped")));
         }
     }
     Ok(())
@@ -60,11 +60,7 @@ fn check_names(alloc: Global, items: &[Value]) -> Result<(), PolicyFault> {
 }
 
 // Attributes are those of elements that are allowed, and none needs a prefix if there is none.
-fn check_attributes_of(
-    alloc: Global,
-    table: &Table,
-    has_prefix: bool,
-) -> Result<(), PolicyFault> {
+fn check_attributes_of(alloc: Global, table: &Table, has_prefix: bool) -> Result<(), PolicyFault> {
     let Some(Value::Table(elements)) = table.get("attributes-of") else {
         return Ok(());
     };

@@ -133,7 +133,9 @@ fn is_scheme(name: &str) -> bool {
 // Allows a scheme of URLs.
 fn add_scheme(alloc: Global, policy: &mut AllowList, name: &str) -> Result<(), PolicyFault> {
     if !is_scheme(name) {
-        return Err(wrong(format!(in alloc; "invalid scheme \"{name}\": expected a name such as https")));
+        return Err(wrong(format!(in alloc;
+            "invalid scheme \"{name}\": expected a name such as https"
+        )));
     }
     Ok(policy.add_scheme(name)?)
 }
@@ -262,11 +264,7 @@ fn set_place(alloc: Global, policy: &mut AllowList, value: &Value) -> Result<(),
             policy.set_around(around);
             Ok(())
         }
-        None => Err(mismatch(
-            alloc,
-            "place",
-            "\"flow\", \"items\", \"link\" or \"line\"",
-        )),
+        None => Err(mismatch(alloc, "place", "\"flow\", \"items\", \"link\" or \"line\"")),
     }
 }
 
