@@ -206,7 +206,7 @@ all_left f a r n some k = record {
   formatting = k.formatting;
 }
 
--- and the sink is told
+-- and the sink is notified
 pub taken_ready : (choices : SinkChoices) (n : ℕ) (w : World) → HasHtmlRoot w → is_html_named (codes "html") (name_in w.forest n) ≡ false → Lists (without_node n w.stack) w.formatting → LeavesReady w (remove_from_stack choices n w)
 unfolding remove_from_stack names_of
 taken_ready choices n w ready other lists = at (is_in n w.stack) refl

@@ -1,5 +1,5 @@
--- What the adoption agency, and what calls it, keep of what modes tell: by roles it takes plain names out, and puts
--- them on plain ones.
+-- What the adoption agency, and the rules that call it, preserve of what modes say: by roles it removes plain names,
+-- and inserts them after plain ones.
 use Rattle.std.proofs.Common.{◌≡◌, ◌≤◌, inl, inr, ℕ, zero, suc, Bool, true, false, cond, not, ◌&&◌, ◌||◌, List, [], ◌∷◌, ◌++◌, length, filter, take, map, codes, Option, Some, None, refl, ap, sym, subst, ◌∙◌, arith}
 use Rattle.std.specs.List.{list_any}
 use Rattle.std.proofs.lemmas.List.{map-append}

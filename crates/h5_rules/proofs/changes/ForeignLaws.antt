@@ -33,7 +33,7 @@ pub svg_no_html : (local : List ℕ) → is_html_element (foreign_name svg_names
 unfolding svg_namespace html_namespace
 svg_no_html local = refl
 
--- what is left is no element of HTML
+-- what is left isn't an element of HTML
 left_foreign : (choices : SinkChoices) (f : Forest) (n : ℕ) → is_left choices f n ≡ true → is_html_element (name_in f n) ≡ false
 unfolding is_left
 left_foreign choices f n h = not_first (is_html_element (name_in f n)) _ h

@@ -39,7 +39,7 @@ popped : adopted (λ n. n == 9) (record { node = 1; tag = b }) [] 11 (2 ∷ 1 �
     ≡ record { stack = 0 ∷ []; formatting = ElementEntry 2 i ∷ [] }
 popped = refl
 
--- what is closed is made anew down to what is open, or to a marker
+-- closed entries get new elements, down to an open one or to a marker
 front : closed_front (1 ∷ 0 ∷ []) (ElementEntry 3 i ∷ ElementEntry 2 b ∷ ElementEntry 1 b ∷ []) ≡ ElementEntry 3 i ∷ ElementEntry 2 b ∷ []
 front = refl
 

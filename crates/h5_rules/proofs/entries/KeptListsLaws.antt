@@ -41,7 +41,7 @@ lists_pushed n s l out k = record {
     old x u (inl e) = absurd (out (subst (λ z. IsIn z (nodes_of l)) e u))
     old x u (inr i) = i
 
--- the newest front of the stack is cut
+-- the newest part of the stack is cut off
 pub lists_cut : (a s : List ℕ) (l : List Entry) → Distinct (a ++ s) → Lists (a ++ s) l → Lists s l
 lists_cut a s l d k = record {
   agrees = agrees_restacked (a ++ s) s l (λ x u i. in_right x a s i) order stay k.agrees;

@@ -1,4 +1,5 @@
--- What modes that go by the body tell by names: the modes of the body fit where they do, and tags that no rule names.
+-- What modes that use the rules of "in body" say by names: the modes of the body fit where they do, and tags that no
+-- rule names.
 use Rattle.std.proofs.Common.{Bool, List, [], ap, codes, false, inl, inr, refl, subst, sym, true, ℕ, ◌∙◌, ◌∷◌, ◌≡◌}
 use Rattle.std.proofs.lemmas.Slice.Eq.{bytes_eq-Decides}
 use Rattle.h5_names.specs.KnownNames.{name_text}

@@ -80,7 +80,7 @@ frame_pop_heading (n ∷ ns) = at (is_heading n) refl
     at true e = frame_without [] ns n (heading_plain n e)
     at false e = frame_refl (roles (n ∷ ns))
 
--- elements are made anew
+-- new elements for entries
 pub front_formatting : (s : List ℕ) (l : List Entry) → AllFormatting l → AllFormatting (closed_front s l)
 front_formatting s [] h = tt
 front_formatting s (MarkerEntry ∷ l) h = tt
