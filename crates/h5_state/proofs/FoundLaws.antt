@@ -23,7 +23,7 @@ older_at n (m ∷ newer) older d =
     let other = ne_eqb m n (λ e. d m (inl (refl, subst (λ x. IsIn x (newer ++ n ∷ older)) (sym e) (in_right n newer (n ∷ older) (inl refl))))) in
     ap (λ b. cond b (newer ++ n ∷ older) (older_than n (newer ++ n ∷ older))) other ∙ older_at n newer older (λ x h. d x (inr h))
 
--- so an element that stands above so many is open at that place
+-- an element above n others is open at place n
 pub found_at : (n m place : ℕ) (s newer older : List ℕ) → Distinct s → s ≡ newer ++ m ∷ older → length older ≡ place → (m == n) ≡ true → IsIn n s × (place ≡ length (older_than n s))
 found_at n m place s newer older d cut count h =
     let same = eqb-true m n h in

@@ -33,7 +33,7 @@ pub at_whole : (ns : List ℕ) (n k : ℕ) → newest_of n (reverse ns) ≡ k + 
 at_whole ns n k e high = at_newest ns n (length ns) k (ap (λ xs. newest_of n (reverse xs)) (take_all (length ns) ns (omega arith)) ∙ e) high
 
 module _ {H : Type 0} (node : H → ℕ) (items : List (FormatEntry H)) where
-  -- the oldest entries, so many of them, the newest first
+  -- the n oldest entries, the newest first
   abbrev pub under : ℕ → List Entry
   under count = entries_of node (take count items)
 
@@ -57,7 +57,7 @@ module _ {H : Type 0} (node : H → ℕ) (items : List (FormatEntry H)) where
       ∙ ap (λ l. reverse l) (map-append (entry_of node) (take k items) (drop k items))
       ∙ reverse-append (map (entry_of node) (take k items)) (map (entry_of node) (drop k items))
 
--- an entry of another number is no marker and doesn't have the name
+-- an entry of another number isn't a marker and doesn't have the name
 pub passed_over : {H : Type 0} (node : H → ℕ) (name : List ℕ) (x : FormatEntry H) (l : List Entry) → entry_number x ≢ name_number name → entry_number x ≢ 0
     → newest_named name (entry_of node x ∷ l) ≡ newest_named name l
 passed_over node name Marker l other element = absurd (element refl)

@@ -9,14 +9,14 @@ use Rattle.h5_state.specs.Replacing.{IsNextAt, IsNextNewer, links_with, older_by
 use Rattle.h5_state.proofs.NumberedNewestLaws.{none_above}
 use Rattle.h5_state.proofs.PlaceLaws.{newest_le, newest_more, newest_same}
 
--- the newest of a number among the oldest values, so many of them
+-- the newest value of a number among the k oldest values
 abbrev pub newest_below : List ℕ → ℕ → ℕ → ℕ
 newest_below ns n k = newest_of n (reverse (take k ns))
 
 pub newest_below_le : (ns : List ℕ) (n k : ℕ) → k ≤ length ns → newest_below ns n k ≤ k
 newest_below_le ns n k h = omega (arith, newest_le n (reverse (take k ns)), length-reverse (take k ns), length-take-le k ns h)
 
--- where the number stands, the newest is no older
+-- if the number is at place j, the newest one isn't older
 newest_ge : (ns : List ℕ) (n j k : ℕ) → j < k → k ≤ length ns → get_or ns j 0 ≡ n → j < newest_below ns n k
 newest_ge ns n j k h l e = elim (cases_lt j (newest_below ns n k)) [
   | inl i ↦ i

@@ -25,7 +25,7 @@ module _ {X Y : Type 0} (f : X → Y) where
   pub seen_cut : (xs : List X) (at : ℕ) → seen xs ≡ seen (drop at xs) ++ seen (take at xs)
   seen_cut xs at = ap seen (sym (take-append-drop at xs)) ∙ seen-append (take at xs) (drop at xs)
 
-  -- so many of the oldest
+  -- the n oldest values
   pub seen_at : (xs : List X) (at : ℕ) (newer older : List Y) → seen xs ≡ newer ++ older → at ≡ length older → (newer ≡ seen (drop at xs)) × (older ≡ seen (take at xs))
   seen_at xs at newer older e h =
       let inside : at ≤ length xs = omega (arith, h, ap length e, length-append newer older, length-map xs f, length-reverse (map f xs)) in

@@ -57,7 +57,7 @@ first_none (x ∷ xs) e = absurd (cc)
 abbrev pub seen_world : World → Seen → List ℕ → World
 seen_world w s stack = record w { forest = s.forest; seen_quirks = s.quirks; stack = stack }
 
--- the world where the current node was popped, and the sink was told
+-- the world after the current node was popped, and the sink was notified
 pub popped_world : {H : Type 0} (node : H → ℕ) (choices : SinkChoices) (w : World) (old new : Seen) (ys xs : List H) (x : H) → ys ≡ xs ++ x ∷ [] → new ≡ after_pop choices (node x) old
     → seen_world w new (reverse (map node xs)) ≡ pop choices (seen_world w old (reverse (map node ys)))
 unfolding pop
