@@ -358,7 +358,7 @@ entry_is_inside n i (e ∷ l) h = at (length l == i) refl h (entry_is_inside n i
     at true same k go = let here = eqb-true (length l) i same in omega (arith, here)
     at false same k go = let inside = go k in omega (arith, inside)
 
--- and where it is listed only there, the entry there tells
+-- if it is listed only there, the entry there is that of the element
 pub entry_tells : (n i : ℕ) (w : World) → IsEntryAt n i w → is_entry_of n (entry_at i w.formatting) ≡ true
 entry_tells n i w k =
     ap (λ l. is_entry_of n (entry_at i l)) k.cut ∙ ap (is_entry_of n) (entry_at_cut i k.newer (ElementEntry n k.tag) k.older (sym k.here)) ∙ eq-eqb n n refl
