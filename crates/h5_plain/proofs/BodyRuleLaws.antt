@@ -58,7 +58,7 @@ pub record IsSeen (barrier : Bool) (name : List ℕ) : Type 0 where
   pub no_description : is_html_among description_names (html_name name) ≡ false
   pub search : ends_item_search (html_name name) ≡ barrier
 
--- a block that is told from others by its name alone
+-- a block that has no rule except by its name
 pub record IsBlockName (name : List ℕ) : Type 0 where
   pub holds : IsHolder name
   pub starts : (a : List AttributeText) (w : World) → rule InBody (TagTurn (start name a)) w ≡ in_body_start_block (start name a) w

@@ -120,7 +120,7 @@ pub record Built (blanks : Bool) (choices : SinkChoices) (w : World) (p : ℕ) (
   pub entries : Entries base path formatting
   pub fewer : Fewer formatting w.formatting
 
--- the end tag of the current node leads back to w, but for marks and the formatting list
+-- the end tag of the current node leads back to w, except for marks and the formatting list
 pub record Closed (choices : SinkChoices) (name : List ℕ) (v w : World) (path : List OpenFormat) (base : List Entry) : Type 0 where
   pub forest : Forest
   pub formatting : List Entry
@@ -168,7 +168,7 @@ module _ (choices : SinkChoices) {at_root : Option Role} {w : World} {p : ℕ} {
     fewer = λ n h. h;
   }
 
--- what an element holds that is no `pre` is told as it stands
+-- the content of an element that isn't a `pre` has its tokens unchanged
 pub enters : {blanks : Bool} {choices : SinkChoices} {w v : World} (name : List ℕ) (attrs : List AttributeText) (inner : Nodes) → is_same_text name (codes "pre") ≡ false → Moves choices (start_tag name attrs) w v
     → (ts : List TokenText) (u : World) → Goes blanks choices (tokens_before (as_written inner) (end_tag name ∷ ts)) v u
     → Goes blanks choices (start_tag name attrs ∷ tokens_before (held_as_written name (as_written inner)) (end_tag name ∷ ts)) w u

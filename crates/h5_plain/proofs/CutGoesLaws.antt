@@ -17,7 +17,7 @@ use Rattle.h5_plain.proofs.cuts.RunLaws.{step_cut, takes_text, without_lf-append
 use Rattle.h5_rules.proofs.changes.TreeLaws.{tree_reconstruct}
 use Rattle.h5_plain.proofs.GoesLaws.{Runs, Steps, Takes}
 
--- in a mode in which texts tell no parse error, none does
+-- in a mode in which texts report no parse error, none does
 text_quiet : (choices : SinkChoices) (t : List ℕ) (w : World) → is_quiet_text w.mode ≡ true → (text_step choices t w).quiet ≡ true
 text_quiet choices [] w q = refl
 text_quiet choices (b ∷ t) w q = q

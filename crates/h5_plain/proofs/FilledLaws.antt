@@ -14,7 +14,7 @@ use Rattle.h5_plain.specs.Rebuilding.{Looks, Stands}
 use Rattle.h5_plain.proofs.GrowthLaws.{Below, Rooted, html, kinds_apart, with_element}
 use Rattle.h5_plain.proofs.LooksLaws.{apart_from, ends_in_text, looks_beside_text, looks_node, looks_texted}
 
--- what a node is, but for its parent and its marks
+-- a node, except for its parent and its marks
 pub record Face : Type 0 where
   pub kind : Kind
   pub attrs : List AttributeText

@@ -45,7 +45,7 @@ IsLawfulFor t m w r = IsLawfulRow m (kind_of_turn t) (is_start_turn t) (HasText 
 abbrev pub IsLawfulTag : TagKind → TagText → InsertionMode → World → Row → Type 0
 IsLawfulTag k tag m w r = IsLawfulRow m (kind_of_tag k tag.name) (is_start k) (Unit {0}) w r
 
--- by what its changes need, that the open elements fit, and by what it tells, answers and leads to
+-- by what its changes need, that the open elements fit, and by what it reports, replies and leads to
 pub lawful_leading : {m : InsertionMode} {c : TurnKind} {starts : Bool} {given : Type 0} {w : World} (r : Row)
     → NeedsOfAll r.changes → ((choices : SinkChoices) → IsSteady w → w.mode ≡ m → Kept choices w m r) → IsTold r → Silent r.ending → RowLeads c m w r → IsLawfulRow m c starts given w r
 lawful_leading {w = w} r needs fits told silent leads = record {

@@ -31,7 +31,7 @@ pub data GoesByBody : InsertionMode → Type 0 where
   TheCell : GoesByBody InCell
   TheCaption : GoesByBody InCaption
 
--- a text is taken as in the body, and is no parse error
+-- a text is handled as in the body, and isn't a parse error
 pub text_by_body : (choices : SinkChoices) (t : List ℕ) (w : World) {m : InsertionMode} → GoesByBody m → text_in m choices t w ≡ text_in_body choices t w
 text_by_body choices t w TheBody = refl
 text_by_body choices t w TheCell = refl

@@ -40,7 +40,7 @@ lists_none = record {
   alike = λ t. tt;
 }
 
--- the first mode tells that none is open, in a whole document
+-- in the first mode no element is open, in a whole document
 pub fits_none : (w : World) → w.template_modes ≡ [] → w.context ≡ None → NamesFit (situation_of w) Initial []
 fits_none w modes none = record {
   fits = record {

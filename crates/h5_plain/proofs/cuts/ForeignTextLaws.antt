@@ -87,7 +87,7 @@ pub pending_foreign : (choices : SinkChoices) (t : List ℕ) (w : World) → is_
 unfolding is_foreign append_pending_text
 pending_foreign choices t w = refl
 
--- ELEMENTS THAT ARE MADE ANEW are of HTML
+-- NEW ELEMENTS for entries are of HTML
 two_open : (n : QualName) (ns : List QualName) → IsRootOpen ns → 1 < length (roles (n ∷ ns))
 two_open n [] h = absurd h
 two_open n (m ∷ ns) h = omega arith
@@ -256,7 +256,7 @@ module _ (choices : SinkChoices) where
   unfolding text_initial
   initial_fits = fits_at_all Initial (split_fits Initial BeforeHtml dropped initial_else (drops_in Initial) (λ t w. refl) (λ t w i. initial_leads t w) before_html_fits)
 
-  -- in a text, and where text of a table is kept back
+  -- in a text, and while text of a table is buffered
   in_text_fits : FitsAt Text
   in_text_fits = fits_at_all Text (λ b t w i. append_fitting choices (b ∷ t) w (λ e. cc) i.fitting)
 

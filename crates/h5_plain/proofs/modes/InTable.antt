@@ -114,7 +114,7 @@ module _ (choices : SinkChoices) (w : World) (steady : IsSteady w) (m : Insertio
 
 -- THE ROWS
 
--- a text in a table is kept back
+-- a text in a table is buffered
 text_edge : (m : InsertionMode) → is_table_mode m ≡ true → edges.Again TextTurns m InTableText
 text_edge InTable h = edges.text_of_table
 text_edge InTableBody h = edges.text_of_section
@@ -193,7 +193,7 @@ module _ (m : InsertionMode) (table : is_table_mode m ≡ true) (w : World) wher
   table_tag_lawful EndTag tag e f =
       subst (λ k. IsLawfulTag EndTag tag m w (by_kind k (by_name in_table_start (of_tag in_table_else) tag w) (by_name in_table_end (of_tag in_table_else) tag w))) (sym e) (table_end_lawful tag e)
 
-  -- and a token that is no tag
+  -- and a token that isn't a tag
   pub table_other_lawful : (t : TurnText) → is_tag t ≡ false → IsLawfulFor t m w (in_table t w)
   table_other_lawful (TagTurn tag) h = absurd (cc)
   table_other_lawful (CommentTurn x) h = comment_lawful m w x

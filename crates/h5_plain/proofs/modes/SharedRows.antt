@@ -57,7 +57,7 @@ module _ (m : InsertionMode) (w : World) where
     leads = ByEdge tt;
   }
 
-  -- a comment at the current place, behind the root, and in it
+  -- a comment at the current place, after the root, and in it
   pub comment_lawful : (x : List ℕ) → IsLawfulFor (CommentTurn x) m w (row (AppendComment x ∷ []) IsDone)
   comment_lawful x = lawful_row _ (tt, tt) (λ choices s. kept_comment choices w s.sound m x) (tt, tt) tt tt
 

@@ -36,7 +36,7 @@ use Rattle.h5_plain.proofs.turns.Ranks.{EofTurns, StartTableTurns, TextTurns, Tu
 left_mode : (choices : SinkChoices) (w : World) → (leave_foreign_content choices w).mode ≡ w.mode
 left_mode choices w = ap (λ (x : World). x.mode) (tree_leave choices w)
 
--- what is told of texts
+-- the statement about texts
 tells_left : (x : Ending) (ys : List Change) → Tells x ys → Tells x (LeaveForeignContent ∷ ys)
 tells_left IsDone ys h = h
 tells_left IsAcknowledged ys h = h
