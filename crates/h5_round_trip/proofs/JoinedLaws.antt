@@ -49,7 +49,7 @@ nodes_joined _ more (Title {attrs} {first} {more = words} {rest = others} p s) h
 pub fragment_joined : {b : Bool} (ns : Nodes) → Shape b ns → join (fragment_tokens ns) ≡ fragment_tokens ns
 fragment_joined ns shape = nodes_joined (as_written ns) (EndOfFile ∷ []) (shape_written shape) tt refl
 
--- also with nothing behind them
+-- also if nothing follows them
 pub inside_joined : {b : Bool} (ns : Nodes) → Shape b ns → join (tokens_before (as_written ns) []) ≡ tokens_before (as_written ns) []
 inside_joined ns shape = nodes_joined (as_written ns) [] (shape_written shape) tt refl
 

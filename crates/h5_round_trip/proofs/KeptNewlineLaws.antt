@@ -6,7 +6,7 @@ use Rattle.h5_names.specs.AttributeText.{is_same_text}
 use Rattle.h5_plain.specs.Plain.{ElementThen, End, Nodes, TextThen, as_written, held_as_written, with_doubled}
 use Rattle.h5_round_trip.specs.Written.{begins_with_newline, keeps_newlines}
 
--- a text at the front that begins with no newline
+-- a first text that doesn't begin with a newline
 text_kept : (b : ℕ) (t : List ℕ) (rest : Nodes) (is_newline : Bool) → not is_newline ≡ true → TextThen (if is_newline then 10 ∷ b ∷ t else b ∷ t) rest ≡ TextThen (b ∷ t) rest
 text_kept b t rest true h = cc
 text_kept b t rest false h = refl

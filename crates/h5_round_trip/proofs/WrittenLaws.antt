@@ -23,7 +23,7 @@ use Rattle.h5_plain.specs.Rebuilding.{DocumentStands, Looks, Stands}
 use Rattle.h5_round_trip.specs.Written.{serialized_of, tag_written, written_before}
 use Rattle.h5_round_trip.proofs.ShapeLaws.{Element, None, Shape, Text, Title, Void, document_shape, is_title}
 
--- what stands open, innermost first: no void element, and the last is none whose text is written as it stands
+-- the openers, innermost first: no void element, and the last isn't one whose text is written unescaped
 pub record IsOpen (o : Opener) (os : List Opener) : Type 0 where
   pub shown : are_hidden (o ∷ os) ≡ false
   pub escaped : o.is_raw ≡ false

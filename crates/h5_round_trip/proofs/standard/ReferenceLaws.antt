@@ -28,7 +28,7 @@ return_of InData = ToData
 return_of InTitle = ToRcdata
 return_of (InValue tag) = ToValue (Quoted Double) tag
 
--- what is emitted of a text there, and where it stands behind it
+-- what is emitted of a text there, and the place after it
 abbrev pub emitted : Where → List ℕ → List ℕ
 emitted (InValue tag) text = []
 emitted w text = text

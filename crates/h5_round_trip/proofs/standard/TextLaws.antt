@@ -173,7 +173,7 @@ text_reads p w text y ys r h =
 
 -- ---- a text at the end of the input
 
--- what was passed of it was emitted, and the rest, a reference without anything behind it, comes at the end
+-- what was passed of it was emitted; the remainder, a reference that nothing follows, is emitted at the end
 pub record Ends (p : ReaderPlace) (xs text : List ℕ) : Type 0 where
   pub front : List ℕ
   pub back : List ℕ
