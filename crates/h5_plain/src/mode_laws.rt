@@ -52,8 +52,8 @@ pub fn a_token_has_one_chain()
         settle choices t w ≡ by_row choices (settle choices t) t (dispatch choices t w) w }
 {}
 
-/// A token takes at least one turn, and at most sixteen more than elements are open. In the mode "initial", if there
-/// are no template insertion modes, the end of the file takes six.
+/// A token takes at least one turn, and at most sixteen more than elements are open. In the mode "initial", without
+/// template insertion modes, the end of the file takes six.
 pub fn turns_are_few()
     ensures some { (choices : SinkChoices) (t : TurnText) (w : World) → 0 < (settle choices t w).turns }
     ensures few { (choices : SinkChoices) (t : TurnText) (w : World) → (settle choices t w).turns ≤ 16 + length w.stack }
