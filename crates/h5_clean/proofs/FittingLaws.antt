@@ -22,7 +22,7 @@ abbrev pub is_filled : List ℕ → Bool
 is_filled [] = false
 is_filled (b ∷ t) = true
 
--- a text at a place, behind no other
+-- a text at a place, not after another
 pub record TextFits (after_text : Bool) (s : Spot) (t : List ℕ) : Type 0 where
   pub first : after_text ≡ false
   pub filled : is_filled t ≡ true
