@@ -11,8 +11,7 @@ use h5_tables::FormatEntry;
 use h5_token::Tag;
 
 /// An iterator over the active formatting elements from the newest to the last marker, each with its place in the list,
-/// counted from the oldest entry, and with the tag for which it was created. After the last one it returns `None`
-/// forever.
+/// counted from the oldest entry, and with the tag for which it was created. After that it returns only `None`.
 #[derive(Drop)]
 pub struct ActiveFormattingIter<'a, Handle> {
     pub(crate) entries: &'a [FormatEntry<Listed<Handle>>],
