@@ -1,4 +1,4 @@
--- Lists of nodes that fit where they stand: those that are plain and can be read, and of which the rules let all through.
+-- Lists of nodes that fit at their place: they are plain, can be read, and the rules allow them completely.
 use Rattle.std.proofs.Common.{◌≡◌, ◌≢◌, ◌&&◌, ◌<◌, ◌-◌, ℕ, Bool, true, false, not, List, [], ◌∷◌, codes, nat_lt, refl, sym, ap, subst, ◌∙◌, arith}
 use Rattle.std.proofs.lemmas.Bool.{ltb-true, lt-ltb}
 use Rattle.h5_names.specs.AttributeText.{AttributeText}

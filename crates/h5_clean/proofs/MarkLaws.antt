@@ -1,4 +1,4 @@
--- The text of a fragment begins with U+FEFF only where its first text does.
+-- The text of a fragment begins with U+FEFF only if its first text does.
 use Rattle.std.proofs.Common.{◌≡◌, ◌⊎◌, ◌∙◌, ◌&&◌, ◌==◌, ◌+◌, ◌/◌, ◌%◌, ◌<◌, ◌≤◌, ℕ, Bool, true, false, cond, List, [], ◌∷◌, ◌++◌, IsUtf8, length, nat_lt, codes, if◌then◌else◌, ap, arith, inl, inr, refl, sym, append_assoc}
 use Rattle.std.specs.Char.{encode_utf8}
 use Rattle.std.specs.List.{flat_map}

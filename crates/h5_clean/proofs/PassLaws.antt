@@ -200,7 +200,7 @@ module _ (r : Rules) where
   pub cleaned_around : (s : Source) → IsPlain true (Flow false (around (first_place r))) (cleaned r s)
   cleaned_around s = fitting_plain r false (first_place r) (cleaned r s) (cleaned_fits s)
 
-  -- so it is where nothing is open
+  -- so it is if nothing is open
   pub cleaned_plain : (s : Source) → IsPlain true (Flow false nothing_open) (cleaned r s)
   cleaned_plain s = plain_alone (cleaned r s) (cleaned_around s)
 

@@ -115,8 +115,8 @@ value_left r local value = named_behind (prefix_of r.prefix) local (readable val
 abbrev pub may_stay : Rules → List ℕ → Bool
 may_stay r local = is_name local && (not (is_refused local) && may_act (prefix_of r.prefix) local)
 
--- it stays if it has no namespace, its value is UTF-8, the rules keep it and don't set it, and no attribute before it
--- has its name
+-- an attribute that stays: it has no namespace, its value is UTF-8, the rules keep it and don't set it, and no
+-- attribute before it has its name
 abbrev pub stays : Rules → (element : List ℕ) → (before : List AttributeText) → AttributeText → Bool
 stays r element before a =
     is_same_text a.name.ns [] && (may_stay r a.name.local && (is_utf8 (value_left r a.name.local a.value)

@@ -107,8 +107,9 @@ fn is_acting_name(local: &str) -> bool
     )
 }
 
-/// Returns true if an attribute of this name is allowed with this prefix of ids. An attribute by which an element acts on another one, such as
-/// `for`, is never allowed without a prefix: it could act on an element of the page around the text.
+/// Returns true if an attribute of this name is allowed with this prefix of ids. An attribute by which an element acts
+/// on another one, such as `for`, is never allowed without a prefix: it could act on an element of the page around the
+/// text.
 pub fn may_act(prefix: &str, local: &str) -> bool
     ensures { result ≡ may_act prefix.now local.now }
 {

@@ -120,7 +120,7 @@ module _ {S H O : Type 0} (law : Ghosts S H O) (old : S) (state : State H) {name
       ∙ ap (λ s. (k.newer ++ s) ++ older) (h ∙ ap (λ ms. own ∷ k.block ∷ ms) m ∙ ap (λ c. c ∷ k.block ∷ n.clones) o)
       ∙ append_assoc k.newer (own_clone law.choices start r ∷ k.block ∷ n.clones) older
 
-  -- all stands then
+  -- the world is sound then
   pub all_after : AllStand (round_forest law.choices start r) (round_stack k.newer (own_clone law.choices start r) k.block (round_nest law.choices start r).clones (older_than f.node start.stack))
       (round_list f.node f.tag k.between (round_nest law.choices start r).clones (own_clone law.choices start r) start.formatting) start.head start.form start.context
   all_after = (adopt_ready law.choices start r.ready r.may).sound

@@ -94,7 +94,7 @@ pub none_named : (o : Option FormattingElement) → false ≡ is_some o → o �
 none_named None e = refl
 none_named (Some f) e = absurd (cc)
 
--- where no round follows, and where one does
+-- if no round follows, and if one does
 pub stops : (more : Bool) (again : World → World) (v : World) → more ≡ false → then_again more again v ≡ v
 stops true again v h = absurd (cc)
 stops false again v h = refl

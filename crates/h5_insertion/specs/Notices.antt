@@ -1,4 +1,4 @@
--- What the sink is notified of before a new element is inserted, in the form of the code.
+-- Notices to the sink before a new element is inserted, in the form of the code.
 use Rattle.std.specs.Prelude.{ℕ, None, Some}
 use Rattle.h5_interface.specs.Forest.{Forest, IsNode}
 use Rattle.h5_interface.specs.SinkChoices.{SinkChoices}

@@ -1,4 +1,4 @@
-//! What the adoption agency searches on the stack of open elements and in the list of active formatting elements.
+//! Searches of the adoption agency, on the stack of open elements and in the list of active formatting elements.
 ghost use Rattle.std.specs.Prelude.{◌≡◌, ◌<◌, ◌+◌, ◌∷◌, ℕ, MatchOption, None, is_some, length};
 ghost use Rattle.std.specs.List.{list_any};
 ghost use Rattle.h5_interface.specs.Forest.{IsNode};

@@ -42,7 +42,7 @@ use Rattle.h5_plain.proofs.TableBuildsLaws.{in_marked, in_part, marked_case, par
 use Rattle.h5_plain.proofs.TableRuleLaws.{IsCellName, caption, column_is_void, group_holds, group_rule, is_cell_name, is_part_name, row_holds, row_rule, table_holds}
 use Rattle.h5_plain.proofs.TableStepLaws.{Ends, ends_caption, ends_cell, ends_group, ends_row, ends_section, ends_table, puts_column, same_marked, starts_caption, starts_cell, starts_part, starts_table, writes_blank}
 
--- where nothing is said to be open, nothing is found
+-- if nothing is said to be open, nothing is found
 abbrev pub Free : Bool → Bool → Type 0
 Free b found = b ≡ false → found ≡ false
 

@@ -1,4 +1,4 @@
--- However the texts of a list of tokens are cut, it leads where it leads uncut.
+-- However the texts of a list of tokens are split, it leads to the same world.
 use Rattle.std.proofs.Common.{◌≡◌, ℕ, Bool, false, true, List, [], ◌∷◌, ◌++◌, refl, ap, sym, subst, ◌∙◌}
 use Rattle.h5_token.specs.TokenText.{TokenText, DoctypeIs, TagIs, CommentIs, Characters, NullCharacter, EndOfFile, ParseErrorIs}
 use Rattle.h5_interface.specs.SinkChoices.{SinkChoices}

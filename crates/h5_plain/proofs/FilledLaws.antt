@@ -1,4 +1,4 @@
--- What a list of nodes makes of a forest: new nodes below one node, under which it stands.
+-- The forest after a list of nodes is added: new nodes below one node, whose children are the list.
 use Rattle.std.proofs.Common.{◌≡◌, ◌≢◌, ◌∙◌, ℕ, false, List, [], ◌∷◌, ◌++◌, append_assoc, append-nil, codes, Option, Some, None, ap, refl, sym, subst}
 use Rattle.h5_names.specs.AttributeText.{AttributeText}
 use Rattle.h5_names.specs.declared.qualified.QualName.{QualName}

@@ -204,7 +204,7 @@ moves_acknowledged choices tag w v m changes e i h f n a =
       accepted = not_refused choices tag w w.mode refl h quiet;
     }
 
--- a text in a mode that goes by the body, where nothing is to be reconstructed
+-- a text in a mode that uses the rules of the body, if nothing is to be reconstructed
 pub moves_text : (choices : SinkChoices) (b : ℕ) (t : List ℕ) (w : World) → GoesByBody w.mode → w.ignore_lf ≡ false → AtHtml w → closed_front w.stack w.formatting ≡ []
     → Moves choices (Characters (b ∷ t)) w (append_text (b ∷ t) (set_frameset_ok_by_text (b ∷ t) w))
 unfolding step text_in_body

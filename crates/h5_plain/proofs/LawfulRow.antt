@@ -23,7 +23,7 @@ use Rattle.h5_plain.proofs.turns.RowEdges.{ByEdge, RowLeads, stops}
 
 -- of a row for a token of a kind, a start tag or not, where this is given of the token
 pub record IsLawfulRow (m : InsertionMode) (c : TurnKind) (starts : Bool) (given : Type 0) (w : World) (r : Row) : Type 0 where
-  -- where the open elements fit the mode, all stands after its changes, and the list agrees with the stack
+  -- where the open elements fit the mode, the world is sound after its changes, and the list agrees with the stack
   pub steady : (choices : SinkChoices) → IsSteady w → w.mode ≡ m → given → FitsAs m w → IsSteady (apply_all choices r.changes w)
   -- and they fit the mode that it leads to
   pub fits : (choices : SinkChoices) → IsSteady w → w.mode ≡ m → given → Kept choices w m r

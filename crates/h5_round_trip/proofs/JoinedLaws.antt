@@ -1,4 +1,4 @@
--- No two texts stand beside each other in the tokens of plain documents and fragments.
+-- No two texts are adjacent in the tokens of plain documents and fragments.
 use Rattle.std.proofs.Common.{◌≡◌, ℕ, Bool, true, false, List, [], ◌∷◌, cond, refl, sym, ap, ◌∙◌, subst, codes}
 use Rattle.h5_names.specs.AttributeText.{AttributeText}
 use Rattle.h5_token.specs.Joins.{glue, join}

@@ -1,4 +1,4 @@
--- Where no `pre` begins with a newline, nodes are written as they stand.
+-- If no `pre` begins with a newline, nodes are written as they are.
 use Rattle.std.proofs.Common.{◌≡◌, ◌∙◌, ℕ, Bool, true, false, List, [], ◌∷◌, ap, codes, refl}
 use Rattle.std.specs.Prelude.{◌&&◌, ◌==◌, if◌then◌else◌, not}
 use Rattle.std.proofs.lemmas.Bool.{and_parts}

@@ -210,7 +210,7 @@ module _ {M : Type 0} (reply_to : M → TokenText → Reply) (after : M → Toke
   nothing_settled place f i = ap (λ mode. settle mode place.last f []) i
 
   module _ {p : ReaderPlace} {m : M} {xs : List ℕ} {all : List TokenText} where
-    -- the end, in data, where nothing is left
+    -- the end, in data, if nothing is left
     closes : {place : ReaderPlace} {meaning : M} {handed : List TokenText} → Readings reply_to after foreign p m xs handed place meaning [] → place.mode ≡ Data → handed ++ EndOfFile ∷ [] ≡ all → (n : M) × ReadsToEnd reply_to after foreign ended p m xs all n
     closes {place} {meaning} {handed} readings i whole =
         let none = nothing_settled place (foreign meaning) i in (

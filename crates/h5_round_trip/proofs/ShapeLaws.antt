@@ -1,4 +1,4 @@
--- What is looked at of plain documents where they are read.
+-- The parts of plain documents that reading them depends on.
 use Rattle.std.proofs.Common.{◌≡◌, ℕ, Bool, true, false, ◌||◌, List, [], ◌∷◌, refl, subst, codes}
 use Rattle.std.proofs.lemmas.Bool.{false≢true}
 use Rattle.std.specs.Cmp.Lexicographic.{same_text}

@@ -1,4 +1,4 @@
--- What is written of a forest in which a plain document stands.
+-- The text that is written of a forest that has a plain document.
 use Rattle.std.proofs.Common.{◌≡◌, ℕ, Bool, true, false, not, ◌||◌, ◌&&◌, List, [], ◌∷◌, ◌++◌, cond, refl, sym, ap, ◌∙◌, append_assoc, append-nil, Option, Some, None as Nothing, codes}
 use Rattle.std.specs.Prelude.{unwrap_or}
 use Rattle.std.proofs.lemmas.Bool.{false≢true}

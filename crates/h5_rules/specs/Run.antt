@@ -110,7 +110,7 @@ pub data Turns : Type 0 where
   Took : (count : ℕ) → Turns
   Untold : Turns
 
--- what is reported for a token: the reply, its turns, and that no parse error was reported (`quiet`)
+-- the report for a token: the reply, its turns, and that no parse error was reported (`quiet`)
 pub record Told : Type 0 where
   pub reply : Reply
   pub turns : Turns
@@ -132,7 +132,7 @@ reply_to choices t v = (told_of choices t v).reply
 abbrev pub is_quiet : SinkChoices → TokenText → View → Bool
 is_quiet choices t v = (told_of choices t v).quiet
 
--- THE RUN of a list of tokens: the view after it, and what is reported for each
+-- THE RUN of a list of tokens: the view after it, and the report for each
 pub record Ran : Type 0 where
   pub view : View
   pub told : List Told

@@ -1,4 +1,4 @@
--- What is found from the newest entry down, where entries of other numbers are passed over.
+-- A walk from the newest entry down, which skips entries of other numbers.
 use Rattle.std.proofs.Common.{◌≡◌, ◌≢◌, ◌+◌, ◌-◌, ◌<◌, ◌≤◌, ℕ, zero, suc, Bool, true, false, cond, max, List, [], ◌∷◌, ◌++◌, drop, get_or, length, map, reverse, take, Some, None, refl, ap, sym, subst, ◌∙◌, add-zero, arith}
 use Rattle.std.proofs.lemmas.List.{get_or-take, get_or_default, length-map, length-reverse, length-take-le, map-append, reverse-append, reverse-reverse, take-append-drop, take_all, take_more}
 use Rattle.std.proofs.lemmas.Slice.Eq.{bytes_eq-Decides}
@@ -25,7 +25,7 @@ pub at_newest : (ns : List ℕ) (n count k : ℕ) → newest_of n (reverse (take
 at_newest ns n count k e high =
     sym (ap (λ s. get_or s k 0) (reverse-reverse (take count ns)) ∙ get_or-take count ns k 0 high) ∙ newest_at n k (reverse (take count ns)) e
 
--- the same of all
+-- as above, for all
 pub above_whole : (ns : List ℕ) (n k : ℕ) → newest_of n (reverse ns) ≤ k → k < length ns → get_or ns k 0 ≢ n
 above_whole ns n k low high = above_newest ns n (length ns) k (subst (λ xs. newest_of n (reverse xs) ≤ k) (sym (take_all (length ns) ns (omega arith))) low) high (omega arith)
 

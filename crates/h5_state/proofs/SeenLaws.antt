@@ -1,4 +1,4 @@
--- A list that grows at its end, seen with the newest first, where one is taken out, put in or exchanged.
+-- A list that grows at its end, seen with the newest first, when an item is removed, inserted or replaced.
 use Rattle.std.proofs.Common.{◌≡◌, ◌+◌, ◌<◌, ◌≤◌, ℕ, suc, drop-cons, get_or, List, [], ◌∷◌, ◌++◌, append_assoc, length, length-append, map, reverse, take, drop, ap, sym, ◌∙◌, arith}
 use Rattle.std.proofs.Math.ListN.{set}
 use Rattle.std.proofs.Math.Seq.{drop-append_seam, take-append_seam}

@@ -1,4 +1,4 @@
--- What is kept beside the open elements, where elements come or leave.
+-- The summaries of open elements when elements are pushed or removed.
 use Rattle.std.proofs.Common.{◌≡◌, Bool, true, false, cond, ◌||◌, ◌<◌, ◌≤◌, ◌-◌, ◌+◌, ℕ, nat_lt, take, drop, get_or, Some, List, [], ◌∷◌, ◌++◌, append_assoc, length, length-append, ◌^◌, map, reverse, refl, ap, subst, sym, ◌∙◌, zero-add, arith}
 use Rattle.std.specs.Int.{from_bool}
 use Rattle.std.specs.Prelude.{slice_get}
@@ -142,7 +142,7 @@ kept_later : (s : Summary) (rest : List Summary) (names : List QualName) → s �
 kept_later s rest [] e = absurd (cc)
 kept_later s rest (n ∷ ns) e = cc
 
--- what is kept beside open elements and their numbers, where elements come or leave
+-- what is stored with open elements and their numbers, where elements come or leave
 module _ {H : Type 0} where
   abbrev summary_at : OpenElement H → Summary
   summary_at element = element.summary

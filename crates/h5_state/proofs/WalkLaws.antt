@@ -149,7 +149,7 @@ cut_inside is (n ∷ ns) (m ∷ s) e h =
       | false ↦ λ k. let later = cut_inside is ns s (omega arith) k in omega (arith, later)
     ]) h
 
--- where no foster parent is open
+-- if no foster parent is open
 pub no_foster : (f : Forest) (s : List ℕ) → in_scope is_foster_parent (λ n. false) (map (name_in f) s) ≡ false → from_foster_parent f s ≡ []
 no_foster f [] h = refl
 no_foster f (n ∷ s) h =

@@ -1,4 +1,4 @@
--- A fragment's builder that took nothing yet: all stands, and the root fits the insertion mode that is reset to.
+-- A fragment's builder that took nothing yet: the world is sound, and the root fits the insertion mode that is reset to.
 use Rattle.std.proofs.Common.{◌≡◌, ℕ, Bool, ◌&&◌, if◌then◌else◌, cond, false, List, [], ◌∷◌, codes, Option, None, Some, option_map, refl, ap, sym, subst, ◌∙◌}
 use Rattle.std.specs.Prelude.{MatchOption}
 use Rattle.h5_names.specs.AttributeText.{is_same_text}

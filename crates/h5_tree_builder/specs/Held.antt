@@ -23,7 +23,7 @@ pub record IsKept {S H O : Type 0} (law : Ghosts S H O) (h : Held S H) : Type 0 
   pub lists : h.failed ≡ false → HasLists (world_of law h.sink h.state)
   pub closed : h.ended ≡ true → (world_of law h.sink h.state).stack ≡ []
 
--- what contracts see of the fields
+-- the fields as contracts see them
 abbrev pub building : {S H : Type 0} → (S → Seen) → (H → ℕ) → Held S H → Building
 building sees node h = record {
   view = record { world = world sees node h.sink h.state; ended = h.ended; failed = h.failed };

@@ -119,7 +119,7 @@ by_mode choices m t w html e = ap (λ c. cond c (foreign_text t w) (text_in w.mo
 pub by_foreign : (choices : SinkChoices) (t : List ℕ) (w : World) → is_foreign_text choices w ≡ true → text_rule choices t w ≡ foreign_text t w
 by_foreign choices t w h = ap (λ c. cond c (foreign_text t w) (text_in w.mode choices t w)) h
 
--- the law of a rule, where something holds: cut, it goes on by the rule of the view that is reached
+-- the law of a rule, if something holds: cut, it goes on by the rule of the view that is reached
 abbrev LawWhere : SinkChoices → (World → Type 0) → (List ℕ → World → World) → Type 0
 LawWhere choices P f = (b : ℕ) (t : List ℕ) (d : ℕ) (u : List ℕ) (w : World) → P w → f ((b ∷ t) ++ d ∷ u) w ≡ text_rule choices (d ∷ u) (f (b ∷ t) w)
 
@@ -137,7 +137,7 @@ holds_at choices m law b t d u w e g = at (is_foreign_text choices w) refl
     at true h = sym (plain_twice (b ∷ t) (d ∷ u) w) ∙ sym (by_foreign choices (d ∷ u) (foreign_text (b ∷ t) w) (foreign_again choices (b ∷ t) w ∙ h))
     at false h = law b t d u w (record { mode = e; fitting = g; html = h })
 
--- a split where something holds that its rule of blanks keeps
+-- a split if something holds that its rule of blanks keeps
 split_cut : (choices : SinkChoices) (P : World → Type 0) (blanks others : List ℕ → World → World) → Blanks blanks → ((b : ℕ) (t : List ℕ) (w : World) → P w → P (blanks (b ∷ t) w)) → LawWhere choices P others → ((t : List ℕ) (w : World) → P w → text_rule choices t w ≡ split blanks others t w)
     → (t : List ℕ) (d : ℕ) (u : List ℕ) (w : World) → P w → Cut t (d ∷ u) → split blanks others (t ++ d ∷ u) w ≡ text_rule choices (d ∷ u) (split blanks others t w)
 split_cut choices P blanks others bs keeps law is t d u w h (AllBlank e f g i) =
@@ -181,7 +181,7 @@ leads_initial choices = record {
   mode = λ t w. elim w.options.iframe_srcdoc as (λ b. (after_row choices (choose b _ _) w).mode ≡ BeforeHtml) [ true ↦ refl | false ↦ refl ];
 }
 
--- "anything else" where something holds, by which the mode is known and leads to another
+-- "anything else" if something holds, by which the mode is known and leads to another
 else_law : (choices : SinkChoices) (P : World → Type 0) (m k : InsertionMode) (r : TurnText → World → Row) → ((w : World) → P w → In choices m w) → ((t u : List ℕ) (w : World) → r (TextTurn NotWhitespace t) w ≡ r (TextTurn NotWhitespace u) w)
     → ((t : List ℕ) (w : World) → P w → (after_row choices (r (TextTurn NotWhitespace t) w) w).mode ≡ k) → ((t : List ℕ) (w : World) → rule m (TextTurn NotWhitespace t) w ≡ r (TextTurn NotWhitespace t) w) → HoldsAt choices k
     → LawWhere choices P (by_else choices r (text_in k choices))

@@ -197,7 +197,7 @@ module _ (choices : SinkChoices) where
     html = body_html choices (b ∷ t) w i.fitting.sound (in_root after i) i.html;
   }
 
-  -- where something holds besides, that blanks leave
+  -- if something holds besides, that blanks leave
   split_fits_where : (P : World → Type 0) (m k : InsertionMode) (blanks : List ℕ → World → World) (r : TurnText → World → Row) → ((w : World) → P w → In choices m w) → ((b : ℕ) (t : List ℕ) (w : World) → P w → P (blanks (b ∷ t) w))
       → ((t : List ℕ) (w : World) → rule m (TextTurn NotWhitespace t) w ≡ r (TextTurn NotWhitespace t) w)
       → ((t : List ℕ) (w : World) → P w → (after_row choices (r (TextTurn NotWhitespace t) w) w).mode ≡ k) → FitsAt k → (b : ℕ) (t : List ℕ) (w : World) → P w → Fitting (split blanks (by_else choices r (text_in k choices)) (b ∷ t) w)

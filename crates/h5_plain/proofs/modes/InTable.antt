@@ -59,7 +59,7 @@ no_part_in_table : (l : List ℕ) → NonePasses in_table_end l → is_of_table 
 unfolding in_table_end in_table_ignored_ends
 no_part_in_table l n = no_part_where_ruled in_table_end l refl n
 
--- each name that goes by the rules of the head in a table goes so elsewhere, too
+-- each name that uses the rules of the head in a table goes so elsewhere, too
 table_text_content : (l : List ℕ) → is_one_of table_text_names l ≡ true → is_one_of head_start_names l ≡ true
 unfolding table_text_names head_start_names
 table_text_content l h = of_one (λ n. is_one_of head_start_names n ≡ true) table_text_names l (refl, (refl, (refl, tt))) h

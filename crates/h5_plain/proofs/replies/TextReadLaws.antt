@@ -1,5 +1,5 @@
--- A builder that isn't in "text", and goes back to no "text", is led there by a start tag alone, which turns the reader to
--- raw text; and out of it by an end tag and by the end of the file.
+-- A builder that isn't in "text", and doesn't return to "text", gets there only by a start tag whose reply switches the
+-- tokenizer to raw text, and leaves it by an end tag and by the end of the file.
 use Rattle.std.proofs.Common.{Bool, List, None, Option, Some, [], ap, codes, cond, false, length, refl, subst, suc, sym, true, zero, ℕ, ◌++◌, ◌+◌, ◌∙◌, ◌∷◌, ◌≡◌}
 use Rattle.std.specs.Prelude.{unwrap_or}
 use Rattle.h5_names.specs.AttributeText.{is_same_text}

@@ -1,4 +1,4 @@
--- How many turns a token can still take: the rank falls where it takes another.
+-- The number of turns that a token can still take: each other turn has a lower rank.
 use Rattle.std.proofs.Common.{◌≡◌, ◌≢◌, inl, inr, ◌⊎◌, ℕ, ◌+◌, ◌*◌, ◌<◌, ◌≤◌, Bool, true, false, cond, if◌then◌else◌, ◌++◌, List, [], ◌∷◌, length, map, Option, Some, None, codes, refl, ap, sym, subst, ◌∙◌, arith}
 use Rattle.h5_names.specs.declared.qualified.QualName.{QualName}
 use Rattle.h5_token.specs.declared.tag.TagKind.{TagKind}

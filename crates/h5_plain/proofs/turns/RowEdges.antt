@@ -1,4 +1,4 @@
--- To which modes a row leads.
+-- The modes that a row leads to.
 use Rattle.std.proofs.Common.{Bool, List, [], codes, false, refl, true, ℕ, ◌++◌, ◌||◌, ◌∷◌, ◌≡◌}
 use Rattle.h5_names.specs.KnownNames.{name_text}
 use Rattle.h5_names.specs.declared.known_name.KnownName.TheVariants.{Col, Table}

@@ -17,7 +17,7 @@ use Rattle.h5_rules.proofs.changes.FormattingLaws.{sound_anew}
 use Rattle.h5_rules.proofs.changes.NameLaws.{names-insert}
 use Rattle.h5_rules.proofs.changes.PopLaws.{pop_stack}
 
--- what stays open where none is closed
+-- what stays open if none is closed
 pub no_p_expected : (names : List QualName) → has_p_in_button_scope names ≡ false → is_expected_p names ≡ true
 unfolding is_expected_p
 no_p_expected names h = ap (λ b. cond b (is_expected (is_implied_but (codes "p")) (is_html_named (codes "p")) names) true) h

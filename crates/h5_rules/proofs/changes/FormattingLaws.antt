@@ -222,7 +222,7 @@ module _ (choices : SinkChoices) (w : World) where
   unfolding names_of reconstruct_active_formatting_elements
   root_reconstruct k h = root_anew choices front w k h
 
-  -- where there is nothing to make, nothing changes
+  -- if there is nothing to make, nothing changes
   pub reconstruct_none : closed_front w.stack w.formatting ≡ [] → reconstruct_active_formatting_elements choices w ≡ w
   unfolding reconstruct_active_formatting_elements
   reconstruct_none e =

@@ -162,7 +162,7 @@ module _ (choices : SinkChoices) (attrs : List AttributeText) (duplicates : Bool
   sound_popped : Sound popped
   sound_popped = pop_sound choices loose sound_loose
 
-  -- all stands
+  -- the world is sound
   pub insert_template_stands : Sound (insert_template choices attrs duplicates w)
   insert_template_stands =
       template_ways Sound choices attrs duplicates w

@@ -142,7 +142,7 @@ entry_cut m (ElementEntry n t ∷ l) h = at (n == m) refl (λ i. entry_cut m l i
           first = λ v. elim v [ inl j ↦ eqb-false n m e (sym j) | inr j ↦ k.first j ];
         }
 
--- where there is none, nothing changes
+-- if there is none, nothing changes
 pub without_entry_none : (m : ℕ) (l : List Entry) → ¬ (IsIn m (nodes_of l)) → without_entry m l ≡ l
 without_entry_none m [] out = refl
 without_entry_none m (MarkerEntry ∷ l) out = ap (λ z. MarkerEntry ∷ z) (without_entry_none m l out)

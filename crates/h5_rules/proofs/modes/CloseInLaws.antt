@@ -1,4 +1,4 @@
--- More changes in the body, where builder and sink are ready and the open elements fit a mode that goes by the body: they
+-- More changes in the body, where builder and sink are ready and the open elements fit a mode that uses the rules of the body: they
 -- are ready after it, and the open elements fit the mode.
 use Rattle.std.proofs.lemmas.Bool.{eqb-true}
 use Rattle.std.proofs.lemmas.Slice.Eq.{bytes_eq-Decides}

@@ -1,4 +1,4 @@
--- A token that goes by the rule of the body, with foster parenting on.
+-- A token that is handled by the rule of the body, with foster parenting on.
 use Rattle.std.proofs.Common.{Bool, Some, [], ap, codes, false, refl, subst, sym, true, ℕ, ◌<◌, ◌∙◌, ◌∷◌, ◌≡◌}
 use Rattle.h5_interface.specs.SinkChoices.{SinkChoices}
 use Rattle.h5_tables.specs.TurnResult.{TurnResult}

@@ -1,5 +1,5 @@
--- HTML standard, section 13.2.6.4.7, the "in body" insertion mode: what is asked of its rows in each mode that goes by its
--- rules, one lemma for each rule.
+-- HTML standard, section 13.2.6.4.7, the "in body" insertion mode: the properties of its rows in each mode that uses
+-- its rules, one lemma for each rule.
 use Rattle.std.proofs.Common.{Bool, IsTrue, List, None, Option, Some, [], ap, codes, false, if◌then◌else◌, inl, inr, is_some, not, refl, subst, sym, true, ℕ, ◌&&◌, ◌∙◌, ◌∷◌, ◌≡◌, ◌≢◌, ◌⊎◌}
 use Rattle.h5_names.specs.AttributeText.{AttributeText}
 use Rattle.h5_names.specs.declared.known_name.KnownName.TheVariants.{A, Button, Frameset, Html, Iframe, Nobr, Noembed, Noscript, Optgroup, Plaintext, Select, Table, Textarea, Xmp}
@@ -131,7 +131,7 @@ EndsBody html (Answers answer) = Unit {0}
 EndsBody html (Again mode) = (mode ≡ AfterBody) × (html ≡ true)
 EndsBody html (AgainBy mode) = ⊥
 
--- after it all stands, the list of active formatting elements agrees with the stack, and the open elements fit the mode
+-- after it the world is sound, the list of active formatting elements agrees with the stack, and the open elements fit the mode
 -- that it leaves
 pub record Leaves (choices : SinkChoices) (m : InsertionMode) (w : World) (r : Row) : Type 0 where
   pub steady : IsSteady (apply_all choices r.changes w)

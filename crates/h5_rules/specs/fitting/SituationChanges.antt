@@ -1,4 +1,4 @@
--- What rules change in addition to names and mode.
+-- Changes of a situation by rules.
 use Rattle.std.specs.Prelude.{◌∷◌, [], true, false, List, Some, None}
 use Rattle.h5_tables.specs.declared.modes.InsertionMode.{InsertionMode}
 use Rattle.h5_tables.specs.declared.modes.InsertionMode.TheVariants.{InTable, InCaption, InColumnGroup, InTableBody, InRow, InCell, InTemplate}

@@ -11,7 +11,7 @@ Beside [] x y = ⊥
 Beside (MarkerEntry ∷ l) x y = Beside l x y
 Beside (ElementEntry n t ∷ l) x y = ((x ≡ n) × IsIn y (nodes_of (after_marker l))) ⊎ Beside l x y
 
--- after each marker, and after the last, at most three entries are alike to a tag
+-- between two markers, and after the last, at most three entries are alike to a tag
 abbrev pub FewAlike : TagText → List Entry → Type 0
 FewAlike t [] = Unit {0}
 FewAlike t (MarkerEntry ∷ l) = FewAlike t l

@@ -1,5 +1,5 @@
--- What is done to a new element before it is inserted (HTML standard, section 13.2.6.1, create an element for a token:
--- a form owner).
+-- Calls of the sink for a new element before it is inserted (HTML standard, section 13.2.6.1, create an element for a
+-- token: a form owner).
 use Rattle.std.specs.Prelude.{ℕ, Bool, not, ◌&&◌, ◌||◌, if◌then◌else◌, List, [], ◌∷◌, codes, Option, Some, None}
 use Rattle.std.specs.List.{list_any}
 use Rattle.h5_names.specs.AttributeText.{AttributeText, is_same_text}
@@ -12,7 +12,7 @@ use Rattle.h5_rules.specs.stack.Scope.{has_template}
 use Rattle.h5_rules.specs.insertion.Place.{LastChild, Place, TableFosterParenting}
 use Rattle.h5_rules.specs.World.{World, names_of}
 
--- what the sink is called with for a new element, as marks of nodes; or no such call
+-- a call of the sink for a new element, as the marks that it sets; or no call
 abbrev pub Marking : Type 0
 Marking = Option (Forest → ℕ → Marks)
 

@@ -190,7 +190,7 @@ close_the_form (Some form) w =
     choose (form_in_scope form w)
     (row_if (is_expected_node form (names_of w) w.stack) (ClearForm ∷ GenerateImpliedEnd ∷ RemoveFromStack form ∷ []) IsDone) (errs (ClearForm ∷ []) IsDone)
 
--- the same tag in a template, for the form that is in scope
+-- an end tag "form" in a template: the form that is in scope
 unfoldable pub close_open_form : World → Row
 close_open_form w =
     choose (named_in_scope (codes "form") w)
