@@ -32,9 +32,10 @@ pub trait Policy {
     fn rel(&self) -> Option<&str>
         ensures { option_copied result ≡ (rules self.now).rel };
 
-    /// Returns the prefix of ids, if there is one, so that no id of the text is one of the page. It is put before an id
-    /// that doesn't begin with it: in each `id` and `name`, in attributes that refer to ids, such as `for` and
-    /// `headers`, and after a leading '#' in `href`. A prefix with ASCII whitespace or NUL is ignored.
+    /// Returns the prefix of ids, if there is one. If no id of the page begins with it, no id of the text is one of the
+    /// page. It is put before an id that doesn't begin with it: in each `id` and `name`, in attributes that refer to
+    /// ids, such as `for` and `headers`, and after a leading '#' in `href`. A prefix with ASCII whitespace or NUL is
+    /// ignored.
     fn prefix(&self) -> Option<&str>
         ensures { option_copied result ≡ (rules self.now).prefix };
 
