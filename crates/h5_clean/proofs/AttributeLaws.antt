@@ -59,7 +59,7 @@ is_name_so (x ∷ xs) h = name_bytes (x ∷ xs) h
 
 -- ---- attributes as they are left
 
--- one that stays as it is, where none before it has its name
+-- one that stays as it is, if none before it has its name
 record Kept (r : Rules) (e : List ℕ) (a : AttributeText) : Type 0 where
   bare_name : a.name ≡ bare a.name.local
   may : may_stay r a.name.local ≡ true
@@ -133,7 +133,7 @@ no_rel r e value (b ∷ before) h s k =
     by true t = absurd (false≢true (sym k.0.unset ∙ and_from _ _ h (and_from _ _ t (ap is_some s))))
     by false t = and_right _ _ (and_right _ _ t)
 
--- what holds without it, and with it, holds of all that is left
+-- what holds without it, and with it, holds for all that is left
 ending : (r : Rules) (e : List ℕ) (front : List AttributeText) (P : List AttributeText → Type 0) → P front
     → ((value : List ℕ) → is_same_text e (codes "a") ≡ true → r.rel ≡ Some value → is_utf8 value ≡ true → P (front ++ rel value ∷ []))
     → P (front ++ (if is_same_text e (codes "a") then rel_of r.rel else []))
@@ -169,7 +169,7 @@ left_readable r e attrs =
     (subst AreReadable (append-nil (left_behind r e [] attrs)) (readable_with r e (left_behind r e [] attrs) [] l.kept tt))
     (λ value h s u. readable_with r e (left_behind r e [] attrs) (rel value ∷ []) l.kept (is_name_so (codes "rel") refl, (readable_reads value u, tt)))
 
--- what is set is no name of a thing, refers to none, and may stay
+-- the attribute that is set has no id, refers to none, and may stay
 rel_is_none : is_one_of id_names (codes "rel") ≡ false
 unfolding id_names
 rel_is_none = refl
@@ -244,7 +244,7 @@ all_again r e before (a ∷ attrs) k p =
     ∙ all_again r e (before ++ a ∷ []) attrs k.1 (subst ArePlain (sym (append_assoc before (a ∷ []) attrs)) p)
     ∙ append_assoc before (a ∷ []) attrs
 
--- the `rel` that is set doesn't stay: it is set anew
+-- the `rel` that is set doesn't stay: it is set again
 rel_goes : (r : Rules) (e value : List ℕ) (before : List AttributeText) → is_same_text e (codes "a") ≡ true → r.rel ≡ Some value → left_behind r e before (rel value ∷ []) ≡ before
 rel_goes r e value before h s =
     let goes : stays r e before (rel value) ≡ false =

@@ -6,7 +6,8 @@ use Rattle.h5_plain.specs.Plain.{ElementThen, End, Nodes, TextThen, as_written, 
 use Rattle.h5_round_trip.specs.Inside.{text_before}
 use Rattle.h5_round_trip.specs.Written.{tag_written, written_before, written_fragment}
 
--- the text of an element before others is its text, and the others behind it, if that holds of what it holds and of what follows it
+-- the text of an element followed by others is its text, followed by the others, if that holds for its content and for
+-- what follows it
 element_behind : (name : List ℕ) (attrs : List AttributeText) (inner rest : Nodes) (more tail : List ℕ)
     → ((l : List ℕ) → written_before inner (l ++ tail) ≡ written_before inner l ++ tail) → written_before rest (more ++ tail) ≡ written_before rest more ++ tail
     → written_before (ElementThen name attrs inner rest) (more ++ tail) ≡ written_before (ElementThen name attrs inner rest) more ++ tail

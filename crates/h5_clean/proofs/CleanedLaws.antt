@@ -39,7 +39,7 @@ writes_walk r f n before after h =
     let told = tree_told f (shown_children f n) in
     record { source = s; told = told; written = subst (Appends before after) (ap (text_of_each after_call text_of (first_state r)) (sym told) ∙ tree_written r s) h }
 
--- where there is no root nothing is written
+-- if there is no root nothing is written
 pub writes_none : (r : Rules) (t : Option (List ℕ)) → WritesCleaned r [] t t
 writes_none r t = record { source = Done; told = refl; written = nothing t }
   where

@@ -51,7 +51,7 @@ stands_joined spot.InColumns t u h k = blank_joined t u h k
 stands_joined spot.InSection t u h k = blank_joined t u h k
 stands_joined spot.InRow t u h k = blank_joined t u h k
 
--- what follows a text fits at the front too
+-- nodes that fit after a text also fit at the start
 front_fits : (r : Rules) (x : Place) (ns : Nodes) → IsFitting r true x ns → IsFitting r false x ns
 front_fits r x End f = f
 front_fits r x (TextThen t rest) f = absurd (let e : ◌≡◌ {A = Bool} true false = f.0.first in cc)
@@ -200,7 +200,7 @@ module _ (r : Rules) where
   pub cleaned_around : (s : Source) → IsPlain true (Flow false (around (first_place r))) (cleaned r s)
   cleaned_around s = fitting_plain r false (first_place r) (cleaned r s) (cleaned_fits s)
 
-  -- so it is where nothing is open
+  -- so it is if nothing is open
   pub cleaned_plain : (s : Source) → IsPlain true (Flow false nothing_open) (cleaned r s)
   cleaned_plain s = plain_alone (cleaned r s) (cleaned_around s)
 

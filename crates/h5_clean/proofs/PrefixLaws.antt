@@ -79,7 +79,7 @@ module _ (p : List ℕ) (proper : list_all is_prefix_byte p ≡ true) where
           settled p (b ∷ inner) (subst (λ l. starts_with nat_eq l p ≡ true) (as_word w) (begins_still (b ∷ t) e)) ∙ word (again false) w
       by again false w true false e = settled p (p ++ b ∷ inner) (begins_with p (b ∷ inner)) ∙ goes_on p p (b ∷ inner) proper ∙ ap (λ l. p ++ l) (word (again false) w)
 
--- ---- behind '#'
+-- ---- after '#'
 
 fragment_same : (p : List ℕ) (b : ℕ) (t : List ℕ) → starts_with nat_eq t p ≡ true → fragment_prefixed p (b ∷ t) ≡ b ∷ t
 fragment_same p b [] e = refl
@@ -94,7 +94,7 @@ fragment_again p (b ∷ c ∷ t) = by (b == 35) refl
     by true e = fragment_same p b (prefixed p (c ∷ t)) (prefixed_begins p (c ∷ t))
     by false e = ap (λ x. cond x (b ∷ prefixed p (c ∷ t)) (b ∷ c ∷ t)) e
 
--- ---- a value behind a prefix
+-- ---- a prefixed value
 
 abbrev by_kind : (one several behind : Bool) (p t : List ℕ) → List ℕ
 by_kind one several behind p t = cond one (prefixed p t) (cond several (words_prefixed p true t) (cond behind (fragment_prefixed p t) t))
@@ -205,6 +205,6 @@ value_begins r local value e =
 pub value_named : (r : Rules) (local value : List ℕ) → named_behind (prefix_of r.prefix) local (value_left r local value) ≡ value_left r local value
 value_named r local value = named_again (prefix_of r.prefix) (proper_prefix r.prefix) local (readable value)
 
--- one that can be read, and stands behind the prefix where it has to, stays
+-- a value that can be read, and is prefixed if it has to be, stays
 pub value_same : (r : Rules) (local value : List ℕ) → IsReadable value → named_behind (prefix_of r.prefix) local value ≡ value → value_left r local value ≡ value
 value_same r local value reads named = ap (named_behind (prefix_of r.prefix) local) (readable_same value reads) ∙ named

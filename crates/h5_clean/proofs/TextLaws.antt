@@ -98,7 +98,7 @@ reads_joined t u r s = record {
   no_cr = cr_joined t u r.no_cr s.no_cr;
 }
 
--- ---- a text without what stood at its front
+-- ---- a text without its start
 
 abbrev pub is_mark : (a b c : ℕ) → Bool
 is_mark a b c = (a == 0xef) && ((b == 0xbb) && (c == 0xbf))

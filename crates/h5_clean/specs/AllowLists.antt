@@ -7,9 +7,9 @@ use Rattle.h5_clean.specs.Policies.{Rules}
 use Rattle.h5_clean.specs.TextPolicy.{Keeping, scheme_of}
 use Rattle.h5_clean.specs.declared.place.Around.{Around}
 
--- elements, those that go with all that they hold, attributes of any element and of some, attributes that hold a URL beside those that
--- always do, schemes of URLs, whether URLs may be relative, what `rel` of an `a` is set to, what names of things in the page begin with,
--- what may be open around the text, and how deep elements go
+-- elements; elements that are dropped with their content; attributes of any element, and of some; attributes that hold
+-- a URL in addition to those that always do; schemes of URLs; permission of relative URLs; the `rel` of each `a`; the
+-- prefix of ids; what may be open around the text; and the maximal depth
 pub record Table : Type 0 where
   pub elements : List (List ℕ)
   pub dropped : List (List ℕ)
@@ -44,12 +44,12 @@ is_listed t element attribute = is_one_of t.attributes attribute || list_any (is
 abbrev pub holds_url : Table → (attribute : List ℕ) → Bool
 holds_url t attribute = is_one_of url_names attribute || (is_one_of more_url_names attribute || is_one_of t.urls attribute)
 
--- a URL is relative, where it may be, or has a scheme that is listed
+-- a relative URL, if these are allowed, or one with a listed scheme
 abbrev pub leads_well : (relative : Bool) (schemes : List (List ℕ)) → Option (List ℕ) → Bool
 leads_well relative schemes None = relative
 leads_well relative schemes (Some scheme) = is_one_of schemes scheme
 
--- and leads well, if it holds a URL
+-- the attribute is listed, and its URL is allowed if it holds one
 abbrev pub keeps_listed : Table → (element attribute value : List ℕ) → Bool
 keeps_listed t element attribute value =
     is_listed t element attribute && (not (holds_url t attribute) || leads_well t.relative t.schemes (scheme_of value))

@@ -15,7 +15,7 @@ use h5_names::{Attribute, LocalName, Namespace, QualName};
 use h5_serialize::AttrRef;
 use std::alloc::{AllocError, Global};
 
-// Whether a byte may stand in a name, so that the name is read as it was written.
+// A byte of a name that is read back as it was written.
 fn is_name_byte(b: u8) -> bool
     ensures { result ≡ is_name_byte b }
 {
@@ -30,14 +30,14 @@ fn are_name_bytes(text: &str) -> bool
     text.as_bytes().iter().all(|b| is_name_byte(*b))
 }
 
-// Whether a name is read as it was written.
+// The name is read back as it was written.
 fn is_name(name: &str) -> bool
     ensures { result ≡ is_name name.now }
 {
     !name.is_empty() && are_name_bytes(name)
 }
 
-// Whether a name is this one, without prefix and namespace.
+// The name is this one, without prefix and namespace.
 fn is_bare(name: &QualName, local: &LocalName) -> bool
     ensures { result ≡ is_same_name name.now (bare local.now) }
 {
@@ -50,21 +50,22 @@ fn any_is_bare(attrs: &[Attribute], local: &LocalName) -> bool
     attrs.iter().any(|attr| is_bare(&attr.name, local))
 }
 
-// Whether one of these has this name.
+// One of the attributes has this name.
 fn has_name(attrs: &[Attribute], local: &LocalName) -> bool
     ensures { result ≡ has_attribute (bare local.now) (attribute_texts attrs.now) }
 {
     any_is_bare(attrs, local)
 }
 
-// Whether the policy sets this attribute.
+// The policy sets this attribute.
 fn sets<P: Policy>(policy: &P, element: &str, local: &str) -> bool
     ensures { result ≡ sets (P.rules policy.now) element.now local.now }
 {
     element == "a" && local == "rel" && policy.rel().is_some()
 }
 
-// Whether an attribute holds a page, a style, a secret, or URLs in a list, or makes an element another.
+// The attribute holds a page, a style, a secret, or a list of URLs, or turns an element into another, or uses a map of
+// the page.
 #[tactic(auto, unfolding(crate::specs::Policies::refused_names))]
 fn is_refused_name(local: &str) -> bool
     ensures { result ≡ is_one_of refused_names local.now }
@@ -87,14 +88,15 @@ fn is_refused_name(local: &str) -> bool
     )
 }
 
-/// Whether an attribute of this name is never let through, whatever a policy says: what handles events, a style and the like.
+/// Returns true if an attribute of this name is never allowed, regardless of the policy: event handlers, styles and
+/// others.
 pub fn is_refused(local: &str) -> bool
     ensures { result ≡ is_refused local.now }
 {
     local.starts_with("on") || is_refused_name(local)
 }
 
-// Whether an element acts by an attribute on another of the page.
+// By this attribute an element acts on another one of the page.
 #[tactic(auto, unfolding(crate::specs::Policies::acting_names))]
 fn is_acting_name(local: &str) -> bool
     ensures { result ≡ is_one_of acting_names local.now }
@@ -105,8 +107,9 @@ fn is_acting_name(local: &str) -> bool
     )
 }
 
-/// Returns true if an attribute of this name is allowed with this prefix of ids. An attribute by which an element acts on another one, such as
-/// `for`, is never allowed without a prefix: it could act on an element of the page around the text.
+/// Returns true if an attribute of this name is allowed with this prefix of ids. An attribute by which an element acts
+/// on another one, such as `for`, is never allowed without a prefix: it could act on an element of the page around the
+/// text.
 pub fn may_act(prefix: &str, local: &str) -> bool
     ensures { result ≡ may_act prefix.now local.now }
 {
@@ -119,7 +122,7 @@ fn may_stay(prefix: &str, local: &str) -> bool
     is_name(local) && !is_refused(local) && may_act(prefix, local)
 }
 
-// Whether an attribute names a thing in the page, or refers to one.
+// The attribute has an id, or refers to one.
 #[tactic(auto, unfolding(crate::specs::Policies::id_names))]
 fn is_id_name(local: &str) -> bool
     ensures { result ≡ is_one_of id_names local.now }
@@ -137,7 +140,7 @@ fn is_id_name(local: &str) -> bool
     )
 }
 
-// Whether it refers to several.
+// The attribute refers to several ids.
 #[tactic(auto, unfolding(crate::specs::Policies::id_list_names))]
 fn is_id_list_name(local: &str) -> bool
     ensures { result ≡ is_one_of id_list_names local.now }
@@ -162,14 +165,14 @@ fn is_prefix_byte(byte: u8) -> bool
     !(byte.is_ascii_whitespace() || byte == 0)
 }
 
-/// Whether a prefix has neither blanks nor NUL, so that it can stand before a word.
+/// Returns true if a prefix has neither ASCII whitespace nor NUL, so that it can be put before a word.
 pub fn is_prefix(prefix: &str) -> bool
     ensures { result ≡ list_all is_prefix_byte prefix.now }
 {
     prefix.as_bytes().iter().all(|byte| is_prefix_byte(*byte))
 }
 
-// The prefix of a policy, or nothing.
+// The prefix of a policy, or an empty text.
 fn prefix_of<P: Policy>(policy: &P) -> &str
     ensures { result.now ≡ prefix_of (P.rules policy.now).prefix }
 {
@@ -179,7 +182,7 @@ fn prefix_of<P: Policy>(policy: &P) -> &str
     }
 }
 
-// A text behind a prefix, unless it begins with it.
+// The text, prefixed unless it already begins with the prefix.
 fn prefixed(alloc: Global, prefix: &str, text: &str) -> Result<String, AllocError>
     ensures { IfOk result (λ made. string_bytes made ≡ prefixed prefix.now text.now) }
 {
@@ -191,7 +194,7 @@ fn prefixed(alloc: Global, prefix: &str, text: &str) -> Result<String, AllocErro
     Ok(made)
 }
 
-// Each word of a text behind a prefix, unless it begins with it.
+// The text with each word prefixed, unless it already begins with the prefix.
 fn words_prefixed(alloc: Global, prefix: &[u8], mut rest: &[u8]) -> Result<Vec<u8>, AllocError>
     ensures { IfOk result (λ made. made.items ≡ words_prefixed prefix.now true rest.entry.now) }
 {
@@ -209,7 +212,7 @@ fn words_prefixed(alloc: Global, prefix: &[u8], mut rest: &[u8]) -> Result<Vec<u
     Ok(made)
 }
 
-// What stands behind '#' behind a prefix, if anything does.
+// The text with the remainder after a leading '#' prefixed, if the remainder isn't empty.
 fn fragment_prefixed(alloc: Global, prefix: &str, text: &str) -> Result<String, AllocError>
     ensures { IfOk result (λ made. string_bytes made ≡ fragment_prefixed prefix.now text.now) }
 {
@@ -224,7 +227,7 @@ fn fragment_prefixed(alloc: Global, prefix: &str, text: &str) -> Result<String, 
     }
 }
 
-// A value behind a prefix, where it names a thing in the page or refers to one.
+// The value, prefixed if the attribute has an id or refers to some.
 fn named_behind(alloc: Global, prefix: &str, local: &str, text: &str) -> Result<String, AllocError>
     ensures { IfOk result (λ made. string_bytes made ≡ named_behind prefix.now local.now text.now) }
 {
@@ -304,7 +307,7 @@ fn set_rel<P: Policy>(
     }
 }
 
-/// What the policy leaves of an element's attributes.
+/// Returns what the policy leaves of an element's attributes. Fails with `AllocError` if an allocation fails.
 pub fn attributes_left<P: Policy, T: AttrRef, I: Iterator<Item = T> + Drop>(
     alloc: Global,
     policy: &P,

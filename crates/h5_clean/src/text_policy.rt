@@ -1,4 +1,4 @@
-//! The policy of texts.
+//! The policy for texts.
 ghost use Rattle.std.specs.Prelude.{◌≡◌};
 ghost use Rattle.std.specs.Char.{is_ascii_whitespace};
 ghost use Rattle.std.specs.List.{list_any};
@@ -10,14 +10,14 @@ use super::place::Around;
 use super::policy::Policy;
 use super::urls::{is_image, is_link};
 
-/// What a writer of comments, posts and pages needs: phrases, links, images, headings, blocks, lists and tables, 256 elements deep; no
-/// scripts, no styles, no forms, no frames. Links lead to `http`, `https`, `mailto` or a relative URL, images to all of these but
-/// `mailto`, and `rel` of each `a` is set to `noopener noreferrer`. The text may be put into an item of a list, so one that stands in no
-/// list of its own goes.
+/// The policy for comments, posts and pages: it allows phrases, links, images, headings, blocks, lists and tables, 256
+/// elements deep, and no scripts, styles, forms or frames. Links may be relative or have the scheme `http`, `https` or
+/// `mailto`, images all of these except `mailto`; `rel` of each `a` is set to `noopener noreferrer`. The result may be
+/// put into a list item, so an `li`, `dd` or `dt` outside a list is replaced by its content.
 #[derive(Clone, Copy, Debug, Default)]
 pub struct TextPolicy;
 
-// Whether an element that has a kind isn't let through all the same.
+// The element has a kind, but isn't allowed.
 #[tactic(auto, unfolding(crate::specs::TextPolicy::unnamed))]
 fn is_unnamed(name: &str) -> bool
     ensures { result ≡ is_one_of unnamed name.now }
@@ -38,7 +38,7 @@ fn is_unnamed(name: &str) -> bool
     )
 }
 
-// Whether an element goes with all that it holds: a script, a style, a frame and the like.
+// The element is dropped with its content: a script, a style, a frame and others.
 #[tactic(auto, unfolding(crate::specs::TextPolicy::dropped_names))]
 fn is_dropped(name: &str) -> bool
     ensures { result ≡ is_one_of dropped_names name.now }
@@ -60,7 +60,7 @@ fn is_dropped(name: &str) -> bool
     )
 }
 
-// Whether another element goes so: one that holds text or media of its own.
+// The element is dropped with its content, which is text or media that isn't part of the page's text.
 #[tactic(auto, unfolding(crate::specs::TextPolicy::more_dropped_names))]
 fn is_also_dropped(name: &str) -> bool
     ensures { result ≡ is_one_of more_dropped_names name.now }
@@ -71,7 +71,7 @@ fn is_also_dropped(name: &str) -> bool
     )
 }
 
-// Whether any element keeps an attribute.
+// Any element keeps this attribute.
 #[tactic(auto, unfolding(crate::specs::TextPolicy::global_names))]
 fn is_global(attribute: &str) -> bool
     ensures { result ≡ is_one_of global_names attribute.now }
@@ -79,7 +79,7 @@ fn is_global(attribute: &str) -> bool
     matches!(attribute, "title" | "lang" | "dir")
 }
 
-// Whether an element keeps an attribute that not all do.
+// The element keeps this attribute, which only some do.
 #[tactic(auto, unfolding(crate::specs::TextPolicy::keepings))]
 fn is_kept_by(element: &str, attribute: &str) -> bool
     ensures { result ≡ keeps_by keepings element.now attribute.now }
@@ -99,7 +99,7 @@ fn is_kept_by(element: &str, attribute: &str) -> bool
     }
 }
 
-// Whether an element keeps `align`.
+// The element keeps `align`.
 #[tactic(auto, unfolding(crate::specs::TextPolicy::aligned_names))]
 fn is_aligned(element: &str) -> bool
     ensures { result ≡ is_one_of aligned_names element.now }
@@ -110,7 +110,7 @@ fn is_aligned(element: &str) -> bool
     )
 }
 
-// Whether an element keeps `cite`.
+// The element keeps `cite`.
 #[tactic(auto, unfolding(crate::specs::TextPolicy::citing_names))]
 fn is_citing(element: &str) -> bool
     ensures { result ≡ is_one_of citing_names element.now }
@@ -118,7 +118,7 @@ fn is_citing(element: &str) -> bool
     matches!(element, "blockquote" | "q" | "del" | "ins")
 }
 
-// Whether an element keeps an attribute that many do.
+// The element keeps this attribute, which many do.
 fn is_kept_by_many(element: &str, attribute: &str) -> bool
     ensures { result ≡ keeps_of_many element.now attribute.now }
 {
@@ -138,14 +138,14 @@ fn has_blank(value: &str) -> bool
         .any(|byte| byte.is_ascii_whitespace())
 }
 
-// Whether a class names the language of a code.
+// The class names the language of code.
 fn is_language(value: &str) -> bool
     ensures { result ≡ is_language value.now }
 {
     value.starts_with("language-") && !has_blank(value)
 }
 
-// Whether the value of an attribute may be kept: a URL, and a class.
+// The value is allowed: that of a URL by its scheme, that of a class if it names a language.
 fn is_good(attribute: &str, value: &str) -> bool
     ensures { result ≡ is_good attribute.now value.now }
 {
@@ -160,17 +160,15 @@ fn is_good(attribute: &str, value: &str) -> bool
 impl Policy for TextPolicy {
     ghost rules = { λ policy. text_rules };
 
-    // Whether the name has a kind, and isn't one of those that are left out.
+    // The name has a kind, and isn't one of `unnamed`.
     fn names(&self, element: &str) -> bool {
         kind_of(element) != Kind::Unknown && !is_unnamed(element)
     }
 
-    // Whether what stands in the element is no text of the page.
     fn drops(&self, element: &str) -> bool {
         is_dropped(element) || is_also_dropped(element)
     }
 
-    // Whether the element keeps the attribute, and its value.
     fn keeps(&self, element: &str, attribute: &str, value: &str) -> bool {
         (is_global(attribute)
             || is_kept_by(element, attribute)
@@ -178,22 +176,22 @@ impl Policy for TextPolicy {
             && is_good(attribute, value)
     }
 
-    // What keeps a page that is linked from the page that links it.
+    // Separates a linked page from the page that links to it.
     fn rel(&self) -> Option<&str> {
         Some("noopener noreferrer")
     }
 
-    // None: neither an `id` nor a `name` is kept.
+    // Not needed: neither `id` nor `name` is kept.
     fn prefix(&self) -> Option<&str> {
         None
     }
 
-    // Comments and posts are often items of a list.
+    // Comments and posts are often list items.
     fn around(&self) -> Around {
         Around::items()
     }
 
-    // Deeper than any text, and shallow enough for who reads it.
+    // Deeper than usual texts, and shallow enough for readers of the result.
     fn depth(&self) -> usize {
         256
     }

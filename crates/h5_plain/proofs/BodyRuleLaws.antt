@@ -58,7 +58,7 @@ pub record IsSeen (barrier : Bool) (name : List ℕ) : Type 0 where
   pub no_description : is_html_among description_names (html_name name) ≡ false
   pub search : ends_item_search (html_name name) ≡ barrier
 
--- a block that is told from others by its name alone
+-- a block that has no rule except by its name
 pub record IsBlockName (name : List ℕ) : Type 0 where
   pub holds : IsHolder name
   pub starts : (a : List AttributeText) (w : World) → rule InBody (TagTurn (start name a)) w ≡ in_body_start_block (start name a) w
@@ -108,7 +108,7 @@ pub record IsHeadingName (name : List ℕ) : Type 0 where
   pub no_description : is_html_among description_names (html_name name) ≡ false
   pub outside : IsOutside name
 
--- what holds of each name holds of any one of them
+-- what holds for each name holds for any one of them
 pub of_each : (Of : List ℕ → Type 0) (names : List (List ℕ)) → HoldsOfAll Of names → (name : List ℕ) → is_one_of names name ≡ true → Of name
 of_each Of [] each name h = absurd (cc)
 of_each Of (n ∷ ns) each name h = at (of_each Of ns each.1 name) (is_same_text n name) refl h

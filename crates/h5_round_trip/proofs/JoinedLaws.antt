@@ -1,4 +1,4 @@
--- No two texts stand beside each other in the tokens of plain documents and fragments.
+-- No two texts are adjacent in the tokens of plain documents and fragments.
 use Rattle.std.proofs.Common.{◌≡◌, ℕ, Bool, true, false, List, [], ◌∷◌, cond, refl, sym, ap, ◌∙◌, subst, codes}
 use Rattle.h5_names.specs.AttributeText.{AttributeText}
 use Rattle.h5_token.specs.Joins.{glue, join}
@@ -49,7 +49,7 @@ nodes_joined _ more (Title {attrs} {first} {more = words} {rest = others} p s) h
 pub fragment_joined : {b : Bool} (ns : Nodes) → Shape b ns → join (fragment_tokens ns) ≡ fragment_tokens ns
 fragment_joined ns shape = nodes_joined (as_written ns) (EndOfFile ∷ []) (shape_written shape) tt refl
 
--- also with nothing behind them
+-- also if nothing follows them
 pub inside_joined : {b : Bool} (ns : Nodes) → Shape b ns → join (tokens_before (as_written ns) []) ≡ tokens_before (as_written ns) []
 inside_joined ns shape = nodes_joined (as_written ns) [] (shape_written shape) tt refl
 

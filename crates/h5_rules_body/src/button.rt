@@ -12,7 +12,7 @@ use h5_state::{State, Turn, pop_until_named, tell_error};
 use h5_tables::{ProcessResult, TreeError};
 use h5_token::Tag;
 
-/// A start tag `button`: one that is in scope is closed. It answers an `AllocError` where memory is refused.
+/// A start tag `button`: a `button` in scope is closed.
 #[tactic(auto, unfolding(h5_rules::specs::modes::InBody::in_body_start_button))]
 pub fn in_body_start_button<S: TreeSink>(
     sink: &mut S,

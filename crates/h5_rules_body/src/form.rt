@@ -19,8 +19,7 @@ use h5_state::{
 use h5_tables::{ProcessResult, TreeError};
 use h5_token::Tag;
 
-/// A start tag `form`: it is ignored where there is a form element, and no template is open. It answers an `AllocError`
-/// where memory is refused.
+/// A start tag `form`; it is ignored if there is a form element and no template is open.
 #[tactic(auto, unfolding(h5_rules::specs::modes::InBody::in_body_start_form))]
 pub fn in_body_start_form<S: TreeSink>(sink: &mut S, state: &mut State<S::Handle>, tag: Tag) -> Turn
     requires { IsSound S.TreeSink sink.old state.old }
@@ -37,7 +36,7 @@ pub fn in_body_start_form<S: TreeSink>(sink: &mut S, state: &mut State<S::Handle
     }
 }
 
-// The form element isn't one any more, and leaves the stack, where it is in scope.
+// Clears the form element, and removes it from the stack if it is in scope.
 #[tactic(auto, unfolding(h5_rules::specs::modes::InBody::close_the_form))]
 fn close_form_element<S: TreeSink>(sink: &mut S, state: &mut State<S::Handle>, tag: Tag) -> Turn
     requires sound { IsSound S.TreeSink sink.old state.old }
@@ -61,7 +60,7 @@ fn close_form_element<S: TreeSink>(sink: &mut S, state: &mut State<S::Handle>, t
     Ok(ProcessResult::Done)
 }
 
-// In a template, an open HTML `form` is closed, where one is in scope.
+// In a template, the open HTML `form` is closed, if one is in scope.
 #[tactic(auto, unfolding(h5_rules::specs::modes::InBody::close_open_form))]
 fn close_open_form<S: TreeSink>(sink: &mut S, state: &mut State<S::Handle>, tag: Tag) -> Turn
     requires { IsSound S.TreeSink sink.old state.old }
@@ -84,8 +83,7 @@ fn close_open_form<S: TreeSink>(sink: &mut S, state: &mut State<S::Handle>, tag:
     }
 }
 
-/// An end tag `form`: it closes the form element, wherever that stands in scope, and in a template the open one that is
-/// in scope.
+/// An end tag `form`: it closes the form element, wherever it is in scope; in a template, the open `form` in scope.
 #[tactic(auto, unfolding(h5_rules::specs::modes::InBody::in_body_end_form))]
 pub fn in_body_end_form<S: TreeSink>(sink: &mut S, state: &mut State<S::Handle>, tag: Tag) -> Turn
     requires sound { IsSound S.TreeSink sink.old state.old }

@@ -15,7 +15,7 @@ use h5_state::{
 use h5_tables::{ProcessResult, Token, TreeError};
 use h5_token::{Tag, TagKind, TokenSinkResult};
 
-// An end tag: the text's element is closed, and where it is a script's the reader is told of the element.
+// An end tag: the text's element is closed; for a script, the reply gives the element to the tokenizer.
 #[tactic(auto, unfolding(h5_rules::specs::Changes::pop))]
 fn text_end<S: TreeSink>(sink: &mut S, state: &mut State<S::Handle>, tag: Tag) -> Turn
     requires { IsOpen S.TreeSink sink.old state.old }
@@ -33,7 +33,7 @@ fn text_end<S: TreeSink>(sink: &mut S, state: &mut State<S::Handle>, tag: Tag) -
     }
 }
 
-// The end of the input: a script that is open is marked as started, and the text's element is closed.
+// The end of the file: a script that is open is marked as started, and the text's element is closed.
 #[tactic(auto, unfolding(h5_rules::specs::Changes::pop, h5_rules::specs::Changes::mark_started))]
 fn text_eof<S: TreeSink>(sink: &mut S, state: &mut State<S::Handle>) -> Turn
     requires { IsOpen S.TreeSink sink.old state.old }
@@ -49,8 +49,7 @@ fn text_eof<S: TreeSink>(sink: &mut S, state: &mut State<S::Handle>) -> Turn
     Ok(ProcessResult::Reprocess(mode))
 }
 
-/// A turn in a text. Start tags, comments and nulls don't come there; it is a parse error if one does.
-/// It answers an `AllocError` where memory is refused.
+/// A turn in "text". Start tags, comments and nulls shouldn't reach it; each is a parse error.
 pub fn step_text_mode<S: TreeSink>(sink: &mut S, state: &mut State<S::Handle>, token: Token) -> Turn
     requires open { IsOpen S.TreeSink sink.old state.old }
     requires text { HasText (turn_text token) }

@@ -44,7 +44,7 @@ fn in_frameset_start_frame<S: TreeSink>(
     Ok(ProcessResult::DoneAckSelfClosing)
 }
 
-// An end tag `frameset`: behind the outermost one, in a document, the mode is left.
+// An end tag `frameset`: after the outermost one, in a document, the mode is left.
 #[tactic(auto, unfolding(h5_rules::specs::modes::InFrameset::in_frameset_end_frameset))]
 fn in_frameset_end_frameset<S: TreeSink>(
     sink: &mut S,
@@ -104,7 +104,7 @@ fn in_frameset_tag<S: TreeSink>(sink: &mut S, state: &mut State<S::Handle>, tag:
     }
 }
 
-// The end of the file: where a frameset is open, this is a parse error.
+// The end of the file; it is a parse error if a frameset is open.
 fn in_frameset_eof<S: TreeSink>(sink: &mut S, state: &mut State<S::Handle>) -> Turn
     requires { IsSound S.TreeSink sink.old state.old }
     ensures { TakesToken S.TreeSink in_frameset Token.Eof sink.old state.old sink.new state.new result }
@@ -115,7 +115,7 @@ fn in_frameset_eof<S: TreeSink>(sink: &mut S, state: &mut State<S::Handle>) -> T
     Ok(ProcessResult::Done)
 }
 
-/// A turn in a frameset.
+/// A turn in "in frameset".
 pub fn step_in_frameset<S: TreeSink>(
     sink: &mut S,
     state: &mut State<S::Handle>,

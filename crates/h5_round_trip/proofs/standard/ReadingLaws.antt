@@ -64,7 +64,7 @@ plain_goes NullCharacter = refl
 plain_goes EndOfFile = refl
 plain_goes (ParseErrorIs d) = refl
 
--- the place behind a start tag, and behind others
+-- the place after a start tag, and after others
 abbrev pub behind_token : ReaderPlace → ℕ → TokenText → Reply → ReaderPlace
 behind_token p byte t reply = after_token t reply (behind byte (TextState text.Data) p)
 
@@ -184,7 +184,7 @@ ending (ElementThen name attrs inner rest) (Element o p i h) = past_element name
 ending (ElementThen name attrs inner rest) (Title p h) = past_element name attrs inner rest (ending rest h)
 
 module _ {M : Type 0} (reply_to : M → TokenText → Reply) (after : M → TokenText → ℕ → M) (foreign : M → Bool) (ended : M → M) where
-  -- from a place on some of all tokens were read; more of them, and this text, are left. No error was told of what
+  -- from a place on some of all tokens were read; more of them, and this text, are left. No error was reported for what
   -- was read, if no character of the input is one.
   pub record Reached (p : ReaderPlace) (m : M) (xs : List ℕ) (all : List TokenText) (title : Bool) (more : List TokenText) (rest : List ℕ) : Type 0 where
     pub place : ReaderPlace
@@ -344,7 +344,7 @@ module _ {M : Type 0} (reply_to : M → TokenText → Reply) (after : M → Toke
         },
       )
 
-  -- and no error was told, nor is there one at the end
+  -- and no error was reported, nor is there one at the end
   ends_quietly : (p : ReaderPlace) (m : M) (xs : List ℕ) (all : List TokenText) (s : Spot) → HasNoInputErrors xs → Reached p m xs all false (EndOfFile ∷ []) []
       → ReadsWithoutErrors references reply_to after foreign p s m xs
   ends_quietly p m xs all s none r =
@@ -357,7 +357,7 @@ module _ {M : Type 0} (reply_to : M → TokenText → Reply) (after : M → Toke
         none_at_end = ap (λ s. (at_end references s).errors) r.is_in.at;
       }
 
-  -- up to the end nothing was told
+  -- up to the end nothing was reported
   ends_telling_none : (p : ReaderPlace) (m : M) (xs : List ℕ) (all : List TokenText) (s : Spot) → HasNoInputErrors xs → Reached p m xs all false (EndOfFile ∷ []) []
       → TellsToEnd references reply_to after foreign p s m xs []
   ends_telling_none p m xs all s none r =
@@ -401,7 +401,7 @@ module _ {M : Type 0} (reply_to : M → TokenText → Reply) (after : M → Toke
       → ReadsWithoutErrors references reply_to after foreign (first_place default_options) s m (written_of d)
   document_quietly d m s readable answers none = ends_quietly (first_place default_options) m (written_of d) (document_tokens d) s none (document_reached d m readable answers)
 
-  -- however it is read to its end, none is told
+  -- however it is read to its end, none is reported
   pub document_tells_none : (alike : M → M → Type 0) → IsBlindToCuts reply_to after foreign ended alike → (d : PlainDocument) (m : M) (s : Spot) (told : List ToldError) → IsReadableDocument d
       → Answers reply_to after m (document_tokens d) → HasNoInputErrors (written_of d) → TellsToEnd references reply_to after foreign (first_place default_options) s m (written_of d) told → told ≡ []
   document_tells_none alike blind d m s told readable answers none tells =
