@@ -1,5 +1,5 @@
 #!/usr/bin/env python3
-"""Writes the table of named character references out of the definition's list, and what tells the common ones by their numbers.
+"""Writes the table of named character references from the list of the definition, and the match that finds the common ones by number.
 
     write_table.py           writes the files that differ
     write_table.py --check   writes nothing; the status is 1 where a file differs
@@ -90,7 +90,7 @@ def escaped(character):
 
 
 def filled(words, between, behind):
-    """Words in indented lines of at most this width, each but the last with what stands behind it."""
+    """Words in indented lines of at most this width, each but the last with the separator after it."""
     lines, line = [], INDENT
     for word in words:
         if line != INDENT and len(line + between + word + behind) > WIDTH:
@@ -110,7 +110,7 @@ def listed(numbers):
 
 
 def begins_of(texts):
-    """Where each text begins among all, one behind the other, and where the last one ends."""
+    """The offset at which each text begins if all are joined, and the end of the last one."""
     begins = [0]
     for text in texts:
         begins.append(begins[-1] + len(text))
@@ -136,7 +136,7 @@ pub static TEXT_BEGINS: [u16; {len(text_begins)}] = {listed(text_begins)};
 
 
 def arm(name, number):
-    """The arm of the match that tells a name by its bytes."""
+    """The arm of the match that finds a name by its bytes."""
     letters = ", ".join(f"b'{letter}'" for letter in name)
     return f"        [{letters}, ..] => Some({number}),\n"
 

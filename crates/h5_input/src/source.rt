@@ -67,7 +67,7 @@ fn next_bytes<'c, R: Read>(input: &mut R, chunk: &'c mut Vec<u8>) -> Result<&'c 
     Ok(&chunk.as_slice()[..count])
 }
 
-// So many bytes decide the encoding of a page.
+// The number of bytes that decide the encoding of a page.
 const SNIFFED: usize = 1024;
 
 // The first bytes of an input: as many as decide its encoding or somewhat more, or all.
