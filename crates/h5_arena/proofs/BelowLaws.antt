@@ -8,7 +8,7 @@ use Rattle.std.proofs.lemmas.List.Elements.{All-head, All-push, All-tail}
 use Prim.Native.Nat.{zero, suc}
 use Rattle.h5_interface.specs.Forest.{Child, ChildNode, ChildText, Forest, Node, children_of}
 use Rattle.h5_arena.specs.ArenaModel.{ArenaView, IsChildHeld, IsHeld, at_node, child_view, child_views, forest_seen}
-use Rattle.h5_arena.specs.Kin.{all_below, with_below}
+use Rattle.h5_arena.specs.Kin.{descendants_with_text, with_below}
 use Rattle.h5_arena.specs.Lent.{AreHeldLent, IsHeldLent, lent_view, lent_views}
 use Rattle.h5_arena.specs.declared.nodes.Child as kept
 use Rattle.h5_arena.specs.declared.nodes.NodeId.{NodeId}
@@ -38,7 +38,7 @@ AreHeld a (w ∷ ws) = All (IsChildHeld a) w.now × AreHeld a ws
 -- some are found, and the others are left
 abbrev pub IsWalking : ArenaView → ℕ → List (Bor kept.Child) → List kept.Child → List (Bor (List kept.Child)) → Type 0
 IsWalking a n found rest waiting =
-    (lent_views found ++ left a rest waiting ≡ all_below (forest_seen a) n)
+    (lent_views found ++ left a rest waiting ≡ descendants_with_text (forest_seen a) n)
     × (length waiting ≤ (forest_seen a).bound) × All (IsChildHeld a) rest × AreHeld a waiting × AreHeldLent a found
 
 text_alone : (f : Forest) (k : ℕ) (t : List ℕ) → with_below k f (ChildText t) ≡ ChildText t ∷ []
@@ -208,7 +208,7 @@ module _ (a : ArenaView) (n : ℕ) (found : List (Bor kept.Child)) (rest : List 
   less_up = let e = ap length up in let s = shorter in omega (arith, e, s)
 
 -- nothing is left
-pub ends : (a : ArenaView) (n : ℕ) (found : List (Bor kept.Child)) (rest : List kept.Child) (waiting : List (Bor (List kept.Child))) → rest ≡ [] → waiting ≡ [] → IsWalking a n found rest waiting → lent_views found ≡ all_below (forest_seen a) n
+pub ends : (a : ArenaView) (n : ℕ) (found : List (Bor kept.Child)) (rest : List kept.Child) (waiting : List (Bor (List kept.Child))) → rest ≡ [] → waiting ≡ [] → IsWalking a n found rest waiting → lent_views found ≡ descendants_with_text (forest_seen a) n
 ends a n found rest waiting none last way =
     sym (append-nil (lent_views found))
     ∙ ap (λ l. lent_views found ++ l) (sym (ap (λ r. left a r waiting) none ∙ ap (left a []) last))

@@ -3,11 +3,11 @@
 use Rattle.std.specs.Prelude.{◌≡◌, ◌≢◌, ℕ, List, [], ◌∷◌, Option, None, Some}
 use Prim.Native.Nat.{zero, suc}
 use Rattle.h5_interface.specs.Forest.{Child, ChildNode, ChildText, DocumentNode, Forest, Node, kind_of}
-use Rattle.h5_arena.specs.declared.fault.TreeFault.{TreeFault}
-use Rattle.h5_arena.specs.declared.fault.TreeFault.TheVariants.{IsDocument, Memory}
+use Rattle.h5_arena.specs.declared.fault.EditError.{EditError}
+use Rattle.h5_arena.specs.declared.fault.EditError.TheVariants.{IsDocument, Memory}
 
 -- the reason that a node is not copied: it is the document. An allocation can fail only if it isn't
-abbrev pub KeepsFromCopy : Forest → ℕ → TreeFault → Type 0
+abbrev pub KeepsFromCopy : Forest → ℕ → EditError → Type 0
 KeepsFromCopy f n IsDocument = kind_of f n ≡ Some DocumentNode
 KeepsFromCopy f n Memory = kind_of f n ≢ Some DocumentNode
 KeepsFromCopy f n fault = ⊥

@@ -8,8 +8,8 @@ use Rattle.h5_interface.specs.Changes.{change_nodes, detach_from, edit_children,
 use Rattle.h5_interface.specs.Forest.{Child, ChildNode, ChildText, DocumentNode, Forest, IsNode, children_of, kind_of, parent_of}
 use Rattle.h5_interface.specs.Seen.{CanAppend, CanInsertBefore}
 use Rattle.h5_arena.specs.ArenaModel.{IsChildOf, IsNoChild, child_parent}
-use Rattle.h5_arena.specs.declared.fault.TreeFault.{TreeFault}
-use Rattle.h5_arena.specs.declared.fault.TreeFault.TheVariants.{EmptyText, HasParent, IsDocument, Memory, NoParent, NotHere, WouldNestInItself}
+use Rattle.h5_arena.specs.declared.fault.EditError.{EditError}
+use Rattle.h5_arena.specs.declared.fault.EditError.TheVariants.{EmptyText, HasParent, IsDocument, Memory, NoParent, UnknownNode, WouldBeCycle}
 
 -- true if an attribute has this local name and no namespace
 abbrev pub is_named : List ℕ → AttributeText → Bool
@@ -51,23 +51,23 @@ IsThere f (ChildNode c) = IsNode f c
 IsThere f (ChildText t) = Unit {0}
 
 -- the reason that a child can't be inserted below p
-abbrev pub Bars : Forest → (p : ℕ) → Child → TreeFault → Type 0
+abbrev pub Bars : Forest → (p : ℕ) → Child → EditError → Type 0
 Bars f p (ChildNode c) IsDocument = kind_of f c ≡ Some DocumentNode
 Bars f p (ChildNode c) HasParent = parent_of f c ≢ None
-Bars f p (ChildNode c) WouldNestInItself = AtOrAbove (parent_of f) c p
+Bars f p (ChildNode c) WouldBeCycle = AtOrAbove (parent_of f) c p
 Bars f p (ChildNode c) _ = ⊥
 Bars f p (ChildText t) EmptyText = t ≡ []
 Bars f p (ChildText t) _ = ⊥
 
 -- the reason that a child can't be appended to p; an allocation can fail only if it could be
-abbrev pub KeepsFromAppend : Forest → (p : ℕ) → Child → TreeFault → Type 0
-KeepsFromAppend f p x NotHere = ¬ (IsNode f p × IsThere f x)
+abbrev pub KeepsFromAppend : Forest → (p : ℕ) → Child → EditError → Type 0
+KeepsFromAppend f p x UnknownNode = ¬ (IsNode f p × IsThere f x)
 KeepsFromAppend f p x Memory = CanAppend f p x
 KeepsFromAppend f p x fault = IsNode f p × IsThere f x × Bars f p x fault
 
 -- the reason that a child can't be inserted before s
-abbrev pub KeepsFromInsert : Forest → (s : ℕ) → Child → TreeFault → Type 0
-KeepsFromInsert f s x NotHere = ¬ (IsNode f s × IsThere f x)
+abbrev pub KeepsFromInsert : Forest → (s : ℕ) → Child → EditError → Type 0
+KeepsFromInsert f s x UnknownNode = ¬ (IsNode f s × IsThere f x)
 KeepsFromInsert f s x NoParent = IsNode f s × IsThere f x × IsNoChild f s
 KeepsFromInsert f s x Memory = CanInsertBefore f s x
 KeepsFromInsert f s x fault = (p : ℕ) × IsChildOf f s p × IsThere f x × Bars f p x fault

@@ -22,8 +22,8 @@ abbrev pub ancestors : Forest → ℕ → List ℕ
 ancestors f = ancestors_within f.bound f
 
 -- the children of a node's parent; those before the node; those after it
-abbrev pub children_around : Forest → ℕ → List Child
-children_around f n = option_map_or (children_of f) (tree_parent f n) []
+abbrev pub siblings_with_self : Forest → ℕ → List Child
+siblings_with_self f n = option_map_or (children_of f) (tree_parent f n) []
 
 abbrev pub children_before : ℕ → List Child → List Child
 children_before n [] = []
@@ -47,12 +47,12 @@ with_below zero f (ChildNode n) = ChildNode n ∷ []
 with_below (suc levels) f (ChildNode n) = ChildNode n ∷ flat_map (with_below levels f) (children_of f n)
 
 -- everything below a node: there are no more levels than nodes
-abbrev pub all_below : Forest → ℕ → List Child
-all_below f n = flat_map (with_below f.bound f) (children_of f n)
+abbrev pub descendants_with_text : Forest → ℕ → List Child
+descendants_with_text f n = flat_map (with_below f.bound f) (children_of f n)
 
 -- the nodes among them
 abbrev pub descendants : Forest → ℕ → List ℕ
-descendants f n = nodes (all_below f n)
+descendants f n = nodes (descendants_with_text f n)
 
 -- the texts among children, joined
 abbrev pub texts_among : List Child → List ℕ

@@ -6,9 +6,9 @@ ghost use Rattle.h5_arena.specs.ArenaModel.{IsHeld, IsNoChild, KeepsErrors, fore
 ghost use Rattle.h5_arena.specs.Copy.{IsCopyOf, KeepsFromCopy};
 ghost use Rattle.h5_arena.specs.Edits.{KeepsFromAppend, KeepsFromInsert, edit_attrs, take_out, text_alone, with_text, with_value, without_named};
 ghost use Rattle.h5_arena.specs.Html.{outer_html};
-ghost use Rattle.h5_arena.specs.declared.fault.TreeFault.TheVariants.{Memory};
+ghost use Rattle.h5_arena.specs.declared.fault.EditError.TheVariants.{Memory};
 
-use super::fault::TreeFault;
+use super::fault::EditError;
 use super::nodes::{Kind, NodeId};
 use super::tree::Arena;
 use super::{copies, edit_attributes, edit_text, links, standing};
@@ -94,7 +94,7 @@ impl Arena {
     /// original, and is a started script if the original is one; it has no form owner. The cost is that of what is copied, regardless of
     /// its depth. Fails with `IsDocument` for the document, and with `Memory` if an allocation fails; then the arena is unchanged. `id`
     /// must be a node of this arena.
-    pub fn copy(&mut self, id: NodeId) -> Result<NodeId, TreeFault>
+    pub fn copy(&mut self, id: NodeId) -> Result<NodeId, EditError>
         requires { IsHeld self.old id }
         ensures new { IfOk result (λ copy. copy.index ≡ length self.old.nodes) }
         ensures held { IfOk result (λ copy. IsHeld self.new copy) }
@@ -111,7 +111,7 @@ impl Arena {
         ensures elements { (n : ℕ) → IsElement (forest_seen self.old) n → IsElement (forest_seen self.new) n }
     {
         if matches!(self.kind(id), Kind::Document) {
-            return Err(TreeFault::IsDocument);
+            return Err(EditError::IsDocument);
         }
         let index = self.nodes.len();
         let mut copies = copies::copies(self.alloc, self.nodes.as_slice(), id)?;
@@ -121,7 +121,7 @@ impl Arena {
 
     /// Appends a child to a node, as `append` does; a text is joined with a text before it. Fails with the reason if the child isn't
     /// allowed there, and with `Memory` if an allocation fails; then the arena is unchanged. A cycle is found by walking up from the node.
-    pub fn try_append(&mut self, parent: NodeId, child: NodeOrText<NodeId>) -> Result<(), TreeFault>
+    pub fn try_append(&mut self, parent: NodeId, child: NodeOrText<NodeId>) -> Result<(), EditError>
         ensures ok { OnOk result (seen_of self.new ≡ after_append parent.index (child_of place child) (seen_of self.old)) }
         ensures may { OnOk result (CanAppend (forest_seen self.old) parent.index (child_of place child)) }
         ensures told { IfErr result (λ fault. KeepsFromAppend (forest_seen self.old) parent.index (child_of place child) fault) }
@@ -142,7 +142,7 @@ impl Arena {
         &mut self,
         sibling: NodeId,
         child: NodeOrText<NodeId>,
-    ) -> Result<(), TreeFault>
+    ) -> Result<(), EditError>
         ensures ok { OnOk result
             (seen_of self.new ≡ after_append_before sibling.index (child_of place child) (seen_of self.old)) }
         ensures may { OnOk result (CanInsertBefore (forest_seen self.old) sibling.index (child_of place child)) }

@@ -6,10 +6,10 @@ use thiserror::Error;
 
 /// The reason that an edit isn't possible. Nothing has changed.
 #[derive(Clone, Copy, Debug, PartialEq, Eq, Error)]
-pub enum TreeFault {
+pub enum EditError {
     /// One of the ids is not a node of the arena.
     #[error("no node of the arena")]
-    NotHere,
+    UnknownNode,
     /// The child, or the node to copy, is the document.
     #[error("the document has no parent")]
     IsDocument,
@@ -18,7 +18,7 @@ pub enum TreeFault {
     HasParent,
     /// The child is the new parent, or an ancestor of it.
     #[error("the node would stand below itself")]
-    WouldNestInItself,
+    WouldBeCycle,
     /// The text is empty.
     #[error("the text is empty")]
     EmptyText,
@@ -30,12 +30,12 @@ pub enum TreeFault {
     Memory,
 }
 
-impl From<AllocError> for TreeFault {
-    ghost use Rattle.h5_arena.specs.declared.fault.TreeFault.TheVariants.{Memory};
+impl From<AllocError> for EditError {
+    ghost use Rattle.h5_arena.specs.declared.fault.EditError.TheVariants.{Memory};
 
     ghost from_gives = { λ _ fault. fault ≡ Memory };
 
-    fn from(_error: AllocError) -> TreeFault {
-        TreeFault::Memory
+    fn from(_error: AllocError) -> EditError {
+        EditError::Memory
     }
 }

@@ -3,7 +3,7 @@ ghost use Rattle.std.specs.Prelude.{◌≡◌, All, IfOk, IfSome, Some, map, str
 ghost use Rattle.std.specs.Option.{option_map};
 ghost use Rattle.h5_interface.specs.Forest.{nodes};
 ghost use Rattle.h5_arena.specs.ArenaModel.{ArenaView, IsChildHeld, IsHeld, at_node, child_view, child_views, forest_seen, place};
-ghost use Rattle.h5_arena.specs.Kin.{all_below, ancestors, children_around, children_before, children_behind, descendants, first_of, last_of, texts_among};
+ghost use Rattle.h5_arena.specs.Kin.{descendants_with_text, ancestors, siblings_with_self, children_before, children_behind, descendants, first_of, last_of, texts_among};
 ghost use Rattle.h5_arena.specs.Lent.{AreHeldLent, lent_views};
 
 use super::children::is_node;
@@ -66,9 +66,9 @@ fn texts_among(alloc: Global, children: &[&Child]) -> Result<String, AllocError>
 
 impl Arena {
     /// The children of a node's parent: the node itself and its siblings; none if the node is not a child.
-    pub fn children_around(&self, id: NodeId) -> &[Child]
+    pub fn siblings_with_self(&self, id: NodeId) -> &[Child]
         requires { IsHeld self.now id }
-        ensures children { child_views result.now ≡ children_around (forest_seen self.now) id.index }
+        ensures children { child_views result.now ≡ siblings_with_self (forest_seen self.now) id.index }
         ensures held { All (IsChildHeld self.now) result.now }
     {
         match self.parent(id) {
@@ -80,19 +80,19 @@ impl Arena {
     /// The siblings before a node, in order. Searches the children of the parent for the node.
     pub fn siblings_before(&self, id: NodeId) -> &[Child]
         requires { IsHeld self.now id }
-        ensures children { child_views result.now ≡ children_before id.index (children_around (forest_seen self.now) id.index) }
+        ensures children { child_views result.now ≡ children_before id.index (siblings_with_self (forest_seen self.now) id.index) }
         ensures held { All (IsChildHeld self.now) result.now }
     {
-        before(self.children_around(id), id)
+        before(self.siblings_with_self(id), id)
     }
 
     /// The siblings after a node, in order. Searches the children of the parent for the node.
-    pub fn siblings_behind(&self, id: NodeId) -> &[Child]
+    pub fn siblings_after(&self, id: NodeId) -> &[Child]
         requires { IsHeld self.now id }
-        ensures children { child_views result.now ≡ children_behind id.index (children_around (forest_seen self.now) id.index) }
+        ensures children { child_views result.now ≡ children_behind id.index (siblings_with_self (forest_seen self.now) id.index) }
         ensures held { All (IsChildHeld self.now) result.now }
     {
-        behind(self.children_around(id), id)
+        behind(self.siblings_with_self(id), id)
     }
 
     /// The first child of a node, a node or a text, if there is one.
@@ -116,7 +116,7 @@ impl Arena {
     /// The previous sibling of a node, a node or a text, if there is one.
     pub fn previous_sibling(&self, id: NodeId) -> Option<&Child>
         requires { IsHeld self.now id }
-        ensures sibling { option_map (λ c. child_view c.now) result ≡ last_of (children_before id.index (children_around (forest_seen self.now) id.index)) }
+        ensures sibling { option_map (λ c. child_view c.now) result ≡ last_of (children_before id.index (siblings_with_self (forest_seen self.now) id.index)) }
         ensures held { IfSome result (λ c. IsChildHeld self.now c.now) }
     {
         self.siblings_before(id).last()
@@ -125,10 +125,10 @@ impl Arena {
     /// The next sibling of a node, a node or a text, if there is one.
     pub fn next_sibling(&self, id: NodeId) -> Option<&Child>
         requires { IsHeld self.now id }
-        ensures sibling { option_map (λ c. child_view c.now) result ≡ first_of (children_behind id.index (children_around (forest_seen self.now) id.index)) }
+        ensures sibling { option_map (λ c. child_view c.now) result ≡ first_of (children_behind id.index (siblings_with_self (forest_seen self.now) id.index)) }
         ensures held { IfSome result (λ c. IsChildHeld self.now c.now) }
     {
-        self.siblings_behind(id).first()
+        self.siblings_after(id).first()
     }
 
     /// Returns the ancestors of a node, the nearest first. Fails with `AllocError` if an allocation fails.
@@ -150,9 +150,9 @@ impl Arena {
     }
 
     /// Returns everything below a node, nodes and texts, in tree order. Fails with `AllocError` if an allocation fails.
-    pub fn all_below(&self, id: NodeId) -> Result<Vec<&Child>, AllocError>
+    pub fn descendants_with_text(&self, id: NodeId) -> Result<Vec<&Child>, AllocError>
         requires { IsHeld self.now id }
-        ensures found { IfOk result (λ found. lent_views found.items ≡ all_below (forest_seen self.now) id.index) }
+        ensures found { IfOk result (λ found. lent_views found.items ≡ descendants_with_text (forest_seen self.now) id.index) }
         ensures held { IfOk result (λ found. AreHeldLent self.now found.items) }
     {
         let mut found = Vec::new(self.alloc);
@@ -184,7 +184,7 @@ impl Arena {
         ensures found { IfOk result (λ found. map place found.items ≡ descendants (forest_seen self.now) id.index) }
         ensures held { IfOk result (λ found. All (IsHeld self.now) found.items) }
     {
-        let below = self.all_below(id)?;
+        let below = self.descendants_with_text(id)?;
         nodes_among(self, below.as_slice())
     }
 
@@ -192,9 +192,9 @@ impl Arena {
     /// if an allocation fails.
     pub fn text(&self, id: NodeId) -> Result<String, AllocError>
         requires { IsHeld self.now id }
-        ensures { IfOk result (λ text. string_bytes text ≡ texts_among (all_below (forest_seen self.now) id.index)) }
+        ensures { IfOk result (λ text. string_bytes text ≡ texts_among (descendants_with_text (forest_seen self.now) id.index)) }
     {
-        let below = self.all_below(id)?;
+        let below = self.descendants_with_text(id)?;
         texts_among(self.alloc, below.as_slice())
     }
 }

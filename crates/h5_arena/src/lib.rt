@@ -36,7 +36,7 @@ mod standing;
 mod tree;
 mod walk;
 
-pub use fault::TreeFault;
+pub use fault::EditError;
 pub use nodes::{Child, Kind, NodeId};
 pub use tree::Arena;
 pub use walk::NodeRef;

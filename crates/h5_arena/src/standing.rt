@@ -6,7 +6,7 @@ ghost use Rattle.h5_interface.specs.Seen.{CanAppend, CanInsertBefore, IsFreeFor,
 ghost use Rattle.h5_arena.specs.ArenaModel.{IsChildOf, IsNoChild, forest_in, place};
 ghost use Rattle.h5_arena.specs.Edits.{Bars, IsThere, KeepsFromAppend, KeepsFromInsert};
 
-use super::fault::TreeFault;
+use super::fault::EditError;
 use super::nodes::{Kind, NodeData, NodeId};
 use h5_interface::NodeOrText;
 
@@ -32,7 +32,7 @@ fn is_at_or_above(nodes: &[NodeData], above: NodeId, id: NodeId) -> bool
 }
 
 // Succeeds if a node may become a child of another; the error is the reason why not.
-fn check_node(nodes: &[NodeData], parent: NodeId, id: NodeId) -> Result<(), TreeFault>
+fn check_node(nodes: &[NodeData], parent: NodeId, id: NodeId) -> Result<(), EditError>
     requires parent { parent.index < length nodes.now }
     requires held { id.index < length nodes.now }
     requires forest { IsForest (forest_in nodes.now) }
@@ -41,13 +41,13 @@ fn check_node(nodes: &[NodeData], parent: NodeId, id: NodeId) -> Result<(), Tree
 {
     let node = &nodes[id.index];
     if matches!(&*node.kind, Kind::Document) {
-        return Err(TreeFault::IsDocument);
+        return Err(EditError::IsDocument);
     }
     if node.parent.node().is_some() {
-        return Err(TreeFault::HasParent);
+        return Err(EditError::HasParent);
     }
     if is_at_or_above(nodes, id, parent) {
-        return Err(TreeFault::WouldNestInItself);
+        return Err(EditError::WouldBeCycle);
     }
     Ok(())
 }
@@ -57,7 +57,7 @@ fn check_below(
     nodes: &[NodeData],
     parent: NodeId,
     child: &NodeOrText<NodeId>,
-) -> Result<(), TreeFault>
+) -> Result<(), EditError>
     requires parent { parent.index < length nodes.now }
     requires child { IsThere (forest_in nodes.now) (child_of place child.now) }
     requires forest { IsForest (forest_in nodes.now) }
@@ -68,7 +68,7 @@ fn check_below(
         NodeOrText::AppendNode(id) => check_node(nodes, parent, *id),
         NodeOrText::AppendText(text) => {
             if text.is_empty() {
-                return Err(TreeFault::EmptyText);
+                return Err(EditError::EmptyText);
             }
             Ok(())
         }
@@ -91,16 +91,16 @@ pub(crate) fn check_append(
     nodes: &[NodeData],
     parent: NodeId,
     child: &NodeOrText<NodeId>,
-) -> Result<(), TreeFault>
+) -> Result<(), EditError>
     requires { IsForest (forest_in nodes.now) }
     ensures may { OnOk result (CanAppend (forest_in nodes.now) parent.index (child_of place child.now)) }
     ensures told { IfErr result (λ fault. KeepsFromAppend (forest_in nodes.now) parent.index (child_of place child.now) fault) }
 {
     if parent.index >= nodes.len() {
-        return Err(TreeFault::NotHere);
+        return Err(EditError::UnknownNode);
     }
     if !is_there(nodes, child) {
-        return Err(TreeFault::NotHere);
+        return Err(EditError::UnknownNode);
     }
     check_below(nodes, parent, child)
 }
@@ -123,19 +123,19 @@ pub(crate) fn check_insert(
     nodes: &[NodeData],
     sibling: NodeId,
     child: &NodeOrText<NodeId>,
-) -> Result<(), TreeFault>
+) -> Result<(), EditError>
     requires { IsForest (forest_in nodes.now) }
     ensures may { OnOk result (CanInsertBefore (forest_in nodes.now) sibling.index (child_of place child.now)) }
     ensures told { IfErr result (λ fault. KeepsFromInsert (forest_in nodes.now) sibling.index (child_of place child.now) fault) }
 {
     if sibling.index >= nodes.len() {
-        return Err(TreeFault::NotHere);
+        return Err(EditError::UnknownNode);
     }
     if !is_there(nodes, child) {
-        return Err(TreeFault::NotHere);
+        return Err(EditError::UnknownNode);
     }
     match parent_of_child(nodes, sibling) {
-        None => Err(TreeFault::NoParent),
+        None => Err(EditError::NoParent),
         Some(parent) => check_below(nodes, parent, child),
     }
 }

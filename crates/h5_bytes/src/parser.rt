@@ -93,15 +93,15 @@ impl<R: Reader + Drop> BytesParser<R> {
     pub fn has_errors(&self) -> bool
         ensures { result ≡ nat_lt 0 (replaced_in self.now.stage) }
     {
-        self.stage.replaced() > 0
+        self.stage.replacement_count() > 0
     }
 
     /// Returns how many U+FFFD have replaced bytes, as far as their text is decided. The count stops at the maximum of `u64`.
     /// UTF-8 isn't counted: always 0 for it.
-    pub fn replaced(&self) -> u64
+    pub fn replacement_count(&self) -> u64
         ensures { result ≡ replaced_in self.now.stage }
     {
-        self.stage.replaced()
+        self.stage.replacement_count()
     }
 
     // Parses the next chunk of the bytes, even if the parser has failed.

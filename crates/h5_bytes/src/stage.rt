@@ -93,12 +93,12 @@ impl Stage {
     }
 
     // Returns how many U+FFFD have replaced bytes.
-    pub(super) fn replaced(&self) -> u64
+    pub(super) fn replacement_count(&self) -> u64
         ensures { result ≡ replaced_in self.now }
     {
         match self {
             Stage::Sniffing(_first) => 0,
-            Stage::Decoding(decoder, _source) => decoder.replaced(),
+            Stage::Decoding(decoder, _source) => decoder.replacement_count(),
         }
     }
 }

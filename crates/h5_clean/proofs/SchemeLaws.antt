@@ -8,7 +8,7 @@ use Rattle.std.specs.Char.{is_ascii_alphabetic, is_ascii_digit, to_ascii_lowerca
 use Rattle.h5_names.specs.AttributeText.{is_same_text}
 use Rattle.h5_clean.proofs.ListLaws.{any_of_map}
 use Rattle.h5_clean.specs.AllowLists.{leads_well}
-use Rattle.h5_clean.specs.TextPolicy.{has_scheme_of, image_schemes, is_scheme_byte, is_skipped, link_schemes, scheme_behind, scheme_of_visible}
+use Rattle.h5_clean.specs.DefaultPolicy.{has_scheme_of, image_schemes, is_scheme_byte, is_skipped, link_schemes, scheme_behind, scheme_of_visible}
 
 -- bytes of a scheme up to ':'
 abbrev pub has_end : List ℕ → Bool

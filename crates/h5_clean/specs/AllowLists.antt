@@ -4,7 +4,7 @@ use Rattle.std.specs.List.{list_any}
 use Rattle.h5_names.specs.AttributeText.{is_same_text}
 use Rattle.h5_tables.specs.TagSets.{is_one_of}
 use Rattle.h5_clean.specs.Policies.{Rules}
-use Rattle.h5_clean.specs.TextPolicy.{Keeping, scheme_of}
+use Rattle.h5_clean.specs.DefaultPolicy.{Keeping, scheme_of}
 use Rattle.h5_clean.specs.declared.place.Around.{Around}
 
 -- elements; elements that are dropped with their content; attributes of any element, and of some; attributes that hold

@@ -2,7 +2,7 @@
 ghost use Rattle.std.specs.Prelude.{◌≡◌, ◌∷◌, ◌++◌, [], None, Some, OnOk, OnErr, true, false};
 ghost use Rattle.h5_tables.specs.TagSets.{is_one_of};
 ghost use Rattle.h5_clean.specs.AllowLists.{holds_url, is_listed, keeps_listed, leads_well, more_url_names, table_rules, url_names};
-ghost use Rattle.h5_clean.specs.TextPolicy.{keeping, scheme_of};
+ghost use Rattle.h5_clean.specs.DefaultPolicy.{keeping, scheme_of};
 
 use super::name_list::{AttributeList, NameList, any_keeps};
 use super::place::Around;
@@ -145,7 +145,7 @@ impl AllowList {
     }
 
     /// Drops elements of this name with their content. Fails with `AllocError` if an allocation fails.
-    pub fn add_dropped(&mut self, name: &str) -> Result<(), AllocError>
+    pub fn drop_element(&mut self, name: &str) -> Result<(), AllocError>
         ensures ok { OnOk result (self.new ≡ record self.old { dropped = self.old.dropped ++ name.now ∷ [] }) }
         ensures err { OnErr result (self.new ≡ self.old) }
     {
@@ -161,7 +161,7 @@ impl AllowList {
     }
 
     /// Allows attributes of a name for the elements of another. Fails with `AllocError` if an allocation fails.
-    pub fn add_attribute_of(&mut self, element: &str, name: &str) -> Result<(), AllocError>
+    pub fn add_attribute_for(&mut self, element: &str, name: &str) -> Result<(), AllocError>
         ensures ok { OnOk result (self.new ≡ record self.old {
           attributes_of = self.old.attributes_of ++ keeping element.now (name.now ∷ []) ∷ [];
         }) }
@@ -174,7 +174,7 @@ impl AllowList {
 
     /// Treats attributes of this name as URLs, so that their schemes are checked; `href`, `src`, `cite`, `poster` and
     /// other attributes of HTML always are. Fails with `AllocError` if an allocation fails.
-    pub fn add_url(&mut self, name: &str) -> Result<(), AllocError>
+    pub fn add_url_attribute(&mut self, name: &str) -> Result<(), AllocError>
         ensures ok { OnOk result (self.new ≡ record self.old { urls = self.old.urls ++ name.now ∷ [] }) }
         ensures err { OnErr result (self.new ≡ self.old) }
     {
@@ -191,7 +191,7 @@ impl AllowList {
     }
 
     /// Allows no relative URLs.
-    pub fn refuse_relative(&mut self)
+    pub fn deny_relative(&mut self)
         ensures { self.new ≡ record self.old { relative = false } }
     {
         self.relative = false;
@@ -210,7 +210,7 @@ impl AllowList {
     /// Sets a prefix for ids: for the values of each `id` and `name` that is kept, and for the references to them. It
     /// is put before a value that doesn't begin with it. A prefix with ASCII whitespace or NUL is ignored. Fails with
     /// `AllocError` if an allocation fails.
-    pub fn set_prefix(&mut self, prefix: &str) -> Result<(), AllocError>
+    pub fn set_id_prefix(&mut self, prefix: &str) -> Result<(), AllocError>
         ensures ok { OnOk result (self.new ≡ record self.old { prefix = Some prefix.now }) }
         ensures err { OnErr result (self.new ≡ self.old) }
     {
@@ -259,7 +259,7 @@ impl AllowList {
 impl Policy for AllowList {
     ghost rules = { table_rules };
 
-    fn names(&self, element: &str) -> bool {
+    fn allows(&self, element: &str) -> bool {
         self.elements.has(element)
     }
 
@@ -267,7 +267,7 @@ impl Policy for AllowList {
         self.dropped.has(element)
     }
 
-    fn keeps(&self, element: &str, attribute: &str, value: &str) -> bool {
+    fn keeps_attribute(&self, element: &str, attribute: &str, value: &str) -> bool {
         self.lists(element, attribute) && (!self.holds_url(attribute) || self.may_lead_to(value))
     }
 

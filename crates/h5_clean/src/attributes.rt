@@ -271,7 +271,7 @@ fn keep<P: Policy, T: AttrRef>(
         return Ok(());
     }
     let value = value_left(alloc, prefix, local, attr.value())?;
-    if policy.keeps(element, local, value.as_str())
+    if policy.keeps_attribute(element, local, value.as_str())
         && !sets(policy, element, local)
         && !has_name(left.as_slice(), &name.local)
     {

@@ -120,7 +120,7 @@ impl<'a, P: Policy, Wr: Write + Drop> Cleaner<'a, P, Wr> {
     fn lets(&self, name: &QualName, place: Place, kind: Kind) -> bool
         ensures { result ≡ (is_html name.now && ((P.rules self.now.policy.now).names name.now.local && fits kind place)) }
     {
-        name.ns.is_html() && self.policy.names(name.local.as_str()) && place.fits(kind)
+        name.ns.is_html() && self.policy.allows(name.local.as_str()) && place.fits(kind)
     }
 
     // The place of the content of an element that isn't allowed.
@@ -128,7 +128,7 @@ impl<'a, P: Policy, Wr: Write + Drop> Cleaner<'a, P, Wr> {
         ensures { result ≡ (if is_dropped (P.rules self.now.policy.now) name.now then nowhere place else place) }
     {
         let local = name.local.as_str();
-        if !name.ns.is_html() || (self.policy.drops(local) && !self.policy.names(local)) {
+        if !name.ns.is_html() || (self.policy.drops(local) && !self.policy.allows(local)) {
             return place.nowhere();
         }
         place

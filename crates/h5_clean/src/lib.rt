@@ -6,7 +6,7 @@
 //! (`place`). An element that isn't left is replaced by its content, or dropped with it. No attribute is left that
 //! `is_refused`.
 //!
-//! `clean` has the functions, `policy` the trait, `text_policy` a policy for texts, and `allow_list` one that is a
+//! `clean` has the functions, `policy` the trait, `default_policy` a policy for texts, and `allow_list` one that is a
 //! table, over `name_list`; `urls` has the schemes of URLs. `cleaner` is a serializer that passes what is allowed on to
 //! the one that writes HTML; `attributes` and `texts` have what is left of these, and `elements` the open elements.
 //!
@@ -19,13 +19,13 @@ mod allow_list;
 mod attributes;
 mod cleaner;
 mod cleaning;
+mod default_policy;
 mod elements;
 mod kind;
 pub mod laws;
 mod name_list;
 mod place;
 mod policy;
-mod text_policy;
 mod texts;
 mod urls;
 
@@ -33,8 +33,8 @@ pub use allow_list::AllowList;
 pub use attributes::{is_prefix, is_refused, may_act};
 pub use cleaner::{Cleaner, Front};
 pub use cleaning::{clean, clean_into, clean_tree};
+pub use default_policy::DefaultPolicy;
 pub use elements::OpenElement;
 pub use kind::{Kind, kind_of};
 pub use place::{Around, Place, Spot};
 pub use policy::Policy;
-pub use text_policy::TextPolicy;

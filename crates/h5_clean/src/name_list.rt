@@ -4,7 +4,7 @@ ghost use Rattle.std.specs.List.{list_any};
 ghost use Rattle.h5_names.specs.AttributeText.{is_same_text};
 ghost use Rattle.h5_tables.specs.TagSets.{is_one_of};
 ghost use Rattle.h5_clean.specs.AllowLists.{is_listed_for};
-ghost use Rattle.h5_clean.specs.TextPolicy.{keeping};
+ghost use Rattle.h5_clean.specs.DefaultPolicy.{keeping};
 
 use std::alloc::{AllocError, Global};
 use std::marker::Model;
@@ -74,7 +74,7 @@ pub struct AttributeList {
 
 impl Model for AttributeList {
     ghost use Rattle.std.specs.Prelude.{string_bytes};
-    ghost use Rattle.h5_clean.specs.TextPolicy.{Keeping};
+    ghost use Rattle.h5_clean.specs.DefaultPolicy.{Keeping};
 
     ghost Value = { Keeping };
 

@@ -16,7 +16,7 @@ pub trait Policy {
     ghost rules: { Self → Rules };
 
     /// Returns true if an HTML element of this local name is allowed, if it fits at its place.
-    fn names(&self, element: &str) -> bool
+    fn allows(&self, element: &str) -> bool
         ensures { result ≡ (rules self.now).names element.now };
 
     /// Returns true if an element that isn't allowed is dropped with its content. Otherwise its content replaces it.
@@ -25,7 +25,7 @@ pub trait Policy {
 
     /// Returns true if an element keeps an attribute of this name and value. The value is the one that would be left;
     /// if the attribute has an id, or refers to some, it is prefixed.
-    fn keeps(&self, element: &str, attribute: &str, value: &str) -> bool
+    fn keeps_attribute(&self, element: &str, attribute: &str, value: &str) -> bool
         ensures { result ≡ (rules self.now).keeps element.now attribute.now value.now };
 
     /// Returns the value that the attribute `rel` of each `a` is set to, if it is set.

@@ -4,7 +4,7 @@ ghost use Rattle.std.specs.List.{list_any};
 ghost use Rattle.std.specs.Option.{option_eq};
 ghost use Rattle.h5_names.specs.AttributeText.{is_same_text};
 ghost use Rattle.h5_clean.specs.AllowLists.{leads_well};
-ghost use Rattle.h5_clean.specs.TextPolicy.{behind_controls, has_scheme_of, image_schemes, is_scheme_byte, is_skipped, link_schemes, scheme_behind, scheme_of, scheme_of_visible};
+ghost use Rattle.h5_clean.specs.DefaultPolicy.{behind_controls, has_scheme_of, image_schemes, is_scheme_byte, is_skipped, link_schemes, scheme_behind, scheme_of, scheme_of_visible};
 
 // A byte that is skipped in a URL: TAB, LF and CR.
 fn is_skipped(byte: u8) -> bool

@@ -273,6 +273,6 @@ impl<R: Reader + Drop> Parser<R> {
         ensures waiting { self.new.waiting ≡ self.old.waiting }
         ensures failed { self.new.failed ≡ self.old.failed }
     {
-        self.tokenizer.tell_error(message);
+        self.tokenizer.report_error(message);
     }
 }

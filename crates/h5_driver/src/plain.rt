@@ -73,8 +73,8 @@ impl<Handle: Drop, Sink: TreeSink<Handle = Handle> + Drop> Reader
         self.sink.into_sink()
     }
 
-    fn tell_error(&mut self, message: &str) {
-        self.sink.tell_error(message);
+    fn report_error(&mut self, message: &str) {
+        self.sink.report_error(message);
     }
 }
 

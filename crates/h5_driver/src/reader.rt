@@ -79,7 +79,7 @@ pub trait Reader {
         ensures quirks { (Self.Sink.sees result).quirks ≡ (building self).view.world.seen_quirks };
 
     /// Reports an error that was found elsewhere to the sink. Changes nothing else.
-    fn tell_error(&mut self, message: &str)
+    fn report_error(&mut self, message: &str)
         ensures noted { 0 < (building self.new).errors }
         ensures view { (building self.new).view ≡ (building self.old).view }
         ensures text { text self.new ≡ text self.old };

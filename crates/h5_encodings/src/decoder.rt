@@ -92,7 +92,7 @@ impl Decoder {
 
     /// Returns how many U+FFFD have replaced bytes, as far as their text is decided. The count stops at the maximum of `u64`.
     /// UTF-8 isn't counted: always 0 for it.
-    pub fn replaced(&self) -> u64
+    pub fn replacement_count(&self) -> u64
         ensures { result ≡ self.now.replaced }
     {
         self.replaced

@@ -5,7 +5,7 @@ ghost use Rattle.h5_flat.specs.Unpacked.{id_of};
 
 use super::numbers::{COMMENT, DOCTYPE, DOCUMENT, ELEMENT, FRAGMENT, INSTRUCTION, TEXT, short};
 use super::view::View;
-use h5_arena::{Arena, Child, NodeId, TreeFault};
+use h5_arena::{Arena, Child, EditError, NodeId};
 use h5_interface::{NodeOrText, QuirksMode, TreeSink, create_element};
 use h5_names::{LocalName, Namespace, QualName, namespaces};
 use std::alloc::{AllocError, Global};
@@ -150,7 +150,7 @@ impl Unpacked {
             return Ok(());
         };
         match self.arena.try_append(parent, child) {
-            Err(TreeFault::Memory) => Err(AllocError),
+            Err(EditError::Memory) => Err(AllocError),
             _ => Ok(()),
         }
     }

@@ -3,7 +3,7 @@ ghost use Rattle.std.specs.Prelude.{◌≡◌, ◌<◌, false, true};
 ghost use Rattle.h5_state.specs.Steps.{TellsErrors, errors_of};
 
 use h5_interface::TreeSink;
-use h5_state::{State, tell_error};
+use h5_state::{State, report_error};
 use h5_tables::TreeError;
 
 /// Reports a parse error unless `expected`: an element that was closed was the current node.
@@ -13,6 +13,6 @@ pub fn expect_to_close<S: TreeSink>(sink: &mut S, state: &State<S::Handle>, expe
     ensures quiet { expected ≡ true → errors_of S.TreeSink sink.new ≡ errors_of S.TreeSink sink.old }
 {
     if !expected {
-        tell_error(sink, state, TreeError::UnexpectedOpenElement);
+        report_error(sink, state, TreeError::UnexpectedOpenElement);
     }
 }

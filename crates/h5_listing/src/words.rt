@@ -19,7 +19,7 @@ pub fn write_words(line: &mut String, text: &str) -> Result<(), AllocError> {
 fn texts_and_images(alloc: Global, node: &NodeRef<'_>) -> Result<String, AllocError> {
     let arena = node.arena;
     let mut text = String::new(alloc);
-    for child in arena.all_below(node.id)? {
+    for child in arena.descendants_with_text(node.id)? {
         match child {
             Child::Text(part) => text.push_str(part.as_str())?,
             Child::Node(id) => {

@@ -149,9 +149,9 @@ fn add_name(
 ) -> Result<(), PolicyFault> {
     match list {
         NameKey::Elements => add_element(alloc, policy, name),
-        NameKey::Dropped => Ok(policy.add_dropped(name)?),
+        NameKey::Dropped => Ok(policy.drop_element(name)?),
         NameKey::Attributes => add_attribute(alloc, policy, name),
-        NameKey::Urls => Ok(policy.add_url(name)?),
+        NameKey::Urls => Ok(policy.add_url_attribute(name)?),
         NameKey::Schemes => add_scheme(alloc, policy, name),
     }
 }
@@ -181,7 +181,7 @@ fn add_attributes_at(
     for item in items_of(alloc, place, value)? {
         let name = name_of(alloc, place, item)?;
         ask_for_attribute(alloc, name)?;
-        policy.add_attribute_of(element, name)?;
+        policy.add_attribute_for(element, name)?;
     }
     Ok(())
 }
@@ -218,7 +218,7 @@ fn set_relative(alloc: Global, policy: &mut AllowList, value: &Value) -> Result<
     match value {
         Value::Boolean(true) => Ok(()),
         Value::Boolean(false) => {
-            policy.refuse_relative();
+            policy.deny_relative();
             Ok(())
         }
         _ => Err(mismatch(alloc, "relative", "true or false")),
@@ -234,10 +234,10 @@ fn set_rel(alloc: Global, policy: &mut AllowList, value: &Value) -> Result<(), P
 }
 
 // Sets the prefix of ids and names.
-fn set_prefix(alloc: Global, policy: &mut AllowList, value: &Value) -> Result<(), PolicyFault> {
+fn set_id_prefix(alloc: Global, policy: &mut AllowList, value: &Value) -> Result<(), PolicyFault> {
     match value {
         Value::String(prefix) if !prefix.is_empty() && is_prefix(prefix.as_str()) => {
-            Ok(policy.set_prefix(prefix.as_str())?)
+            Ok(policy.set_id_prefix(prefix.as_str())?)
         }
         _ => Err(mismatch(
             alloc,
@@ -295,7 +295,7 @@ fn set(alloc: Global, policy: &mut AllowList, key: &str, value: &Value) -> Resul
         "attributes-of" => add_attributes_of(alloc, policy, value),
         "relative" => set_relative(alloc, policy, value),
         "rel" => set_rel(alloc, policy, value),
-        "prefix" => set_prefix(alloc, policy, value),
+        "prefix" => set_id_prefix(alloc, policy, value),
         "place" => set_place(alloc, policy, value),
         "depth" => set_depth(alloc, policy, value),
         _ => Err(wrong(format!(in alloc; "unknown key `{key}`"))),
@@ -312,7 +312,7 @@ fn set_each(alloc: Global, policy: &mut AllowList, table: &Table) -> Result<(), 
     }
     if !table.contains_key("dropped") {
         for name in DROPPED {
-            policy.add_dropped(name)?;
+            policy.drop_element(name)?;
         }
     }
     Ok(())

@@ -15,8 +15,8 @@ use h5_insertion::{
 use h5_interface::TreeSink;
 use h5_names::KnownName;
 use h5_state::{
-    State, Turn, has_p_in_button_scope, is_current_html, pop_until_named, set_frameset_not_ok,
-    set_ignore_lf, tell_error, unexpected_tag,
+    State, Turn, has_p_in_button_scope, is_current_html, pop_until_named, report_error,
+    set_frameset_not_ok, set_ignore_lf, unexpected_tag,
 };
 use h5_tables::{ProcessResult, TreeError};
 use h5_token::Tag;
@@ -63,7 +63,7 @@ fn check_heading<S: TreeSink>(sink: &mut S, state: &State<S::Handle>)
     ensures quiet { first_passes is_heading (names_of (world_of S.TreeSink sink.old state.now)) ≡ false → errors_of S.TreeSink sink.new ≡ errors_of S.TreeSink sink.old }
 {
     if is_current_heading(sink, state) {
-        tell_error(sink, state, TreeError::NestedHeadings);
+        report_error(sink, state, TreeError::NestedHeadings);
     }
 }
 
@@ -128,7 +128,7 @@ pub(crate) fn in_body_end_p<S: TreeSink>(
         expect_to_close(sink, state, expected);
         Ok(ProcessResult::Done)
     } else {
-        tell_error(sink, state, TreeError::NoParagraphToClose);
+        report_error(sink, state, TreeError::NoParagraphToClose);
         insert_phantom(sink, state, KnownName::P)?;
         close_p_element(sink, state);
         Ok(ProcessResult::Done)
@@ -155,7 +155,7 @@ pub(crate) fn in_body_end_heading<S: TreeSink>(
             Ok(ProcessResult::Done)
         }
         None => {
-            tell_error(sink, state, TreeError::NoHeadingToClose);
+            report_error(sink, state, TreeError::NoHeadingToClose);
             Ok(ProcessResult::Done)
         }
     }

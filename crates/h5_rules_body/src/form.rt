@@ -14,7 +14,7 @@ use h5_interface::TreeSink;
 use h5_names::{KnownName, LocalName};
 use h5_state::{
     State, Turn, current_node, has_form, has_open_template, is_current_html, is_node_in_scope,
-    pop_until_named, take_form, tell_error,
+    pop_until_named, report_error, take_form,
 };
 use h5_tables::{ProcessResult, TreeError};
 use h5_token::Tag;
@@ -26,7 +26,7 @@ pub fn in_body_start_form<S: TreeSink>(sink: &mut S, state: &mut State<S::Handle
     ensures { TakesTag S.TreeSink in_body_start_form tag sink.old state.old sink.new state.new result }
 {
     if has_form(sink, state) && !has_open_template(sink, state) {
-        tell_error(sink, state, TreeError::NestedForms);
+        report_error(sink, state, TreeError::NestedForms);
         Ok(ProcessResult::Done)
     } else {
         let expected = close_p_element_in_button_scope(sink, state);
@@ -45,11 +45,11 @@ fn close_form_element<S: TreeSink>(sink: &mut S, state: &mut State<S::Handle>, t
 {
     let _ = tag;
     let Some(form) = take_form(sink, state) else {
-        tell_error(sink, state, TreeError::NoFormElementToClose);
+        report_error(sink, state, TreeError::NoFormElementToClose);
         return Ok(ProcessResult::Done);
     };
     if !is_node_in_scope(sink, state, &form) {
-        tell_error(sink, state, TreeError::FormElementOutOfScope);
+        report_error(sink, state, TreeError::FormElementOutOfScope);
         return Ok(ProcessResult::Done);
     }
     generate_implied_end_tags(sink, state);
@@ -77,7 +77,7 @@ fn close_open_form<S: TreeSink>(sink: &mut S, state: &mut State<S::Handle>, tag:
             Ok(ProcessResult::Done)
         }
         None => {
-            tell_error(sink, state, TreeError::NoFormToClose);
+            report_error(sink, state, TreeError::NoFormToClose);
             Ok(ProcessResult::Done)
         }
     }

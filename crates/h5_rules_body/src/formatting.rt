@@ -17,7 +17,7 @@ use h5_insertion::{
 };
 use h5_interface::TreeSink;
 use h5_names::{Attribute, KnownName, LocalName};
-use h5_state::{State, Turn, in_scope_named, set_frameset_not_ok, tell_error, unexpected_tag};
+use h5_state::{State, Turn, in_scope_named, report_error, set_frameset_not_ok, unexpected_tag};
 use h5_tables::{ProcessResult, TreeError};
 use h5_token::Tag;
 use std::alloc::AllocError;
@@ -66,7 +66,7 @@ fn handle_misnested_nobr_tags<S: TreeSink>(
     ensures sound { IsSound S.TreeSink sink.new state.new }
 {
     if in_scope_named(sink, state, KnownName::Nobr) {
-        tell_error(sink, state, TreeError::NestedNobr);
+        report_error(sink, state, TreeError::NestedNobr);
         let nobr = LocalName::from_known(KnownName::Nobr);
         adoption_agency(sink, state, &nobr)?;
         reconstruct_active_formatting_elements(sink, state)

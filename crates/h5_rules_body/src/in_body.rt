@@ -48,7 +48,7 @@ use h5_rules_head::{
 use h5_state::{
     State, Turn, check_body_end, find_before_special, generate_implied_end_except,
     has_body_in_scope, has_body_second, has_open_template, is_current_html, is_frameset_ok,
-    is_in_quirks, pop_until_named, set_again, set_frameset_not_ok, set_mode, tell_error,
+    is_in_quirks, pop_until_named, report_error, set_again, set_frameset_not_ok, set_mode,
     unexpected, unexpected_tag,
 };
 use h5_tables::{InsertionMode, ProcessResult, Token, TreeError};
@@ -103,7 +103,7 @@ fn in_body_end_body<S: TreeSink>(sink: &mut S, state: &mut State<S::Handle>, tag
         set_mode(sink, state, InsertionMode::AfterBody);
         Ok(ProcessResult::Done)
     } else {
-        tell_error(sink, state, TreeError::BodyEndTagWithoutBody);
+        report_error(sink, state, TreeError::BodyEndTagWithoutBody);
         Ok(ProcessResult::Done)
     }
 }
@@ -120,7 +120,7 @@ fn in_body_end_html<S: TreeSink>(sink: &mut S, state: &mut State<S::Handle>, tag
         set_again(sink, state, Token::Tag(tag));
         Ok(ProcessResult::Reprocess(InsertionMode::AfterBody))
     } else {
-        tell_error(sink, state, TreeError::HtmlEndTagWithoutBody);
+        report_error(sink, state, TreeError::HtmlEndTagWithoutBody);
         Ok(ProcessResult::Done)
     }
 }
@@ -152,7 +152,7 @@ fn in_body_end_other<S: TreeSink>(sink: &mut S, state: &mut State<S::Handle>, ta
             Ok(ProcessResult::Done)
         }
         None => {
-            tell_error(sink, state, TreeError::SpecialElementBeforeTheOneToClose);
+            report_error(sink, state, TreeError::SpecialElementBeforeTheOneToClose);
             Ok(ProcessResult::Done)
         }
     }

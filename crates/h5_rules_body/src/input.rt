@@ -17,7 +17,7 @@ use h5_insertion::{
 use h5_interface::TreeSink;
 use h5_names::{KnownName, LocalName};
 use h5_state::{
-    State, Turn, in_scope_named, pop_until_named, set_frameset_not_ok, tell_error, unexpected_tag,
+    State, Turn, in_scope_named, pop_until_named, report_error, set_frameset_not_ok, unexpected_tag,
 };
 use h5_tables::{ProcessResult, TreeError};
 use h5_token::Tag;
@@ -106,7 +106,7 @@ fn check_rule<S: TreeSink>(sink: &mut S, state: &State<S::Handle>, in_select: bo
     ensures quiet { (in_select && has_option_in_scope (names_of (world_of S.TreeSink sink.old state.now))) ≡ false → errors_of S.TreeSink sink.new ≡ errors_of S.TreeSink sink.old }
 {
     if in_select && is_option_in_scope(sink, state) {
-        tell_error(sink, state, TreeError::HrInOption);
+        report_error(sink, state, TreeError::HrInOption);
     }
 }
 

@@ -16,7 +16,7 @@ use h5_interface::TreeSink;
 use h5_names::{KnownName, LocalName};
 use h5_state::{
     State, Turn, find_before_special, generate_implied_end_except, in_scope_named, is_current_html,
-    is_select_context, pop, pop_until_named, tell_error, unexpected_tag,
+    is_select_context, pop, pop_until_named, report_error, unexpected_tag,
 };
 use h5_tables::{ProcessResult, TreeError};
 use h5_token::Tag;
@@ -68,7 +68,7 @@ fn check_option<S: TreeSink>(sink: &mut S, state: &State<S::Handle>)
     ensures quiet { named_in_scope (codes "option") (world_of S.TreeSink sink.old state.now) ≡ false → errors_of S.TreeSink sink.new ≡ errors_of S.TreeSink sink.old }
 {
     if in_scope_named(sink, state, KnownName::Option) {
-        tell_error(sink, state, TreeError::NestedOptions);
+        report_error(sink, state, TreeError::NestedOptions);
     }
 }
 
@@ -80,7 +80,7 @@ fn check_optgroup<S: TreeSink>(sink: &mut S, state: &State<S::Handle>)
     ensures quiet { has_option_in_scope (names_of (world_of S.TreeSink sink.old state.now)) ≡ false → errors_of S.TreeSink sink.new ≡ errors_of S.TreeSink sink.old }
 {
     if is_option_in_scope(sink, state) {
-        tell_error(sink, state, TreeError::NestedOptions);
+        report_error(sink, state, TreeError::NestedOptions);
     }
 }
 
@@ -177,7 +177,7 @@ pub fn in_body_end_option<S: TreeSink>(sink: &mut S, state: &mut State<S::Handle
             Ok(ProcessResult::Done)
         }
         None => {
-            tell_error(sink, state, TreeError::SpecialElementBeforeTheOneToClose);
+            report_error(sink, state, TreeError::SpecialElementBeforeTheOneToClose);
             Ok(ProcessResult::Done)
         }
     }

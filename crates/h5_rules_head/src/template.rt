@@ -13,8 +13,8 @@ use h5_insertion::{
 use h5_interface::TreeSink;
 use h5_names::{KnownName, LocalName};
 use h5_state::{
-    State, Turn, find_named, has_open_template, is_current_html, pop_until_named, set_again,
-    set_frameset_not_ok, set_mode, tell_error, unexpected_tag,
+    State, Turn, find_named, has_open_template, is_current_html, pop_until_named, report_error,
+    set_again, set_frameset_not_ok, set_mode, unexpected_tag,
 };
 use h5_tables::{InsertionMode, ProcessResult, Token, TreeError};
 use h5_token::Tag;
@@ -83,7 +83,7 @@ pub fn template_eof<S: TreeSink>(sink: &mut S, state: &mut State<S::Handle>, tok
     if !has_open_template(sink, state) {
         return Ok(ProcessResult::Done);
     }
-    tell_error(sink, state, TreeError::EofInTemplate);
+    report_error(sink, state, TreeError::EofInTemplate);
     close_template(sink, state);
     let mode = reset_insertion_mode(sink, state);
     set_again(sink, state, token);

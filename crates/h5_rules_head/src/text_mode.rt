@@ -9,8 +9,8 @@ use h5_insertion::append_text;
 use h5_interface::TreeSink;
 use h5_names::{KnownName, LocalName};
 use h5_state::{
-    State, Turn, current_node, is_current_html, mark_started, pop, saved_mode, set_again,
-    set_answer, set_mode, tell_error, unexpected,
+    State, Turn, current_node, is_current_html, mark_started, pop, report_error, saved_mode,
+    set_again, set_answer, set_mode, unexpected,
 };
 use h5_tables::{ProcessResult, Token, TreeError};
 use h5_token::{Tag, TagKind, TokenSinkResult};
@@ -39,7 +39,7 @@ fn text_eof<S: TreeSink>(sink: &mut S, state: &mut State<S::Handle>) -> Turn
     requires { IsOpen S.TreeSink sink.old state.old }
     ensures { FollowsRule S.TreeSink (text_mode EofTurn) EofTurn sink.old state.old sink.new state.new result }
 {
-    tell_error(sink, state, TreeError::EofInText);
+    report_error(sink, state, TreeError::EofInText);
     if is_current_html(sink, state, &LocalName::from_known(KnownName::Script)) {
         mark_started(sink, state);
     }

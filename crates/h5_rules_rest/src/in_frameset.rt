@@ -12,7 +12,7 @@ use h5_insertion::{
 use h5_interface::TreeSink;
 use h5_names::KnownName;
 use h5_rules_head::{ignored_tag, in_body_start_html, in_head_start_tag};
-use h5_state::{State, Turn, is_fragment, pop, set_mode, tell_error, unexpected, unexpected_tag};
+use h5_state::{State, Turn, is_fragment, pop, report_error, set_mode, unexpected, unexpected_tag};
 use h5_tables::{InsertionMode, ProcessResult, SplitStatus, Token, TreeError};
 use h5_token::{Tag, TagKind};
 
@@ -110,7 +110,7 @@ fn in_frameset_eof<S: TreeSink>(sink: &mut S, state: &mut State<S::Handle>) -> T
     ensures { TakesToken S.TreeSink in_frameset Token.Eof sink.old state.old sink.new state.new result }
 {
     if !is_root_alone(sink, state) {
-        tell_error(sink, state, TreeError::EofInFrameset);
+        report_error(sink, state, TreeError::EofInFrameset);
     }
     Ok(ProcessResult::Done)
 }

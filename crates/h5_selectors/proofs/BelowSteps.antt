@@ -10,7 +10,7 @@ use Rattle.h5_interface.specs.Ancestors.{Further, IsAncestor, Parent}
 use Rattle.h5_interface.specs.Forest.{Child, ChildNode, ChildText, Forest, IsForest, IsNode, children_of, count, nodes, parent_of}
 use Rattle.h5_interface.proofs.ChildLaws.{nodes-append}
 use Rattle.h5_interface.proofs.ForestLaws.{ancestor_is_node, child_is_node, parent_of_child}
-use Rattle.h5_arena.specs.Kin.{all_below, descendants, with_below}
+use Rattle.h5_arena.specs.Kin.{descendants_with_text, descendants, with_below}
 use Rattle.h5_selectors.specs.Rows as rows
 use Rattle.h5_selectors.specs.Rows.{AreBare}
 use Rattle.h5_selectors.specs.Ways.{below, child_elements, elements, elements_among, is_element}
@@ -106,7 +106,7 @@ settled f (suc levels) n over k there h le =
     (λ m up. settled f levels m (n ∷ over) k (child_is_node f m n up) (one_more_over f n m over k h up) (omega (arith, le))))
 
 -- a node that is a child, and all below it
-whole : (f : Forest) (n : ℕ) → IsForest f → IsNode f n → with_below f.bound f (ChildNode n) ≡ ChildNode n ∷ all_below f n
+whole : (f : Forest) (n : ℕ) → IsForest f → IsNode f n → with_below f.bound f (ChildNode n) ≡ ChildNode n ∷ descendants_with_text f n
 unfolding with_below
 whole f n k there = sym (settled f f.bound n [] k there (none_over f n) (omega arith))
 
@@ -120,7 +120,7 @@ below_them f n (ChildNode m ∷ cs) k are bare =
     let rest = flat_map (with_below f.bound f) cs in
     let there = child_is_node f m n (first_child f n m cs are) in
     ap (λ l. elements f (nodes (l ++ rest))) (whole f m k there)
-    ∙ ap (elements f) (nodes-append (ChildNode m ∷ all_below f m) rest)
+    ∙ ap (elements f) (nodes-append (ChildNode m ∷ descendants_with_text f m) rest)
     ∙ filter-append (is_element f) (m ∷ descendants f m) (nodes rest)
     ∙ ap (λ l. elements f (m ∷ descendants f m) ++ l) (below_them f n cs k (further_children f n m cs are) bare.1)
     ∙ at (is_element f m) refl bare.0

@@ -8,7 +8,7 @@ use Prim.Native.Nat.{zero, suc}
 use Rattle.h5_interface.specs.Forest.{Child, ChildNode, ChildText, CommentNode, DoctypeNode, DocumentNode, ElementNode, Forest, FragmentNode, InstructionNode, IsForest, Kind, Node, below_of, children_of, count, is_at, nodes, parent_of}
 use Rattle.h5_interface.proofs.ForestLaws.{children_few, parent_of_child}
 use Rattle.h5_arena.specs.ArenaModel.{child_parent, child_parent_of_kind, name_of_kind}
-use Rattle.h5_arena.specs.Kin.{children_around, children_before, children_behind, tree_parent}
+use Rattle.h5_arena.specs.Kin.{siblings_with_self, children_before, children_behind, tree_parent}
 use Rattle.h5_selectors.specs.Ways.{before, behind, child_elements, elements_among, is_element}
 
 -- an entry of the elements is an entry of the children
@@ -109,7 +109,7 @@ module _ (f : Forest) (p i m : ℕ) (k : IsForest f) (lt : i < length (child_ele
   pub its_parent : tree_parent f m ≡ Some p
   its_parent = child_parent_is (f.node m) p is_one (parent_of_child f p m k (counted_among f (children_of f p) i m lt here))
 
-  abbrev around : children_around f m ≡ children_of f p
+  abbrev around : siblings_with_self f m ≡ children_of f p
   around = ap (λ o. option_map_or (children_of f) o []) its_parent
 
   pub those_before : before f m ≡ take i (child_elements f p)

@@ -6,7 +6,7 @@ use Rattle.h5_names.specs.declared.qualified.QualName.{QualName}
 use Rattle.h5_interface.specs.Forest.{Child, ChildNode, ChildText, DocumentNode, Forest, Kind, children_of, kind_of, nodes}
 use Rattle.h5_arena.specs.ArenaModel.{name_of_kind}
 use Rattle.h5_arena.specs.Kin as kin
-use Rattle.h5_arena.specs.Kin.{children_around, children_before, children_behind, descendants, tree_parent}
+use Rattle.h5_arena.specs.Kin.{siblings_with_self, children_before, children_behind, descendants, tree_parent}
 use Rattle.h5_selectors.specs.declared.formula.Side.{Side}
 use Rattle.h5_selectors.specs.declared.formula.Side.TheVariants.{First, Last}
 use Rattle.h5_selectors.specs.declared.formula.Way.{Way}
@@ -42,10 +42,10 @@ below f n = elements f (descendants f n)
 
 -- the sibling elements before a node, and those after it
 abbrev pub before : Forest → ℕ → List ℕ
-before f n = elements_among f (children_before n (children_around f n))
+before f n = elements_among f (children_before n (siblings_with_self f n))
 
 abbrev pub behind : Forest → ℕ → List ℕ
-behind f n = elements_among f (children_behind n (children_around f n))
+behind f n = elements_among f (children_behind n (siblings_with_self f n))
 
 abbrev pub first_of : List ℕ → List ℕ
 first_of [] = []

@@ -5,7 +5,7 @@ ghost use Rattle.h5_selectors.specs.Attributes.{attribute_at, comparison, compar
 ghost use Rattle.h5_selectors.specs.Reads.{Reads};
 ghost use Rattle.h5_selectors.specs.Tokens.{reading};
 
-use super::fault::{Problem, Refusal};
+use super::fault::{Refusal, SelectorProblem};
 use super::formula::{AttrTest, Operator, Written};
 use super::scan::Scan;
 use h5_names::LocalName;
@@ -113,9 +113,9 @@ impl<'a> Scan<'a> {
             return Ok(operator);
         }
         if self.rest.is_empty() {
-            return Err(self.refusal(Problem::Unclosed));
+            return Err(self.refusal(SelectorProblem::Unclosed));
         }
-        Err(self.refusal(Problem::Operator))
+        Err(self.refusal(SelectorProblem::Operator))
     }
 
     // A string or a name.
@@ -129,12 +129,12 @@ impl<'a> Scan<'a> {
                 self.skip();
                 return match self.string(alloc, quote)? {
                     Some(text) => Ok(text),
-                    None => Err(self.refusal(Problem::Unclosed)),
+                    None => Err(self.refusal(SelectorProblem::Unclosed)),
                 };
             }
         }
         if !self.is_at_name() {
-            return Err(self.refusal(Problem::Value));
+            return Err(self.refusal(SelectorProblem::Value));
         }
         let name = self.name_rest(alloc)?;
         Ok(name)
@@ -154,7 +154,7 @@ impl<'a> Scan<'a> {
         match name.as_str() {
             "i" | "I" => Ok(Some(true)),
             "s" | "S" => Ok(Some(false)),
-            _ => Err(here.refusal(Problem::Flag)),
+            _ => Err(here.refusal(SelectorProblem::Flag)),
         }
     }
 

@@ -1,14 +1,14 @@
 //! Errors of parsing a selector.
 ghost use Rattle.std.specs.Prelude.{◌≡◌, ℕ};
 ghost use Rattle.h5_selectors.specs.Fault.{IsWithin};
-ghost use Rattle.h5_selectors.specs.declared.fault.SelectorFault.TheVariants.{Invalid};
+ghost use Rattle.h5_selectors.specs.declared.fault.SelectorError.TheVariants.{Invalid};
 
 use std::alloc::{AllocError, AllocFailed};
 use thiserror::Error;
 
 /// The problem of a text.
 #[derive(Clone, Copy, Debug, PartialEq, Eq, Error)]
-pub enum Problem {
+pub enum SelectorProblem {
     /// A selector is missing.
     #[error("expected a selector")]
     Selector,
@@ -52,10 +52,10 @@ pub enum Problem {
 
 /// The error of parsing a selector.
 #[derive(Clone, Copy, Debug, PartialEq, Eq, Error)]
-pub enum SelectorFault {
+pub enum SelectorError {
     /// The text isn't a selector: what is wrong, and at which offset in characters, from 0.
     #[error("at offset {at}: {problem}")]
-    Invalid { at: usize, problem: Problem },
+    Invalid { at: usize, problem: SelectorProblem },
     /// An allocation failed.
     #[error("out of memory")]
     Memory,
@@ -65,9 +65,14 @@ pub enum SelectorFault {
 #[derive(Clone, Copy)]
 pub(crate) enum Refusal {
     /// The problem, and the number of characters left.
-    Invalid { left: usize, problem: Problem },
+    Invalid {
+        left: usize,
+        problem: SelectorProblem,
+    },
     /// A selector has too many parts.
-    TooLong { left: usize },
+    TooLong {
+        left: usize,
+    },
     Memory,
 }
 
@@ -92,11 +97,11 @@ impl<T: Drop> From<AllocFailed<T>> for Refusal {
 }
 
 // The error at the place where this many characters of a text are left.
-fn invalid(length: usize, left: usize, problem: Problem) -> SelectorFault
+fn invalid(length: usize, left: usize, problem: SelectorProblem) -> SelectorError
     ensures place { IsWithin length result }
     ensures problem { (at : ℕ) × (result ≡ Invalid at problem) }
 {
-    SelectorFault::Invalid {
+    SelectorError::Invalid {
         at: length.saturating_sub(left),
         problem,
     }
@@ -110,14 +115,14 @@ impl Refusal {
     ghost use Rattle.h5_selectors.specs.Reads.{Lacks};
 
     /// The error in a text with this number of characters.
-    pub(crate) fn in_text(self, length: usize) -> SelectorFault
+    pub(crate) fn in_text(self, length: usize) -> SelectorError
         ensures place { IsWithin length result }
         ensures tells { (read : Outcome (List Asked)) → Lacks self read → Tells result read }
     {
         match self {
             Refusal::Invalid { left, problem } => invalid(length, left, problem),
-            Refusal::TooLong { left } => invalid(length, left, Problem::TooLong),
-            Refusal::Memory => SelectorFault::Memory,
+            Refusal::TooLong { left } => invalid(length, left, SelectorProblem::TooLong),
+            Refusal::Memory => SelectorError::Memory,
         }
     }
 }

@@ -4,7 +4,7 @@ ghost use Rattle.h5_selectors.specs.Indices.{indices, indices_at, is_minus, name
 ghost use Rattle.h5_selectors.specs.Reads.{Reads};
 ghost use Rattle.h5_selectors.specs.Tokens.{reading};
 
-use super::fault::{Problem, Refusal};
+use super::fault::{Refusal, SelectorProblem};
 use super::formula::AnPlusB;
 use super::scan::Scan;
 use std::alloc::Global;
@@ -77,7 +77,7 @@ impl<'a> Scan<'a> {
                 offset,
                 is_under,
             }),
-            _ => Err(self.refusal(Problem::AnPlusB)),
+            _ => Err(self.refusal(SelectorProblem::AnPlusB)),
         }
     }
 
@@ -123,9 +123,9 @@ impl<'a> Scan<'a> {
                     offset,
                     is_under: true,
                 }),
-                None => Err(self.refusal(Problem::AnPlusB)),
+                None => Err(self.refusal(SelectorProblem::AnPlusB)),
             },
-            _ => Err(self.refusal(Problem::AnPlusB)),
+            _ => Err(self.refusal(SelectorProblem::AnPlusB)),
         }
     }
 
@@ -155,7 +155,7 @@ impl<'a> Scan<'a> {
         ensures { Reads (λ indices. indices) result self.new.rest.now (named_indices_at is_signed self.old.rest.now) }
     {
         if !self.is_at_name() {
-            return Err(self.refusal(Problem::AnPlusB));
+            return Err(self.refusal(SelectorProblem::AnPlusB));
         }
         let name = self.lower_name(alloc)?;
         self.by_name(name.as_slice(), is_signed)

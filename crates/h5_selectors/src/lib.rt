@@ -29,7 +29,7 @@ mod tables;
 mod values;
 mod ways;
 
-pub use fault::{Problem, SelectorFault};
+pub use fault::{SelectorError, SelectorProblem};
 pub use formula::{AnPlusB, AttrTest, Formula, Operator, Side, Way, Written};
 pub use parser::parse;
 pub use selector::Selector;

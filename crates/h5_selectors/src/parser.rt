@@ -11,7 +11,7 @@ ghost use Rattle.h5_selectors.specs.declared.fault.Refusal.TheVariants.{TooLong}
 ghost use Rattle.h5_selectors.specs.declared.formula.Side.TheVariants.{First, Last};
 
 use super::attributes::written;
-use super::fault::{Problem, Refusal, SelectorFault};
+use super::fault::{Refusal, SelectorError, SelectorProblem};
 use super::formula::{AnPlusB, Formula, Side, Way};
 use super::scan::Scan;
 use std::alloc::{AllocError, Global};
@@ -177,7 +177,7 @@ impl<'a> Scan<'a> {
         ensures { Reads string_bytes result self.new.rest.now (named_at self.old.rest.now) }
     {
         if self.peek() == Some(':') {
-            return Err(begin.refusal(Problem::PseudoElement));
+            return Err(begin.refusal(SelectorProblem::PseudoElement));
         }
         self.name(alloc)
     }
@@ -200,9 +200,9 @@ fn plain(alloc: Global, name: &str, begin: Scan<'_>) -> Result<Formula, Refusal>
         "last-of-type" => Ok(Formula::NthOfType(FIRST, Side::Last)),
         "only-of-type" => Ok(only_of_type(alloc)?),
         "before" | "after" | "first-line" | "first-letter" => {
-            Err(begin.refusal(Problem::PseudoElement))
+            Err(begin.refusal(SelectorProblem::PseudoElement))
         }
-        _ => Err(begin.refusal(Problem::PseudoClass)),
+        _ => Err(begin.refusal(SelectorProblem::PseudoClass)),
     }
 }
 
@@ -366,7 +366,7 @@ impl<'a> Parser<'a> {
                 Ok(negated(self.alloc, list)?)
             }
             Function::Is => self.list_or_none(inner),
-            Function::Has if nesting.is_in_has => Err(begin.refusal(Problem::NestedHas)),
+            Function::Has if nesting.is_in_has => Err(begin.refusal(SelectorProblem::NestedHas)),
             Function::Has => self.list(
                 true,
                 Nesting {
@@ -405,7 +405,7 @@ impl<'a> Parser<'a> {
         let here = self.scan;
         let name = self.scan.lower_name(self.alloc)?;
         if !is_of(name.as_slice()) {
-            return Err(here.refusal(Problem::AnPlusB));
+            return Err(here.refusal(SelectorProblem::AnPlusB));
         }
         self.list(false, nesting)
     }
@@ -422,7 +422,7 @@ impl<'a> Parser<'a> {
         ensures { Takes asked result self.new.parts self.new.scan.rest.now (function_at (arguments_within nesting.room nesting.is_in_has) name.now self.old.parts self.old.scan.rest.now) }
     {
         let Some(function) = function_of(name) else {
-            return Err(begin.refusal(Problem::PseudoClass));
+            return Err(begin.refusal(SelectorProblem::PseudoClass));
         };
         let formula = self.arguments(function, begin, nesting)?;
         self.scan.close(')')?;
@@ -498,7 +498,7 @@ impl<'a> Parser<'a> {
         let begun = self.scan.type_or_any(self.alloc)?;
         match self.simples(begun, nesting)? {
             Some(all) => Ok(all),
-            None => Err(self.scan.refusal(Problem::Selector)),
+            None => Err(self.scan.refusal(SelectorProblem::Selector)),
         }
     }
 
@@ -640,7 +640,7 @@ fn selectors(alloc: Global, characters: &[char]) -> Result<Vec<Formula>, Refusal
     let first = parser.complex(TOP)?;
     let list = more_selectors(&mut parser, first)?;
     if !parser.scan.rest.is_empty() {
-        return Err(parser.scan.refusal(Problem::Rest));
+        return Err(parser.scan.refusal(SelectorProblem::Rest));
     }
     Ok(list)
 }
@@ -654,13 +654,13 @@ fn characters_of(alloc: Global, text: &str) -> Result<Vec<char>, AllocError>
 
 /// Parses a list of selectors (Selectors Level 4, section 17, "Grammar"). Fails with `Invalid` if the text isn't one; the problem is
 /// `TooLong` exactly if a selector has more than 1,000 parts before anything else is wrong. Fails with `Memory` if an allocation fails.
-pub fn parse(alloc: Global, text: &str) -> Result<Vec<Formula>, SelectorFault>
+pub fn parse(alloc: Global, text: &str) -> Result<Vec<Formula>, SelectorError>
     ensures selectors { IfOk result (λ list. selectors_of (chars text.now) ≡ Found (map asked list.items)) }
     ensures place { IfErr result (IsWithin (length (chars text.now))) }
     ensures fault { IfErr result (λ fault. Tells fault (selectors_of (chars text.now))) }
 {
     let Ok(characters) = characters_of(alloc, text) else {
-        return Err(SelectorFault::Memory);
+        return Err(SelectorError::Memory);
     };
     match selectors(alloc, characters.as_slice()) {
         Ok(list) => Ok(list),

@@ -7,7 +7,7 @@ ghost use Rattle.h5_selectors.specs.Reads.{Reads};
 ghost use Rattle.h5_selectors.specs.Tokens.{appended, begins_name, begins_with, behind_blank, behind_blanks, behind_comment, behind_comments, blank_at, char_of, closed_at, comment_at, cleaned, digit_at, escape_at, is_at_name, is_blank, is_in_name, is_newline, is_spaced, name_at, name_piece_at, named_at, number_at, number_within, pieces, reading, string_at, string_piece_at, unqualified_at};
 ghost use Rattle.h5_selectors.specs.declared.fault.Refusal.TheVariants.{Invalid, TooLong};
 
-use super::fault::{Problem, Refusal};
+use super::fault::{Refusal, SelectorProblem};
 use std::alloc::{AllocError, Global};
 
 /// The text that is left.
@@ -363,7 +363,7 @@ impl<'a> Scan<'a> {
     }
 
     /// The refusal with this problem at the current place.
-    pub(crate) fn refusal(&self, problem: Problem) -> Refusal
+    pub(crate) fn refusal(&self, problem: SelectorProblem) -> Refusal
         ensures { result ≡ Invalid (length self.now.rest.now) problem }
     {
         Refusal::Invalid {
@@ -387,7 +387,7 @@ impl<'a> Scan<'a> {
         ensures { Reads string_bytes result self.new.rest.now (named_at self.old.rest.now) }
     {
         if !self.is_at_name() {
-            return Err(self.refusal(Problem::Name));
+            return Err(self.refusal(SelectorProblem::Name));
         }
         let name = self.name_rest(alloc)?;
         Ok(name)
@@ -400,7 +400,7 @@ impl<'a> Scan<'a> {
     {
         match self.rest {
             ['|', '=', ..] => Ok(()),
-            ['|', ..] | ['*', '|', ..] => Err(self.refusal(Problem::Namespace)),
+            ['|', ..] | ['*', '|', ..] => Err(self.refusal(SelectorProblem::Namespace)),
             _ => Ok(()),
         }
     }
@@ -415,11 +415,11 @@ impl<'a> Scan<'a> {
             return Ok(());
         }
         if self.rest.is_empty() {
-            return Err(self.refusal(Problem::Unclosed));
+            return Err(self.refusal(SelectorProblem::Unclosed));
         }
         Err(self.refusal(match bracket {
-            ']' => Problem::Flag,
-            _ => Problem::Rest,
+            ']' => SelectorProblem::Flag,
+            _ => SelectorProblem::Rest,
         }))
     }
 }

@@ -14,7 +14,7 @@ use super::holds::{Query, holds};
 use super::rows::rows_of;
 use super::tables::unmatched;
 use super::ways::{ancestors, elements_below, is_element};
-use crate::{Formula, SelectorFault, parse};
+use crate::{Formula, SelectorError, parse};
 use h5_arena::{Arena, NodeId};
 use h5_interface::TreeSink;
 use std::alloc::{AllocError, Global};
@@ -162,7 +162,7 @@ impl Selector {
     /// `Invalid` if the text isn't one; the problem is `TooLong` exactly if a selector has more than 1,000 parts before anything else is
     /// wrong, and the position, in characters, lies within the text or at its end. A compound selector is a part, and so is each id, class,
     /// attribute and pseudo-class in it. Fails with `Memory` if an allocation fails.
-    pub fn parse(alloc: Global, text: &str) -> Result<Selector, SelectorFault>
+    pub fn parse(alloc: Global, text: &str) -> Result<Selector, SelectorError>
         ensures selectors { IfOk result (λ selector. selectors_of (chars text.now) ≡ Found (map asked selector)) }
         ensures place { IfErr result (IsWithin (length (chars text.now))) }
         ensures fault { IfErr result (λ fault. Tells fault (selectors_of (chars text.now))) }

@@ -180,7 +180,7 @@ pub(crate) fn counted(
 {
     match side {
         Side::First => elements_among(alloc, arena, arena.siblings_before(id)),
-        Side::Last => elements_among(alloc, arena, arena.siblings_behind(id)),
+        Side::Last => elements_among(alloc, arena, arena.siblings_after(id)),
     }
 }
 
@@ -229,7 +229,7 @@ fn next(alloc: Global, arena: &Arena, id: NodeId) -> Result<Vec<NodeId>, AllocEr
     ensures found { IfOk result (λ found. map place found.items ≡ first_of (behind (forest_seen arena.now) id.index)) }
     ensures held { IfOk result (λ found. All (IsHeld arena.now) found.items) }
 {
-    one_or_none(alloc, first_element(arena, arena.siblings_behind(id)))
+    one_or_none(alloc, first_element(arena, arena.siblings_after(id)))
 }
 
 /// The elements in this relation to an element.

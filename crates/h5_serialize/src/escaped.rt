@@ -38,7 +38,7 @@ pub fn escape_text(alloc: Global, text: &str) -> Result<String, AllocError>
 
 /// Returns a text as it is written in an attribute's value, between double quotes: `&`, U+00A0, `<`, `>` and `"` become references. Fails
 /// with `AllocError` if an allocation fails.
-pub fn escape_value(alloc: Global, text: &str) -> Result<String, AllocError>
+pub fn escape_attribute(alloc: Global, text: &str) -> Result<String, AllocError>
     ensures { IfOk result (λ escaped. string_bytes escaped ≡ escape true text.now) }
 {
     escaped(alloc, text, true)

@@ -2,7 +2,7 @@
 //!
 //! A value that is [`Serialize`] makes six kinds of calls on a [`Serializer`]. [`HtmlSerializer`] writes HTML, and [`serialize`] runs it
 //! over a node. Contracts see calls as data, and the text of a list of calls is a definition. [`Visit`] is a short form of a serializer;
-//! [`escape_text`] and [`escape_value`] escape a single text.
+//! [`escape_text`] and [`escape_attribute`] escape a single text.
 //!
 //! `serializer`, `visit` and `attributes` have the traits, `html` the HTML serializer with its `openers` and `options`, `write` the
 //! function `serialize`. `tags`, `known_tags`, `escape` and `escaped` write tags and texts, `names` tests for void elements and for
@@ -28,10 +28,10 @@ mod visit;
 mod write;
 
 pub use attributes::AttrRef;
-pub use escaped::{escape_text, escape_value};
+pub use escaped::{escape_attribute, escape_text};
 pub use fault::SerializeFault;
 pub use html::HtmlSerializer;
 pub use options::{SerializeOpts, TraversalScope};
 pub use serializer::{Serialize, Serializer};
-pub use visit::{Visit, Visiting};
+pub use visit::{Visit, VisitSerializer};
 pub use write::serialize;

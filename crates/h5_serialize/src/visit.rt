@@ -8,7 +8,7 @@ use h5_names::QualName;
 use std::alloc::AllocError;
 
 /// Receives the elements and texts of a tree, in tree order. Each method does nothing unless it is overridden. Its only error is
-/// `AllocError`, which ends the walk as `SerializeFault::Memory`. [`Visiting`] makes a serializer of it.
+/// `AllocError`, which ends the walk as `SerializeFault::Memory`. [`VisitSerializer`] makes a serializer of it.
 pub trait Visit {
     /// The start of an element with these attributes.
     fn start<T: AttrRef, I: Iterator<Item = T> + Drop>(
@@ -36,11 +36,11 @@ pub trait Visit {
 /// A serializer that passes elements and texts to a visitor, and skips comments, doctypes and processing instructions. Contracts see
 /// nothing of the visitor; if they have to, write a [`Serializer`].
 #[derive(Drop)]
-pub struct Visiting<V: Visit + Drop> {
+pub struct VisitSerializer<V: Visit + Drop> {
     pub visitor: V,
 }
 
-impl<V: Visit + Drop> Serializer for Visiting<V> {
+impl<V: Visit + Drop> Serializer for VisitSerializer<V> {
     ghost use Rattle.std.specs.Prelude.{[], None, Ok};
 
     ghost Meaning = { Unit {0} };

@@ -15,7 +15,7 @@ use Rattle.h5_states.specs.declared.errors.ParseError.TheVariants.{CdataInHtmlCo
 use Rattle.h5_states.specs.declared.kinds.TextKind.TheVariants.{CdataSection}
 use Rattle.h5_states.specs.declared.position.Position.{Position}
 use Rattle.h5_states.specs.declared.position.Spot.{Spot}
-use Rattle.h5_states.specs.declared.position.ToldError.{ToldError}
+use Rattle.h5_states.specs.declared.position.LocatedError.{LocatedError}
 use Rattle.h5_states.specs.InputErrors.{InputErrors, character_errors, inside, not_new, of_character}
 use Rattle.h5_states.specs.Lines.{normal}
 use Rattle.h5_states.specs.Machine.{turn}
@@ -110,10 +110,10 @@ taken_whole m n x xs front old new ys split low within wide narrow run =
     subst (λ l. PassesRun m front old new n l) none run
 
 -- what is reported at a byte, after these errors of the input
-abbrev row_told : ReaderPlace → Spot → ℕ → List ParseError → List ToldError
+abbrev row_told : ReaderPlace → Spot → ℕ → List ParseError → List LocatedError
 row_told p s x input = told_at_byte references p (position p.line s) x input
 
-module _ {M : Type 0} (reply_to : M → TokenText → Reply) (after : M → TokenText → ℕ → M) (foreign : M → Bool) {E : Type 0} (told : E → List ToldError → Type 0) (start : Reached M) (first : E) where
+module _ {M : Type 0} (reply_to : M → TokenText → Reply) (after : M → TokenText → ℕ → M) (foreign : M → Bool) {E : Type 0} (told : E → List LocatedError → Type 0) (start : Reached M) (first : E) where
   -- a row is done whose errors were reported
   pub goes_before : {text : List ℕ} {line : ℕ} {p : ReaderPlace} {s : Spot} {m : M} {x : ℕ} {xs : List ℕ} {now : E} (more : List ℕ) (state : State)
       → CameBefore reply_to after foreign told start first text line p s m (x ∷ xs) x now → is_dropped p x ≡ false → outcome references p x ≡ Consumed more state
@@ -273,7 +273,7 @@ module _ {M : Type 0} (reply_to : M → TokenText → Reply) (after : M → Toke
       → CameOn reply_to after foreign told start first [] p.began p s m xs now
   none_leads_telling {p} {s} {m} {xs} {now} {line} text e h = nothing_on (subst (λ t. CameOn reply_to after foreign told start first t line p s m xs now) e h)
 
-  asked_errors : (b : Bool) (at : Position) (es : List ToldError) (e : ParseError) → es ++ told_at at (if b then [] else e ∷ []) ≡ (if b then es else es ++ told_at at (e ∷ []))
+  asked_errors : (b : Bool) (at : Position) (es : List LocatedError) (e : ParseError) → es ++ told_at at (if b then [] else e ∷ []) ≡ (if b then es else es ++ told_at at (e ∷ []))
   asked_errors true at es e = append-nil es
   asked_errors false at es e = refl
 
@@ -408,7 +408,7 @@ module _ {M : Type 0} (reply_to : M → TokenText → Reply) (after : M → Toke
       }))
 
 -- the errors at a character whose first byte is new, and at another byte
-new_so : {E : Type 0} (told : E → List ToldError → Type 0) (old new : E) (p : ReaderPlace) (s : Spot) (x c : ℕ) (at : Position) (xs behind_it : List ℕ) → at ≡ position p.line s → s.is_new ≡ true → IsScalar c → xs ≡ encode_utf8 c ++ behind_it
+new_so : {E : Type 0} (told : E → List LocatedError → Type 0) (old new : E) (p : ReaderPlace) (s : Spot) (x c : ℕ) (at : Position) (xs behind_it : List ℕ) → at ≡ position p.line s → s.is_new ≡ true → IsScalar c → xs ≡ encode_utf8 c ++ behind_it
     → Tells told old new (told_at_byte references p at x (character_errors c)) → TellsRow told old new p s xs x
 new_so told old new p s x c at xs behind_it place is_new scalar split tells = record {
   input = character_errors c;
@@ -416,7 +416,7 @@ new_so told old new p s x c at xs behind_it place is_new scalar split tells = re
   tells = subst (λ a. Tells told old new (told_at_byte references p a x (character_errors c))) place tells;
 }
 
-pub tells_new : {E : Type 0} (told : E → List ToldError → Type 0) (old mid new : E) (p : ReaderPlace) (s : Spot) (x c : ℕ) (at : Position) (xs behind_it : List ℕ) → at ≡ position p.line s → s.is_new ≡ true → IsScalar c → xs ≡ encode_utf8 c ++ behind_it
+pub tells_new : {E : Type 0} (told : E → List LocatedError → Type 0) (old mid new : E) (p : ReaderPlace) (s : Spot) (x c : ℕ) (at : Position) (xs behind_it : List ℕ) → at ≡ position p.line s → s.is_new ≡ true → IsScalar c → xs ≡ encode_utf8 c ++ behind_it
     → seen_ahead references p.state ≡ 0
     → Tells told old mid (told_at at (character_errors c)) → Tells told mid new (told_of_row (seen_ahead references p.state) at (row_errors references p x)) → TellsRow told old new p s xs x
 tells_new told old mid new p s x c at xs behind_it place is_new scalar split none one two =
@@ -425,7 +425,7 @@ tells_new told old mid new p s x c at xs behind_it place is_new scalar split non
     new_so told old new p s x c at xs behind_it place is_new scalar split
     (subst (Tells told old new) (sym (input_first (seen_ahead references p.state) input row (eq-eqb (seen_ahead references p.state) 0 none))) (tells_twice told old mid new input row one two))
 
-pub tells_ahead : {E : Type 0} (told : E → List ToldError → Type 0) (old mid new : E) (p : ReaderPlace) (s : Spot) (x c : ℕ) (at : Position) (xs behind_it : List ℕ) → at ≡ position p.line s → s.is_new ≡ true → IsScalar c → xs ≡ encode_utf8 c ++ behind_it
+pub tells_ahead : {E : Type 0} (told : E → List LocatedError → Type 0) (old mid new : E) (p : ReaderPlace) (s : Spot) (x c : ℕ) (at : Position) (xs behind_it : List ℕ) → at ≡ position p.line s → s.is_new ≡ true → IsScalar c → xs ≡ encode_utf8 c ++ behind_it
     → (seen_ahead references p.state ≡ 0 → ⊥)
     → Tells told old mid (told_of_row (seen_ahead references p.state) at (row_errors references p x)) → Tells told mid new (told_at at (character_errors c)) → TellsRow told old new p s xs x
 tells_ahead told old mid new p s x c at xs behind_it place is_new scalar split some one two =
@@ -434,7 +434,7 @@ tells_ahead told old mid new p s x c at xs behind_it place is_new scalar split s
     new_so told old new p s x c at xs behind_it place is_new scalar split
     (subst (Tells told old new) (sym (row_first (seen_ahead references p.state) input row (ne_eqb (seen_ahead references p.state) 0 some))) (tells_twice told old mid new row input one two))
 
-pub tells_again : {E : Type 0} (told : E → List ToldError → Type 0) (old new : E) (p : ReaderPlace) (s : Spot) (x : ℕ) (at : Position) (xs : List ℕ) → at ≡ position p.line s → s.is_new ≡ false
+pub tells_again : {E : Type 0} (told : E → List LocatedError → Type 0) (old new : E) (p : ReaderPlace) (s : Spot) (x : ℕ) (at : Position) (xs : List ℕ) → at ≡ position p.line s → s.is_new ≡ false
     → Tells told old new (told_of_row (seen_ahead references p.state) at (row_errors references p x)) → TellsRow told old new p s xs x
 tells_again told old new p s x at xs place is_new tells = record {
   input = [];
@@ -454,7 +454,7 @@ pub dropped_is_ascii : (m : MachineText) (x : ℕ) → is_dropped (place_of m) x
 dropped_is_ascii m x d = omega (arith, eqb-true x 10 (and_parts m.after_return (x == 10) d).1)
 
 -- nothing was read
-pub begins_here : {M : Type 0} (reply_to : M → TokenText → Reply) (after : M → TokenText → ℕ → M) (foreign : M → Bool) {E : Type 0} (told : E → List ToldError → Type 0) (p : ReaderPlace) (s : Spot) (m : M) (xs : List ℕ) (now : E) (text : List ℕ) (line : ℕ)
+pub begins_here : {M : Type 0} (reply_to : M → TokenText → Reply) (after : M → TokenText → ℕ → M) (foreign : M → Bool) {E : Type 0} (told : E → List LocatedError → Type 0) (p : ReaderPlace) (s : Spot) (m : M) (xs : List ℕ) (now : E) (text : List ℕ) (line : ℕ)
     → text ≡ [] → line ≡ p.began → CameOn reply_to after foreign told (at_first p s m xs) now text line p s m xs now
 begins_here reply_to after foreign told p s m xs now text line e f =
     subst (λ t. CameOn reply_to after foreign told (at_first p s m xs) now t line p s m xs now) (sym e)

@@ -10,7 +10,7 @@ use Rattle.h5_reading.specs.declared.stage.Stage.{Stage}
 use Rattle.h5_reading.specs.declared.stop.Stop.{Stop}
 use Rattle.h5_reading.specs.declared.stop.Stop.TheVariants as stop
 use Rattle.h5_states.specs.declared.position.Spot.{Spot}
-use Rattle.h5_states.specs.declared.position.ToldError.{ToldError}
+use Rattle.h5_states.specs.declared.position.LocatedError.{LocatedError}
 use Rattle.h5_states.specs.ReferenceTable.{references}
 use Rattle.h5_states.specs.Reading.{ReaderPlace}
 use Rattle.h5_states.specs.Telling.{Reached, at_first, IsHeld, IsHanded}
@@ -37,7 +37,7 @@ module _ {M : Type 0} (reply_to : M → TokenText → Reply) (after : M → Toke
   handed_reads r (inl h) not = absurd (not h.0)
   handed_reads r (inr h) not = record { tokens = h.tokens; read = h.read }
 
-  module _ {E : Type 0} (told : E → List ToldError → Type 0) where
+  module _ {E : Type 0} (told : E → List LocatedError → Type 0) where
     stopped_reads : (p : ReaderPlace) (s : Spot) (m : M) (xs : List ℕ) (first : E) (reply : Reply) (q : ReaderPlace) (t : Spot) (n : M) (ys : List ℕ) (now : E) → (reply ≡ Continues → ⊥)
         → CameTo reply_to after foreign told (at_first p s m xs) first reply q t n ys now → Stopped reply_to after foreign p m xs reply q n ys
     stopped_reads p s m xs first reply q t n ys now not h =

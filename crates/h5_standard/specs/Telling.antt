@@ -13,7 +13,7 @@ use Rattle.h5_reading.specs.declared.result.TokenizerResult.{TokenizerResult}
 use Rattle.h5_reading.specs.declared.result.TokenizerResult.TheVariants as result
 use Rattle.h5_states.specs.declared.errors.ParseError.{ParseError}
 use Rattle.h5_states.specs.declared.position.Spot.{Spot}
-use Rattle.h5_states.specs.declared.position.ToldError.{ToldError}
+use Rattle.h5_states.specs.declared.position.LocatedError.{LocatedError}
 use Rattle.h5_states.specs.InputErrors.{InputErrors}
 use Rattle.h5_states.specs.Reading.{ReaderPlace}
 use Rattle.h5_states.specs.ReferenceTable.{references}
@@ -27,7 +27,7 @@ use Rattle.h5_standard.specs.declared.steps.Halt.{Halt}
 use Rattle.h5_standard.specs.declared.steps.Halt.TheVariants as halt
 
 -- At the current byte, the errors of the input, if the byte is new, and those of the row were reported.
-pub record TellsRow {E : Type 0} (told : E → List ToldError → Type 0) (old new : E) (p : ReaderPlace) (s : Spot) (xs : List ℕ) (x : ℕ) : Type 0 where
+pub record TellsRow {E : Type 0} (told : E → List LocatedError → Type 0) (old new : E) (p : ReaderPlace) (s : Spot) (xs : List ℕ) (x : ℕ) : Type 0 where
   pub input : List ParseError
   pub input_errors : InputErrors s.is_new xs input
   pub tells : Tells told old new (told_at_byte references p (position p.line s) x input)
@@ -41,9 +41,9 @@ pub record IsWideCharacter (bytes : List ℕ) : Type 0 where
   pub within : list_all is_inside others ≡ true
 
 -- From a start, with this sink of errors, reading got to here, and reported its errors; `now` is the sink of errors afterwards.
-module _ {M : Type 0} (reply_to : M → TokenText → Reply) (after : M → TokenText → ℕ → M) (foreign : M → Bool) {E : Type 0} (told : E → List ToldError → Type 0) (start : Reached M) (first : E) where
+module _ {M : Type 0} (reply_to : M → TokenText → Reply) (after : M → TokenText → ℕ → M) (foreign : M → Bool) {E : Type 0} (told : E → List LocatedError → Type 0) (start : Reached M) (first : E) where
   pub record Came (r : Reached M) (now : E) : Type 0 where
-    pub errors : List ToldError
+    pub errors : List LocatedError
     pub reaches : Reaches references reply_to after foreign start r errors
     pub tells : Tells told first now errors
 

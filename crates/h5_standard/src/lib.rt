@@ -18,6 +18,6 @@ mod telling_steps;
 mod tokenizer;
 
 pub use h5_reading::{BufferQueue, TokenizerOpts, TokenizerResult};
-pub use h5_states::{ErrorSink, Errors, ParseError, Position, ToldError};
-pub use telling::TellingTokenizer;
+pub use h5_states::{ErrorSink, Errors, LocatedError, ParseError, Position};
+pub use telling::ReportingTokenizer;
 pub use tokenizer::Tokenizer;

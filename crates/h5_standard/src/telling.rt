@@ -23,7 +23,7 @@ use std::alloc::Global;
 /// The standard tokenizer, which also reports each parse error of tokenization and of the input stream, with its position (HTML
 /// standard, section 13.2.2, "Parse errors"). It takes one byte after another.
 #[derive(Drop)]
-pub struct TellingTokenizer<Sink: TokenSink, E: ErrorSink> {
+pub struct ReportingTokenizer<Sink: TokenSink, E: ErrorSink> {
     pub sink: Sink,
     pub errors: E,
     reader: Reader,
@@ -31,21 +31,21 @@ pub struct TellingTokenizer<Sink: TokenSink, E: ErrorSink> {
     alloc: Global,
 }
 
-impl<Sink: TokenSink, E: ErrorSink> TellingTokenizer<Sink, E> {
+impl<Sink: TokenSink, E: ErrorSink> ReportingTokenizer<Sink, E> {
     /// Returns a new tokenizer, in line 1 and column 1. Allocates nothing.
     pub fn new(
         alloc: Global,
         sink: Sink,
         errors: E,
         opts: TokenizerOpts,
-    ) -> TellingTokenizer<Sink, E>
+    ) -> ReportingTokenizer<Sink, E>
         ensures sink { result.sink ≡ sink }
         ensures errors { result.errors ≡ errors }
         ensures reader { result.reader ≡ record { at_start = opts.discard_bom; place = first_place opts; stage = Stage.Reading } }
         ensures spot { result.spot ≡ record { column = 1; offset = 0; is_new = true } }
     {
         let made = Tokenizer::new(alloc, sink, opts);
-        TellingTokenizer {
+        ReportingTokenizer {
             sink: made.sink,
             errors,
             reader: made.reader,

@@ -18,7 +18,7 @@ pub fn tell_message<S: TreeSink>(sink: &mut S, state: &State<S::Handle>, message
 }
 
 /// Reports a parse error. Changes nothing else.
-pub fn tell_error<S: TreeSink>(sink: &mut S, state: &State<S::Handle>, error: TreeError)
+pub fn report_error<S: TreeSink>(sink: &mut S, state: &State<S::Handle>, error: TreeError)
     ensures told { TellsErrors S.TreeSink sink.old sink.new state.now }
     ensures noted { 0 < errors_of S.TreeSink sink.new }
 {
@@ -81,7 +81,7 @@ pub fn unexpected_tag<S: TreeSink>(sink: &mut S, state: &State<S::Handle>, tag: 
 {
     match exact_tag(state, tag) {
         Some(message) => tell_message(sink, state, message.as_str()),
-        None => tell_error(sink, state, TreeError::UnexpectedToken),
+        None => report_error(sink, state, TreeError::UnexpectedToken),
     }
 }
 
@@ -93,6 +93,6 @@ pub fn unexpected<S: TreeSink>(sink: &mut S, state: &State<S::Handle>, token: &T
 {
     match exact_token(state, token) {
         Some(message) => tell_message(sink, state, message.as_str()),
-        None => tell_error(sink, state, TreeError::UnexpectedToken),
+        None => report_error(sink, state, TreeError::UnexpectedToken),
     }
 }

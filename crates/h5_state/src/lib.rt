@@ -46,7 +46,7 @@ mod surplus;
 mod turn;
 
 pub use blanks::{first_run, is_blank_text, set_frameset_ok_by_text};
-pub use errors::{tell_error, tell_message, unexpected, unexpected_tag};
+pub use errors::{report_error, tell_message, unexpected, unexpected_tag};
 pub use find::{find_listed, find_open, handle_at, is_node_in_scope};
 pub use formatting_list::FormattingList;
 pub use moves::move_up;

@@ -16,7 +16,7 @@ ghost use Rattle.h5_state.specs.Numbers.{name_number};
 ghost use Rattle.h5_state.specs.Summaries.{IsKept, all_open, open_templates};
 ghost use Rattle.h5_state.specs.View.{names_under, stack_under, with_stack};
 
-use super::errors::tell_error;
+use super::errors::report_error;
 use super::name_numbers::NameNumbers;
 use super::name_test::{ImpliedBut, Local, NameTest};
 use super::newest::newest_named;
@@ -187,7 +187,7 @@ pub fn check_body_end<S: TreeSink>(sink: &mut S, state: &State<S::Handle>)
     ensures quiet { has_unclosed (names_of (world_of S.TreeSink sink.old state.now)) ≡ false → errors_of S.TreeSink sink.new ≡ errors_of S.TreeSink sink.old }
 {
     if has_unclosed(sink, state) {
-        tell_error(sink, state, TreeError::OpenElementAtEndOfBody);
+        report_error(sink, state, TreeError::OpenElementAtEndOfBody);
     }
 }
 

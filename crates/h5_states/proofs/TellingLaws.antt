@@ -4,7 +4,7 @@ use Rattle.h5_token.specs.TokenText.{TokenText, Characters}
 use Rattle.h5_token.specs.Reply.{Reply, Continues}
 use Rattle.h5_reading.specs.Answers.{goes_on}
 use Rattle.h5_states.specs.declared.errors.ParseError.{ParseError}
-use Rattle.h5_states.specs.declared.position.ToldError.{ToldError}
+use Rattle.h5_states.specs.declared.position.LocatedError.{LocatedError}
 use Rattle.h5_states.specs.States.{State}
 use Rattle.h5_states.specs.Turn.{Outcome, Consumed, Reconsumed}
 use Rattle.h5_states.specs.References.{Reference}
@@ -56,7 +56,7 @@ module _ (table : List Reference) {M : Type 0} (reply_to : M → TokenText → R
   none_read r h e = (h.tokens ++ [], read_on h.read h.goes_on (quiet_step (subst (λ t. Passes table h.place h.rest t r.place r.rest) e h.passes)))
 
   -- a reading with errors is a reading
-  pub reaches_read : {p : ReaderPlace} {s : Spot} {m : M} {xs : List ℕ} {r : Reached M} {told : List ToldError}
+  pub reaches_read : {p : ReaderPlace} {s : Spot} {m : M} {xs : List ℕ} {r : Reached M} {told : List LocatedError}
       → Reaches table reply_to after foreign (at_first p s m xs) r told → IsReadSo table reply_to after foreign p m xs r
   reaches_read begins = inr (record { tokens = []; read = nothing_read; none = refl; began = refl })
   reaches_read (drops {r} {xs = ys} so on front d) =
@@ -129,7 +129,7 @@ module _ (table : List Reference) {M : Type 0} (reply_to : M → TokenText → R
   input_goes_on more (inside e) = inside e
   input_goes_on more not_new = not_new
 
-  meets_goes_on : {r : Reached M} {x : ℕ} {xs : List ℕ} {deed : Outcome} {errors : List ToldError} (more : List ℕ) → MeetsByte table r x xs deed errors → MeetsByte table (longer more r) x (xs ++ more) deed errors
+  meets_goes_on : {r : Reached M} {x : ℕ} {xs : List ℕ} {deed : Outcome} {errors : List LocatedError} (more : List ℕ) → MeetsByte table r x xs deed errors → MeetsByte table (longer more r) x (xs ++ more) deed errors
   meets_goes_on more here = record {
     goes_on = here.goes_on;
     front = ap (λ l. l ++ more) here.front;
@@ -141,7 +141,7 @@ module _ (table : List Reference) {M : Type 0} (reply_to : M → TokenText → R
   }
 
   -- what was read is reported in the same way, whatever follows
-  pub reaches_goes_on : {start r : Reached M} {told : List ToldError} (more : List ℕ) → Reaches table reply_to after foreign start r told → Reaches table reply_to after foreign (longer more start) (longer more r) told
+  pub reaches_goes_on : {start r : Reached M} {told : List LocatedError} (more : List ℕ) → Reaches table reply_to after foreign start r told → Reaches table reply_to after foreign (longer more start) (longer more r) told
   reaches_goes_on more begins = begins
   reaches_goes_on more (drops so on front d) = drops (reaches_goes_on more so) on (ap (λ l. l ++ more) front) d
   reaches_goes_on more (goes text state so here) = goes text state (reaches_goes_on more so) (meets_goes_on more here)
@@ -152,7 +152,7 @@ module _ (table : List Reference) {M : Type 0} (reply_to : M → TokenText → R
   reaches_goes_on more (asks there error elsewhere so e here) = asks there error elsewhere (reaches_goes_on more so) e (meets_goes_on more here)
 
   -- a reading, and then another from its end
-  pub reaches_join : {start q r : Reached M} {told errors : List ToldError} → Reaches table reply_to after foreign start q told → goes_on q.reply ≡ true → q.text ≡ []
+  pub reaches_join : {start q r : Reached M} {told errors : List LocatedError} → Reaches table reply_to after foreign start q told → goes_on q.reply ≡ true → q.text ≡ []
       → Reaches table reply_to after foreign (at_first q.place q.spot q.meaning q.rest) r errors → Reaches table reply_to after foreign start r (told ++ errors)
   reaches_join first on none begins = rw append-nil (hands_nothing first on none)
   reaches_join first on none (drops so on' front d) = drops (reaches_join first on none so) on' front d

@@ -5,7 +5,7 @@ use Rattle.std.specs.Prelude.{ℕ, Bool, true, false, List, [], ◌∷◌, lengt
 use Rattle.h5_states.specs.declared.errors.ParseError.{ParseError}
 use Rattle.h5_states.specs.declared.errors.ParseError.TheVariants.{IncorrectlyOpenedComment, InvalidCharacterSequenceAfterDoctypeName, MissingSemicolonAfterCharacterReference}
 use Rattle.h5_states.specs.declared.position.Position.{Position}
-use Rattle.h5_states.specs.declared.position.ToldError.{ToldError}
+use Rattle.h5_states.specs.declared.position.LocatedError.{LocatedError}
 use Rattle.h5_states.specs.References.{Reference, Longest, longest}
 use Rattle.h5_states.specs.Spots.{position_before}
 use Rattle.h5_states.specs.States.{State, MarkupDeclarationOpen, AfterDoctypeName, NamedCharacterReference}
@@ -34,6 +34,6 @@ abbrev pub error_position : ℕ → Position → ParseError → Position
 error_position ahead at e = if is_told_ahead e then position_before ahead at else at
 
 -- the errors of a row, in their order
-abbrev pub told_of_row : ℕ → Position → List ParseError → List ToldError
+abbrev pub told_of_row : ℕ → Position → List ParseError → List LocatedError
 told_of_row ahead at [] = []
 told_of_row ahead at (e ∷ es) = record { error = e; at = error_position ahead at e } ∷ told_of_row ahead at es

@@ -5,7 +5,7 @@ use Rattle.h5_token.specs.Reply.{Reply, Continues}
 use Rattle.h5_reading.specs.Answers.{goes_on}
 use Rattle.h5_states.specs.declared.errors.ParseError.{ParseError}
 use Rattle.h5_states.specs.declared.position.Position.{Position}
-use Rattle.h5_states.specs.declared.position.ToldError.{ToldError}
+use Rattle.h5_states.specs.declared.position.LocatedError.{LocatedError}
 use Rattle.h5_states.specs.Lines.{normal}
 use Rattle.h5_states.specs.States.{State}
 use Rattle.h5_states.specs.Turn.{Outcome, Consumed, Reconsumed, Emitted, Asks}
@@ -47,19 +47,19 @@ here r = position r.place.line r.spot
 
 -- the errors at a byte: those of the input and then those of the row; if bytes were seen ahead, first those of the row, which
 -- are before it
-abbrev pub in_order : ℕ → List ToldError → List ToldError → List ToldError
+abbrev pub in_order : ℕ → List LocatedError → List LocatedError → List LocatedError
 in_order ahead input row = if ahead == 0 then input ++ row else row ++ input
 
-abbrev pub told_at_byte : List Reference → ReaderPlace → Position → ℕ → List ParseError → List ToldError
+abbrev pub told_at_byte : List Reference → ReaderPlace → Position → ℕ → List ParseError → List LocatedError
 told_at_byte table p at x input = in_order (seen_ahead table p.state) (told_at at input) (told_of_row (seen_ahead table p.state) at (row_errors table p x))
 
 -- the errors of the end
-abbrev pub told_at_end : List Reference → ReaderPlace → Position → List ToldError
+abbrev pub told_at_end : List Reference → ReaderPlace → Position → List LocatedError
 told_at_end table p at = told_of_row (seen_ahead table p.state) at (end_errors table p)
 
 -- A row handles the current byte, and tokenization may go on. The errors are those of the input there, if the byte is new, and
 -- those of the row.
-pub record MeetsByte (table : List Reference) {M : Type 0} (r : Reached M) (x : ℕ) (xs : List ℕ) (deed : Outcome) (errors : List ToldError) : Type 0 where
+pub record MeetsByte (table : List Reference) {M : Type 0} (r : Reached M) (x : ℕ) (xs : List ℕ) (deed : Outcome) (errors : List LocatedError) : Type 0 where
   pub goes_on : goes_on r.reply ≡ true
   pub front : r.rest ≡ x ∷ xs
   pub not_dropped : is_dropped r.place x ≡ false
@@ -94,27 +94,27 @@ module _ {M : Type 0} (reply_to : M → TokenText → Reply) (after : M → Toke
 
 module _ (table : List Reference) {M : Type 0} (reply_to : M → TokenText → Reply) (after : M → TokenText → ℕ → M) (foreign : M → Bool) where
   -- Reading from `start` got to here, and reported these errors.
-  pub data Reaches (start : Reached M) : Reached M → List ToldError → Type 0 where
+  pub data Reaches (start : Reached M) : Reached M → List LocatedError → Type 0 where
     begins : Reaches start start []
-    drops : {r : Reached M} {told : List ToldError} {x : ℕ} {xs : List ℕ} → Reaches start r told
+    drops : {r : Reached M} {told : List LocatedError} {x : ℕ} {xs : List ℕ} → Reaches start r told
         → goes_on r.reply ≡ true → r.rest ≡ x ∷ xs → is_dropped r.place x ≡ true → Reaches start (dropped xs r) told
-    goes : {r : Reached M} {told : List ToldError} {x : ℕ} {xs : List ℕ} {errors : List ToldError} (text : List ℕ) (state : State) → Reaches start r told
+    goes : {r : Reached M} {told : List LocatedError} {x : ℕ} {xs : List ℕ} {errors : List LocatedError} (text : List ℕ) (state : State) → Reaches start r told
         → MeetsByte table r x xs (Consumed text state) errors
         → Reaches start (emitting text (consumed x xs state r)) (told ++ errors)
-    again : {r : Reached M} {told : List ToldError} {x : ℕ} {xs : List ℕ} {errors : List ToldError} (text : List ℕ) (state : State) → Reaches start r told
+    again : {r : Reached M} {told : List LocatedError} {x : ℕ} {xs : List ℕ} {errors : List LocatedError} (text : List ℕ) (state : State) → Reaches start r told
         → MeetsByte table r x xs (Reconsumed text state) errors
         → Reaches start (emitting text (reconsumed state r)) (told ++ errors)
     -- the held text is passed to the sink, at any byte
-    hands_text : {r : Reached M} {told : List ToldError} {x : ℕ} {text : List ℕ} → Reaches start r told
+    hands_text : {r : Reached M} {told : List LocatedError} {x : ℕ} {text : List ℕ} → Reaches start r told
         → goes_on r.reply ≡ true → r.text ≡ x ∷ text → Reaches start (handed reply_to after (Characters r.text) r.line r) told
     -- no text is held
-    hands_nothing : {r : Reached M} {told : List ToldError} → Reaches start r told
+    hands_nothing : {r : Reached M} {told : List LocatedError} → Reaches start r told
         → goes_on r.reply ≡ true → r.text ≡ [] → Reaches start (at_first r.place r.spot r.meaning r.rest) told
-    hands_token : {r : Reached M} {told : List ToldError} {x : ℕ} {xs : List ℕ} {errors : List ToldError} (token : TokenText) (state : State) → Reaches start r told
+    hands_token : {r : Reached M} {told : List LocatedError} {x : ℕ} {xs : List ℕ} {errors : List LocatedError} (token : TokenText) (state : State) → Reaches start r told
         → r.text ≡ [] → MeetsByte table r x xs (Emitted token state) errors
         → Reaches start (handed reply_to after token r.place.began (consumed x xs state r)) (told ++ errors)
     -- the adjusted current node is checked; if it is in the HTML namespace, that is an error
-    asks : {r : Reached M} {told : List ToldError} {x : ℕ} {xs : List ℕ} {errors : List ToldError} (there : State) (error : ParseError) (elsewhere : State) → Reaches start r told
+    asks : {r : Reached M} {told : List LocatedError} {x : ℕ} {xs : List ℕ} {errors : List LocatedError} (there : State) (error : ParseError) (elsewhere : State) → Reaches start r told
         → r.text ≡ [] → MeetsByte table r x xs (Asks there error elsewhere) errors
         → Reaches start (with_none (consumed x xs (if foreign r.meaning then there else elsewhere) r))
         (told ++ (if foreign r.meaning then errors else errors ++ told_at (here r) (error ∷ [])))

@@ -2,10 +2,10 @@
 use Rattle.std.specs.Prelude.{List, [], ◌∷◌, ◌++◌, Option, Some, None}
 use Rattle.h5_states.specs.declared.errors.ParseError.{ParseError}
 use Rattle.h5_states.specs.declared.position.Position.{Position}
-use Rattle.h5_states.specs.declared.position.ToldError.{ToldError}
+use Rattle.h5_states.specs.declared.position.LocatedError.{LocatedError}
 
 -- these errors are at this position, in their order
-abbrev pub told_at : Position → List ParseError → List ToldError
+abbrev pub told_at : Position → List ParseError → List LocatedError
 told_at at [] = []
 told_at at (e ∷ es) = record { error = e; at = at } ∷ told_at at es
 
@@ -15,5 +15,5 @@ if_any None = []
 if_any (Some e) = e ∷ []
 
 -- Whatever was reported before, these errors were reported after it, and no others.
-abbrev pub Tells : {S : Type 0} → (S → List ToldError → Type 0) → S → S → List ToldError → Type 0
-Tells told old new errors = (before : List ToldError) → told old before → told new (before ++ errors)
+abbrev pub Tells : {S : Type 0} → (S → List LocatedError → Type 0) → S → S → List LocatedError → Type 0
+Tells told old new errors = (before : List LocatedError) → told old before → told new (before ++ errors)

@@ -4,12 +4,12 @@ ghost use Rattle.std.specs.Prelude.{◌≡◌, true, false, [], ◌∷◌, ◌++
 
 use super::error_sink::ErrorSink;
 use super::errors::ParseError;
-use super::position::{Position, ToldError};
+use super::position::{LocatedError, Position};
 use std::alloc::Global;
 
 /// The first errors that were reported, up to a limit, and the number of later ones.
 pub struct Errors {
-    kept: Vec<ToldError>,
+    kept: Vec<LocatedError>,
     limit: usize,
     more: u64,
 }
@@ -40,7 +40,7 @@ impl Errors {
 
     /// Returns the first errors that were reported, in order. There are as many as the limit, or fewer if fewer were reported
     /// or an allocation failed.
-    pub fn kept(&self) -> &[ToldError]
+    pub fn kept(&self) -> &[LocatedError]
         ensures { result.now ≡ self.now.kept.items }
     {
         &self.kept
@@ -54,7 +54,7 @@ impl Errors {
     }
 
     // Adds an error if all previous ones were added, and there is room and memory. Returns true if the error was added.
-    fn keep(&mut self, told: ToldError) -> bool
+    fn keep(&mut self, told: LocatedError) -> bool
         ensures all { result ≡ true → self.old.more ≡ 0 }
         ensures kept { result ≡ true → self.new.kept.items ≡ self.old.kept.items ++ told ∷ [] }
         ensures not_kept { result ≡ false → self.new.kept.items ≡ self.old.kept.items }
@@ -70,7 +70,7 @@ impl ErrorSink for Errors {
     ghost Told = { λ errors told. IsListOf errors.kept.items errors.more told };
 
     fn error(&mut self, error: ParseError, at: Position) {
-        if !self.keep(ToldError { error, at }) {
+        if !self.keep(LocatedError { error, at }) {
             self.more = self.more.saturating_add(1);
         }
     }
@@ -78,7 +78,7 @@ impl ErrorSink for Errors {
 
 /// Ignores all errors.
 impl ErrorSink for () {
-    ghost use Rattle.h5_states.specs.declared.position.ToldError.{ToldError};
+    ghost use Rattle.h5_states.specs.declared.position.LocatedError.{LocatedError};
 
     ghost Told = { λ nobody told. Unit {0} };
 

@@ -155,18 +155,18 @@ pub fn what_was_seen_is_taken_as_it_is()
 
 ghost use Rattle.h5_states.specs.declared.position.Spot.{Spot};
 ghost use Rattle.h5_states.specs.Telling.{Reached, Reaches, IsReadSo, at_first};
-ghost use Rattle.h5_states.specs.declared.position.ToldError.{ToldError};
+ghost use Rattle.h5_states.specs.declared.position.LocatedError.{LocatedError};
 
 /// A reading with errors, without its errors, is a reading of the tokens that it emits.
 pub fn what_tells_errors_reads<S: TokenSink>()
-    ensures { (table : List Reference) (p : ReaderPlace) (s : Spot) (m : S.Meaning) (xs : List ℕ) (r : Reached S.Meaning) (told : List ToldError) →
+    ensures { (table : List Reference) (p : ReaderPlace) (s : Spot) (m : S.Meaning) (xs : List ℕ) (r : Reached S.Meaning) (told : List LocatedError) →
         Reaches table S.reply_to S.after S.is_foreign (at_first p s m xs) r told
         → IsReadSo table S.reply_to S.after S.is_foreign p m xs r }
 {}
 
 /// The errors of a chunk, followed by those of what it left and of more input, are those of the whole input.
 pub fn told_pieces_join<S: TokenSink>()
-    ensures { (table : List Reference) (p : ReaderPlace) (s : Spot) (m : S.Meaning) (xs more : List ℕ) (q r : Reached S.Meaning) (told errors : List ToldError) →
+    ensures { (table : List Reference) (p : ReaderPlace) (s : Spot) (m : S.Meaning) (xs more : List ℕ) (q r : Reached S.Meaning) (told errors : List LocatedError) →
         Reaches table S.reply_to S.after S.is_foreign (at_first p s m xs) q told
         → goes_on q.reply ≡ true → q.text ≡ []
         → Reaches table S.reply_to S.after S.is_foreign (at_first q.place q.spot q.meaning (q.rest ++ more)) r errors
@@ -178,8 +178,8 @@ ghost use Rattle.h5_states.specs.WholeTelling.{Tellings, TellsToEnd};
 /// Readings with their errors, followed by one of what they left and of more input, are readings of the whole input, even if a
 /// reply stopped one of them.
 pub fn tellings_join<S: TokenSink>()
-    ensures { (table : List Reference) (p : ReaderPlace) (s : Spot) (m : S.Meaning) (xs : List ℕ) (told : List ToldError) (q : ReaderPlace) (t : Spot)
-        (n : S.Meaning) (ys more : List ℕ) (r : Reached S.Meaning) (errors : List ToldError) →
+    ensures { (table : List Reference) (p : ReaderPlace) (s : Spot) (m : S.Meaning) (xs : List ℕ) (told : List LocatedError) (q : ReaderPlace) (t : Spot)
+        (n : S.Meaning) (ys more : List ℕ) (r : Reached S.Meaning) (errors : List LocatedError) →
         Tellings table S.reply_to S.after S.is_foreign p s m xs told q t n ys
         → Reaches table S.reply_to S.after S.is_foreign (at_first q t n (ys ++ more)) r errors
         → refuses r.reply ≡ false → r.text ≡ []
@@ -193,7 +193,7 @@ pub fn tellings_join<S: TokenSink>()
 pub fn cuts_tell_the_same_errors<S: TokenSink, L: Likeness>()
     ensures { (see : S.Meaning → L.Seen) →
         IsBlindToCuts S.reply_to S.after S.is_foreign S.ended (λ m n. L.alike (see m) (see n))
-        → (table : List Reference) (p : ReaderPlace) (s : Spot) (m n : S.Meaning) (xs : List ℕ) (told others : List ToldError) →
+        → (table : List Reference) (p : ReaderPlace) (s : Spot) (m n : S.Meaning) (xs : List ℕ) (told others : List LocatedError) →
         L.alike (see m) (see n)
         → TellsToEnd table S.reply_to S.after S.is_foreign p s m xs told
         → TellsToEnd table S.reply_to S.after S.is_foreign p s n xs others

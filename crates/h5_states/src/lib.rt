@@ -25,4 +25,4 @@ pub use error_list::Errors;
 pub use error_sink::ErrorSink;
 pub use errors::ParseError;
 pub use kinds::{Escape, Identifier, Quote, RawTextKind, TextKind};
-pub use position::{Position, Spot, ToldError};
+pub use position::{LocatedError, Position, Spot};

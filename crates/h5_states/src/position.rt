@@ -31,7 +31,7 @@ impl Position {
 
 /// A parse error, with its position: that of the character that the standard's tokenizer has reached when it reports the error.
 #[derive(Clone, Copy, Debug, PartialEq, Eq)]
-pub struct ToldError {
+pub struct LocatedError {
     pub error: ParseError,
     pub at: Position,
 }

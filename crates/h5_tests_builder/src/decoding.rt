@@ -95,7 +95,7 @@ fn decode(
 // Returns true if a decoder counts the errors that its text shows. Those of UTF-8 it doesn't count.
 fn counts_errors(decoder: &Decoder, text: &str) -> bool {
     let count = text.chars().filter(|c| *c == '\u{FFFD}').count();
-    let counted = decoder.replaced();
+    let counted = decoder.replacement_count();
     let is_utf8 = decoder.encoding() == Encoding::Utf8;
     decoder.has_errors() == (counted > 0) && (is_utf8 || counted == count as u64)
 }

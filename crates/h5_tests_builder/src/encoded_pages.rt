@@ -33,7 +33,7 @@ fn decide(rt: &impl Abort, parser: &mut PageParser) -> Result<(), BuildFault> {
     let koi8_r = Encoding::SingleByte(SingleByte::Koi8R);
     assert!(rt; parser.encoding() == Some((koi8_r, Source::Meta)));
     assert!(rt; !parser.has_errors());
-    assert_eq!(rt; parser.replaced(), 0);
+    assert_eq!(rt; parser.replacement_count(), 0);
     Ok(())
 }
 

@@ -1,6 +1,6 @@
 //! A tokenizer of any kind over a sink that writes its tokens down.
 use h5_reading::{BufferQueue, TokenizerOpts, TokenizerResult};
-use h5_standard::{Errors, TellingTokenizer};
+use h5_standard::{Errors, ReportingTokenizer};
 use h5_tests_sinks::{Answer, Recorder};
 use h5_token::BuildFault;
 use h5_token::states::RawKind;
@@ -25,7 +25,7 @@ pub type Plain = h5_tokenizer::Tokenizer<Recorder>;
 pub type Standard = h5_standard::Tokenizer<Recorder>;
 
 /// The standard tokenizer that reports errors, of which it stores three.
-pub type Telling = TellingTokenizer<Recorder, Errors>;
+pub type Telling = ReportingTokenizer<Recorder, Errors>;
 
 impl Recording for h5_tokenizer::Tokenizer<Recorder> {
     fn over(alloc: Global, sink: Recorder, opts: TokenizerOpts) -> Self {
@@ -63,17 +63,17 @@ impl Recording for h5_standard::Tokenizer<Recorder> {
     }
 }
 
-impl Recording for TellingTokenizer<Recorder, Errors> {
+impl Recording for ReportingTokenizer<Recorder, Errors> {
     fn over(alloc: Global, sink: Recorder, opts: TokenizerOpts) -> Self {
-        TellingTokenizer::new(alloc, sink, Errors::new(alloc, 3), opts)
+        ReportingTokenizer::new(alloc, sink, Errors::new(alloc, 3), opts)
     }
 
     fn feed(&mut self, input: &mut BufferQueue) -> Result<TokenizerResult<u8>, BuildFault> {
-        TellingTokenizer::feed(self, input)
+        ReportingTokenizer::feed(self, input)
     }
 
     fn end(&mut self) -> Result<(), BuildFault> {
-        TellingTokenizer::end(self)
+        ReportingTokenizer::end(self)
     }
 
     fn sink(&self) -> &Recorder {

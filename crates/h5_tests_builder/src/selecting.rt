@@ -2,7 +2,7 @@
 use h5_arena::Arena;
 use h5_driver::ParseOpts;
 use h5_driver::standard::parse_document;
-use h5_selectors::{Problem, Selector, SelectorFault};
+use h5_selectors::{Selector, SelectorError, SelectorProblem};
 use std::alloc::Global;
 use std::process::Abort;
 use std::test::Fail;
@@ -71,9 +71,9 @@ fn elements_are_selected(rt: HostRuntime) -> Result<(), Fail> {
 
 #[test]
 fn an_error_has_its_position(rt: HostRuntime) {
-    let fault = SelectorFault::Invalid {
+    let fault = SelectorError::Invalid {
         at: 1,
-        problem: Problem::PseudoClass,
+        problem: SelectorProblem::PseudoClass,
     };
     assert!(rt; Selector::parse(rt.alloc(), "p:hover").err() == Some(fault));
 }

@@ -26,7 +26,7 @@ use h5_rules_tables::{
     step_in_table_body, step_in_table_text,
 };
 use h5_state::{
-    State, Turn, current_mode, set_mode, take_again, take_answer, tell_error, unexpected,
+    State, Turn, current_mode, report_error, set_mode, take_again, take_answer, unexpected,
 };
 use h5_tables::{InsertionMode, ProcessResult, Token, TreeError};
 use h5_token::{TagKind, TokenSinkResult};
@@ -109,7 +109,7 @@ fn error_if_self_closing<S: TreeSink>(sink: &mut S, state: &State<S::Handle>, se
     ensures noted { self_closing ≡ true → 0 < errors_of S.TreeSink sink.new }
 {
     if self_closing {
-        tell_error(sink, state, TreeError::SelfClosingTagWithContent);
+        report_error(sink, state, TreeError::SelfClosingTagWithContent);
     }
 }
 

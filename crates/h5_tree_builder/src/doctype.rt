@@ -8,7 +8,7 @@ ghost use Rattle.h5_tree_builder.specs.Chains.{IsReady, Settles};
 
 use super::turns_taken::Taken;
 use h5_interface::TreeSink;
-use h5_state::{State, current_mode, set_mode, set_quirks_mode, tell_error, tell_message};
+use h5_state::{State, current_mode, report_error, set_mode, set_quirks_mode, tell_message};
 use h5_tables::{InsertionMode, TreeError, doctype_error_and_quirks};
 use h5_token::{Doctype, TokenSinkResult};
 use std::alloc::{AllocError, Global};
@@ -64,7 +64,7 @@ fn tell_bad<S: TreeSink>(sink: &mut S, state: &State<S::Handle>, doctype: &Docty
 {
     match exact_bad(state, doctype) {
         Some(message) => tell_message(sink, state, message.as_str()),
-        None => tell_error(sink, state, TreeError::BadDoctype),
+        None => report_error(sink, state, TreeError::BadDoctype),
     }
 }
 
@@ -84,7 +84,7 @@ fn tell_late<S: TreeSink>(sink: &mut S, state: &State<S::Handle>)
 {
     match exact_late(state) {
         Some(message) => tell_message(sink, state, message.as_str()),
-        None => tell_error(sink, state, TreeError::LateDoctype),
+        None => report_error(sink, state, TreeError::LateDoctype),
     }
 }
 

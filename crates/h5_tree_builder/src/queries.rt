@@ -63,7 +63,7 @@ impl<Handle: Drop, Sink: TreeSink<Handle = Handle> + Drop> TreeBuilder<Handle, S
 
     /// Reports a parse error to the sink that isn't the builder's. Changes neither forest nor quirks mode.
     #[tactic(auto, unfolding(h5_state::specs::View::world, h5_rules::specs::World::names_of))]
-    pub fn tell_error(&mut self, message: &str)
+    pub fn report_error(&mut self, message: &str)
         ensures noted { 0 < (building Sink.sees Sink.node self.new).errors }
         ensures view { (building Sink.sees Sink.node self.new).view ≡ (building Sink.sees Sink.node self.old).view }
         ensures turns { self.new.turns ≡ self.old.turns }

@@ -56,7 +56,7 @@ pub use Rattle.h5_clean.specs.Pass
 pub use Rattle.h5_clean.specs.Places
 pub use Rattle.h5_clean.specs.Policies
 pub use Rattle.h5_clean.specs.Source
-pub use Rattle.h5_clean.specs.TextPolicy
+pub use Rattle.h5_clean.specs.DefaultPolicy
 pub use Rattle.h5_clean.specs.Texts
 pub mod SerializeFaults
 pub mod Types

@@ -23,7 +23,7 @@ use Rattle.h5_states.specs.Spots.{position}
 use Rattle.h5_states.specs.Telling.{at_first}
 use Rattle.h5_states.specs.WholeTelling.{TellsToEnd, more_telling, no_telling}
 use Rattle.h5_states.specs.declared.position.Spot.{Spot}
-use Rattle.h5_states.specs.declared.position.ToldError.{ToldError}
+use Rattle.h5_states.specs.declared.position.LocatedError.{LocatedError}
 use Rattle.h5_states.proofs.ToldCutLaws.{told_agree}
 use Rattle.h5_standard.specs.Options.{first_place}
 use Rattle.h5_plain.specs.Plain.{ArePlain, ElementThen, End, Nodes, PlainDocument, TextThen, as_written, document_tokens, end_tag, fragment_tokens, has_end_tag, is_start_of_title, plain_doctype, plain_reply, root_of, start_tag, tokens_before}
@@ -402,7 +402,7 @@ module _ {M : Type 0} (reply_to : M → TokenText → Reply) (after : M → Toke
   document_quietly d m s readable answers none = ends_quietly (first_place default_options) m (written_of d) (document_tokens d) s none (document_reached d m readable answers)
 
   -- however it is read to its end, none is reported
-  pub document_tells_none : (alike : M → M → Type 0) → IsBlindToCuts reply_to after foreign ended alike → (d : PlainDocument) (m : M) (s : Spot) (told : List ToldError) → IsReadableDocument d
+  pub document_tells_none : (alike : M → M → Type 0) → IsBlindToCuts reply_to after foreign ended alike → (d : PlainDocument) (m : M) (s : Spot) (told : List LocatedError) → IsReadableDocument d
       → Answers reply_to after m (document_tokens d) → HasNoInputErrors (written_of d) → TellsToEnd references reply_to after foreign (first_place default_options) s m (written_of d) told → told ≡ []
   document_tells_none alike blind d m s told readable answers none tells =
       told_agree reply_to after foreign ended alike blind references (first_place default_options) s m m (written_of d) told [] (blind.reflexive m) tells

@@ -12,7 +12,7 @@ ghost use Rattle.h5_states.specs.Whole.{ReadsToEnd};
 ghost use Rattle.h5_states.specs.WithoutErrors.{HasNoInputErrors, ReadsWithoutErrors};
 ghost use Rattle.h5_states.specs.WholeTelling.{TellsToEnd};
 ghost use Rattle.h5_states.specs.declared.position.Spot.{Spot};
-ghost use Rattle.h5_states.specs.declared.position.ToldError.{ToldError};
+ghost use Rattle.h5_states.specs.declared.position.LocatedError.{LocatedError};
 ghost use Rattle.h5_standard.specs.Options.{first_place};
 ghost use Rattle.h5_plain.specs.Plain.{Flow, IsPlain, Nodes, PlainDocument, document_tokens, fragment_tokens, nothing_open};
 ghost use Rattle.h5_interface.specs.SinkChoices.{SinkChoices};
@@ -45,7 +45,7 @@ pub fn documents_are_read_without_errors<S: TokenSink>()
 /// and read to its end, over a token sink for which the split of texts doesn't matter.
 pub fn documents_tell_no_errors<S: TokenSink, L: Likeness>()
     ensures { (see : S.Meaning → L.Seen) → IsBlindToCuts S.reply_to S.after S.is_foreign S.ended (λ m n. L.alike (see m) (see n))
-        → (d : PlainDocument) (m : S.Meaning) (s : Spot) (told : List ToldError) → IsReadableDocument d → Answers S.reply_to S.after m (document_tokens d)
+        → (d : PlainDocument) (m : S.Meaning) (s : Spot) (told : List LocatedError) → IsReadableDocument d → Answers S.reply_to S.after m (document_tokens d)
         → HasNoInputErrors (written_of d)
         → TellsToEnd references S.reply_to S.after S.is_foreign (first_place default_options) s m (written_of d) told
         → told ≡ [] }

@@ -1,9 +1,9 @@
 use Rattle.std.proofs.Common.{◌≡◌, ◌∷◌, ◌∙◌, [], ap, codes, inl, inr, rules, sym}
 use Rattle.h5_tables.specs.TagSets.{is_one_of}
-use Rattle.h5_clean.specs.TextPolicy.{keepings, keeps_by}
+use Rattle.h5_clean.specs.DefaultPolicy.{keepings, keeps_by}
 use Rattle.h5_clean.proofs.NameLaws.{isnt_among}
 use Rattle.h5_clean.proofs.KeepingLaws.{isnt_kept}
-use Rattle.h5_clean.proofs.text_policy.is_kept_by.Goals as goal
+use Rattle.h5_clean.proofs.default_policy.is_kept_by.Goals as goal
 
 pub returns-in_default-matches : goal.returns-in_default-matches
 unfolding keepings

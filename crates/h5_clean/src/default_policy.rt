@@ -3,7 +3,7 @@ ghost use Rattle.std.specs.Prelude.{◌≡◌};
 ghost use Rattle.std.specs.Char.{is_ascii_whitespace};
 ghost use Rattle.std.specs.List.{list_any};
 ghost use Rattle.h5_tables.specs.TagSets.{is_one_of};
-ghost use Rattle.h5_clean.specs.TextPolicy.{dropped_names, global_names, aligned_names, citing_names, is_good, is_language, keepings, keeps_attribute, keeps_by, keeps_of_many, more_dropped_names, text_rules, unnamed};
+ghost use Rattle.h5_clean.specs.DefaultPolicy.{dropped_names, global_names, aligned_names, citing_names, is_good, is_language, keepings, keeps_attribute, keeps_by, keeps_of_many, more_dropped_names, default_rules, unnamed};
 
 use super::kind::{Kind, kind_of};
 use super::place::Around;
@@ -15,10 +15,10 @@ use super::urls::{is_image, is_link};
 /// `mailto`, images all of these except `mailto`; `rel` of each `a` is set to `noopener noreferrer`. The result may be
 /// put into a list item, so an `li`, `dd` or `dt` outside a list is replaced by its content.
 #[derive(Clone, Copy, Debug, Default)]
-pub struct TextPolicy;
+pub struct DefaultPolicy;
 
 // The element has a kind, but isn't allowed.
-#[tactic(auto, unfolding(crate::specs::TextPolicy::unnamed))]
+#[tactic(auto, unfolding(crate::specs::DefaultPolicy::unnamed))]
 fn is_unnamed(name: &str) -> bool
     ensures { result ≡ is_one_of unnamed name.now }
 {
@@ -39,7 +39,7 @@ fn is_unnamed(name: &str) -> bool
 }
 
 // The element is dropped with its content: a script, a style, a frame and others.
-#[tactic(auto, unfolding(crate::specs::TextPolicy::dropped_names))]
+#[tactic(auto, unfolding(crate::specs::DefaultPolicy::dropped_names))]
 fn is_dropped(name: &str) -> bool
     ensures { result ≡ is_one_of dropped_names name.now }
 {
@@ -61,7 +61,7 @@ fn is_dropped(name: &str) -> bool
 }
 
 // The element is dropped with its content, which is text or media that isn't part of the page's text.
-#[tactic(auto, unfolding(crate::specs::TextPolicy::more_dropped_names))]
+#[tactic(auto, unfolding(crate::specs::DefaultPolicy::more_dropped_names))]
 fn is_also_dropped(name: &str) -> bool
     ensures { result ≡ is_one_of more_dropped_names name.now }
 {
@@ -72,7 +72,7 @@ fn is_also_dropped(name: &str) -> bool
 }
 
 // Any element keeps this attribute.
-#[tactic(auto, unfolding(crate::specs::TextPolicy::global_names))]
+#[tactic(auto, unfolding(crate::specs::DefaultPolicy::global_names))]
 fn is_global(attribute: &str) -> bool
     ensures { result ≡ is_one_of global_names attribute.now }
 {
@@ -80,7 +80,7 @@ fn is_global(attribute: &str) -> bool
 }
 
 // The element keeps this attribute, which only some do.
-#[tactic(auto, unfolding(crate::specs::TextPolicy::keepings))]
+#[tactic(auto, unfolding(crate::specs::DefaultPolicy::keepings))]
 fn is_kept_by(element: &str, attribute: &str) -> bool
     ensures { result ≡ keeps_by keepings element.now attribute.now }
 {
@@ -100,7 +100,7 @@ fn is_kept_by(element: &str, attribute: &str) -> bool
 }
 
 // The element keeps `align`.
-#[tactic(auto, unfolding(crate::specs::TextPolicy::aligned_names))]
+#[tactic(auto, unfolding(crate::specs::DefaultPolicy::aligned_names))]
 fn is_aligned(element: &str) -> bool
     ensures { result ≡ is_one_of aligned_names element.now }
 {
@@ -111,7 +111,7 @@ fn is_aligned(element: &str) -> bool
 }
 
 // The element keeps `cite`.
-#[tactic(auto, unfolding(crate::specs::TextPolicy::citing_names))]
+#[tactic(auto, unfolding(crate::specs::DefaultPolicy::citing_names))]
 fn is_citing(element: &str) -> bool
     ensures { result ≡ is_one_of citing_names element.now }
 {
@@ -157,11 +157,11 @@ fn is_good(attribute: &str, value: &str) -> bool
     }
 }
 
-impl Policy for TextPolicy {
-    ghost rules = { λ policy. text_rules };
+impl Policy for DefaultPolicy {
+    ghost rules = { λ policy. default_rules };
 
     // The name has a kind, and isn't one of `unnamed`.
-    fn names(&self, element: &str) -> bool {
+    fn allows(&self, element: &str) -> bool {
         kind_of(element) != Kind::Unknown && !is_unnamed(element)
     }
 
@@ -169,7 +169,7 @@ impl Policy for TextPolicy {
         is_dropped(element) || is_also_dropped(element)
     }
 
-    fn keeps(&self, element: &str, attribute: &str, value: &str) -> bool {
+    fn keeps_attribute(&self, element: &str, attribute: &str, value: &str) -> bool {
         (is_global(attribute)
             || is_kept_by(element, attribute)
             || is_kept_by_many(element, attribute))

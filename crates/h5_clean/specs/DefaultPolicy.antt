@@ -131,8 +131,8 @@ keeps_attribute element attribute value =
     (is_one_of global_names attribute || (keeps_by keepings element attribute || keeps_of_many element attribute)) && is_good attribute value
 
 -- the rules; `rel` separates a linked page from the page that links to it
-abbrev pub text_rules : Rules
-text_rules = record {
+abbrev pub default_rules : Rules
+default_rules = record {
   names = λ name. is_known (kind_of name) && not (is_one_of unnamed name);
   drops = λ name. is_one_of dropped_names name || is_one_of more_dropped_names name;
   keeps = keeps_attribute;
