@@ -12,14 +12,14 @@ const KINDS = {
   phrase: 'abbr bdi bdo cite data del dfn ins kbd label mark meter output progress q samp span sub sup time var',
   formatted: 'b big code em font i s small strike strong tt u',
   division: 'address dialog div',
-  barrier: 'article aside blockquote center details dir dl fieldset figcaption figure footer header hgroup main menu nav ol search ' +
-    'section summary ul',
+  barrier: 'article aside blockquote center details dir dl fieldset figcaption figure footer header hgroup main menu nav ol section ' +
+    'summary ul',
   break: 'br img wbr', heading: 'h1 h2 h3 h4 h5 h6', describing: 'dd dt', section: 'tbody tfoot thead', cell: 'td th', link: 'a',
   paragraph: 'p', item: 'li', row: 'tr', preformatted: 'pre', ruled: 'hr', table: 'table', caption: 'caption', columns: 'colgroup',
   column: 'col',
 };
 const KIND_OF = new Map(Object.entries(KINDS).flatMap(([kind, names]) => words(names).map(name => [name, kind])));
-const UNNAMED = setOf('center dialog dir fieldset big font strike tt label meter output progress menu');
+const UNNAMED = setOf('center dialog dir fieldset big font label meter output progress menu');
 const DROPPED = setOf('script style template iframe object embed applet noscript noembed noframes xmp plaintext textarea title select ' +
   'head frameset audio video canvas');
 const VOID = setOf('br img wbr hr col');
@@ -29,9 +29,10 @@ const DEPTH = 256, REL = 'noopener noreferrer';
 const GLOBAL = setOf('title lang dir');
 const KEPT = {
   a: 'href', img: 'src alt width height', td: 'colspan rowspan headers', th: 'colspan rowspan headers scope', col: 'span', colgroup: 'span',
-  ol: 'start reversed type', li: 'value', time: 'datetime', del: 'datetime', ins: 'datetime', data: 'value',
+  ol: 'start reversed type', li: 'value', time: 'datetime', del: 'datetime', ins: 'datetime', data: 'value', details: 'open', code: 'class',
 };
-const SCHEMES = {href: setOf('http https mailto'), src: setOf('http https')};
+const KEPT_BY = {align: setOf('td th p div img h1 h2 h3 h4 h5 h6'), cite: setOf('blockquote q del ins')};
+const SCHEMES = {href: setOf('http https mailto'), cite: setOf('http https mailto'), src: setOf('http https')};
 
 // What may stand in parts of tables, what may stand in flow whatever is open, and what a `p` in the way forbids.
 const PARTS = {table: setOf('caption columns section'), columns: setOf('column'), section: setOf('row'), row: setOf('cell')};
@@ -41,6 +42,7 @@ const NOT_IN_P = setOf('division barrier preformatted paragraph heading item des
 const OPENS = {paragraph: 'paragraph', heading: 'heading', item: 'item', describing: 'describing', link: 'link'};
 const SEEN_THROUGH = setOf('division paragraph formatted phrase link');
 const NOTHING_OPEN = {spot: 'flow', paragraph: false, heading: false, item: false, describing: false, link: false};
+const FIRST = {...NOTHING_OPEN, item: true, describing: true, room: DEPTH};
 
 // Whether an element of a kind may begin at a place.
 function fits(kind, place) {
@@ -64,7 +66,8 @@ function inside(kind, place) {
 // A text as it is left, and what the policy says of names.
 const readable = text => text.replace(/\0/g, '').replace(/\r/g, '\n');
 const isNamed = name => KIND_OF.has(name) && !UNNAMED.has(name);
-const isKept = (element, name) => GLOBAL.has(name) || words(KEPT[element] || '').includes(name);
+const isKept = (element, name) =>
+  GLOBAL.has(name) || words(KEPT[element] || '').includes(name) || (name in KEPT_BY && KEPT_BY[name].has(element));
 
 // The scheme of a URL in small letters, or nothing.
 function schemeOf(url) {
@@ -72,8 +75,9 @@ function schemeOf(url) {
   return found && found[1].toLowerCase();
 }
 
-// Whether the URL of an attribute that holds one may be kept.
-function leadsWell(name, value) {
+// Whether a value may be kept: a URL, and a class.
+function isGood(name, value) {
+  if (name === 'class') return /^language-[^ \t\n\f]*$/.test(value);
   const scheme = schemeOf(value);
   return !(name in SCHEMES) || scheme === null || SCHEMES[name].has(scheme);
 }
@@ -83,7 +87,7 @@ function attributesLeft(element) {
   const left = [];
   for (const attribute of element.attrs) {
     const name = attribute.name, value = readable(attribute.value);
-    if (!attribute.namespace && isKept(element.tagName, name) && leadsWell(name, value)) left.push({name, value});
+    if (!attribute.namespace && isKept(element.tagName, name) && isGood(name, value)) left.push({name, value});
   }
   if (element.tagName === 'a') left.push({name: 'rel', value: REL});
   return left;
@@ -154,7 +158,7 @@ function read(text, context) {
 
 // What is left of a text: as it is read of a file, without one U+FEFF at its front, and then without any.
 function cleaned(text) {
-  const left = putLeft(read(text.replace(/^\ufeff/, ''), 'div'), {...NOTHING_OPEN, room: DEPTH}, []);
+  const left = putLeft(read(text.replace(/^\ufeff/, ''), 'div'), FIRST, []);
   return written(takeFromFront(left, /^\ufeff+/));
 }
 
@@ -188,12 +192,16 @@ function forbidden(nodes, depth) {
   return null;
 }
 
+// A text in an item of a page.
+const inItem = text => `<ol><li><div>${text}</div><b>x</b></li><li>y</li></ol>`;
+
 // What differs of a text that was cleaned, and cleaned again.
 function differences([text, left, again]) {
   const found = [], wanted = cleaned(text);
   const put = (about, wanted, came) => { if (wanted !== came) found.push([about, wanted, came]); };
   put('what is left', wanted, left);
   for (const context of ['div', 'td', 'li']) put(`what parse5 reads in a ${context}`, left, written(read(left, context)));
+  put('what parse5 reads in an item of a page', inItem(left), written(read(inItem(left), 'div')));
   put('what is left again', left, again);
   put('what the policy lets through', null, forbidden(read(left, 'div'), 0));
   return found;

@@ -52,13 +52,13 @@ static struct text text_of(const struct tree *tree, uint32_t node)
 /* Finds the value of an attribute without a namespace. Returns false if the element doesn't have it. */
 static bool find_attribute(const struct tree *tree, uint32_t node, const char *wanted, struct text *value)
 {
-    uint32_t count = hengaruto_row_count(tree->block, tree->length, node);
+    uint32_t count = hengaruto_attribute_count(tree->block, tree->length, node);
 
     for (uint32_t i = 0; i < count; i++) {
         uint32_t name;
         size_t at, length;
 
-        if (hengaruto_row(tree->block, tree->length, node, i, &name, &at, &length) != HENGARUTO_OK) {
+        if (hengaruto_attribute_at(tree->block, tree->length, node, i, &name, &at, &length) != HENGARUTO_OK) {
             break;
         }
         if (hengaruto_namespace(tree->block, tree->length, name) == HENGARUTO_NS_NONE && is(name_of(tree, name), wanted)) {

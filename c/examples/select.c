@@ -21,11 +21,11 @@ struct tree {
 static const char *reason(uint32_t status)
 {
     switch (status) {
-    case HENGARUTO_MEMORY:
+    case HENGARUTO_NO_MEMORY:
         return "out of memory";
     case HENGARUTO_NO_NODE:
         return "no such node";
-    case HENGARUTO_NO_TREE:
+    case HENGARUTO_BAD_BLOCK:
         return "not a tree";
     case HENGARUTO_BAD_ARGUMENT:
         return "the selector isn't UTF-8";

@@ -1,4 +1,4 @@
-/* calls.c: tests each call, with each status that it can return except HENGARUTO_MEMORY. */
+/* calls.c: tests each call, with each status that it can return except HENGARUTO_NO_MEMORY. */
 #include "testing.h"
 
 #define SOME 0x5a5a5a5au
@@ -44,7 +44,7 @@ static int has_row(struct given tree, uint32_t node, uint32_t index, const char 
     uint32_t number;
     size_t at, count;
 
-    if (hengaruto_row(tree.bytes, tree.length, node, index, &number, &at, &count) != HENGARUTO_OK ||
+    if (hengaruto_attribute_at(tree.bytes, tree.length, node, index, &number, &at, &count) != HENGARUTO_OK ||
         !is_text(tree.bytes + at, count, value)) {
         return 0;
     }
@@ -147,7 +147,7 @@ static void html(void)
     CHECK(gave(html_of(tree, p, 0), "x &lt; y<br>"));
     CHECK(gave(html_of(tree, element(tree, "br"), 0), ""));
     CHECK(hengaruto_html(tree.bytes, tree.length, 1000, 1, &none.bytes, &none.length) == HENGARUTO_NO_NODE);
-    CHECK(hengaruto_html(bytes_of(""), 0, 0, 1, &none.bytes, &none.length) == HENGARUTO_NO_TREE);
+    CHECK(hengaruto_html(bytes_of(""), 0, 0, 1, &none.bytes, &none.length) == HENGARUTO_BAD_BLOCK);
     CHECK(none.bytes == NULL && none.length == SOME);
     free(tree.bytes);
 }
@@ -182,7 +182,7 @@ static void selects(void)
     found = (struct given){NULL, SOME};
     CHECK(select_of(tree, 0, "\xff", &found) == HENGARUTO_BAD_ARGUMENT);
     CHECK(select_of(tree, 1000, "li", &found) == HENGARUTO_NO_NODE);
-    CHECK(hengaruto_select(bytes_of("x"), 1, 0, bytes_of("li"), 2, &found.bytes, &found.length) == HENGARUTO_NO_TREE);
+    CHECK(hengaruto_select(bytes_of("x"), 1, 0, bytes_of("li"), 2, &found.bytes, &found.length) == HENGARUTO_BAD_BLOCK);
     CHECK(found.bytes == NULL && found.length == SOME);
     free(tree.bytes);
 }
@@ -250,15 +250,15 @@ static void places(void)
     CHECK(hengaruto_parent(tree.bytes, tree.length, p) == body);
     CHECK(hengaruto_first_child(tree.bytes, tree.length, body) == p);
     CHECK(hengaruto_kind(tree.bytes, tree.length, p + 1) == HENGARUTO_TEXT);
-    CHECK(hengaruto_next(tree.bytes, tree.length, p + 1) == b);
+    CHECK(hengaruto_next_sibling(tree.bytes, tree.length, p + 1) == b);
     CHECK(hengaruto_first_child(tree.bytes, tree.length, p + 1) == HENGARUTO_NONE);
-    CHECK(hengaruto_end(tree.bytes, tree.length, b) == b + 2);
-    CHECK(hengaruto_end(tree.bytes, tree.length, 0) == hengaruto_node_count(tree.bytes, tree.length));
-    CHECK(hengaruto_next(tree.bytes, tree.length, 0) == HENGARUTO_NONE);
-    contents = hengaruto_contents(tree.bytes, tree.length, template);
+    CHECK(hengaruto_subtree_end(tree.bytes, tree.length, b) == b + 2);
+    CHECK(hengaruto_subtree_end(tree.bytes, tree.length, 0) == hengaruto_node_count(tree.bytes, tree.length));
+    CHECK(hengaruto_next_sibling(tree.bytes, tree.length, 0) == HENGARUTO_NONE);
+    contents = hengaruto_template_contents(tree.bytes, tree.length, template);
     CHECK(hengaruto_kind(tree.bytes, tree.length, contents) == HENGARUTO_FRAGMENT);
     CHECK(hengaruto_first_child(tree.bytes, tree.length, contents) == element(tree, "i"));
-    CHECK(hengaruto_contents(tree.bytes, tree.length, p) == HENGARUTO_NONE);
+    CHECK(hengaruto_template_contents(tree.bytes, tree.length, p) == HENGARUTO_NONE);
     free(tree.bytes);
 }
 
@@ -276,8 +276,8 @@ static void names(void)
     CHECK(hengaruto_namespace(tree.bytes, tree.length, name) == HENGARUTO_NS_MATHML);
     CHECK(hengaruto_name(tree.bytes, tree.length, p + 1) == HENGARUTO_NONE);
     CHECK(hengaruto_name_text(tree.bytes, tree.length, HENGARUTO_NONE, &at, &count) == HENGARUTO_NO_NODE);
-    CHECK(hengaruto_name_text(bytes_of(""), 0, 0, &at, &count) == HENGARUTO_NO_TREE);
-    CHECK(hengaruto_row(tree.bytes, tree.length, element(tree, "svg"), 0, &link, &at, &count) == HENGARUTO_OK);
+    CHECK(hengaruto_name_text(bytes_of(""), 0, 0, &at, &count) == HENGARUTO_BAD_BLOCK);
+    CHECK(hengaruto_attribute_at(tree.bytes, tree.length, element(tree, "svg"), 0, &link, &at, &count) == HENGARUTO_OK);
     CHECK(hengaruto_namespace(tree.bytes, tree.length, link) == HENGARUTO_NS_XLINK);
     CHECK(hengaruto_prefix(tree.bytes, tree.length, link) == 1);
     free(tree.bytes);
@@ -289,11 +289,11 @@ static void rows(void)
     uint32_t p = element(tree, "p"), number;
     size_t at, count;
 
-    CHECK(hengaruto_row_count(tree.bytes, tree.length, p) == 2);
+    CHECK(hengaruto_attribute_count(tree.bytes, tree.length, p) == 2);
     CHECK(has_row(tree, p, 0, "class", "a"));
     CHECK(has_row(tree, p, 1, "id", "b"));
-    CHECK(hengaruto_row(tree.bytes, tree.length, p, 2, &number, &at, &count) == HENGARUTO_NO_NODE);
-    CHECK(hengaruto_row(bytes_of(""), 0, p, 0, &number, &at, &count) == HENGARUTO_NO_TREE);
+    CHECK(hengaruto_attribute_at(tree.bytes, tree.length, p, 2, &number, &at, &count) == HENGARUTO_NO_NODE);
+    CHECK(hengaruto_attribute_at(bytes_of(""), 0, p, 0, &number, &at, &count) == HENGARUTO_BAD_BLOCK);
     CHECK(has_row(tree, first_of(tree, HENGARUTO_DOCTYPE), 0, NULL, "html"));
     CHECK(has_row(tree, first_of(tree, HENGARUTO_DOCTYPE), 1, NULL, "p"));
     CHECK(has_row(tree, first_of(tree, HENGARUTO_DOCTYPE), 2, NULL, "s"));
@@ -313,7 +313,7 @@ static void texts(void)
     CHECK(has_text(tree, 0, "AOne twoxz"));
     CHECK(has_text(tree, first_of(tree, HENGARUTO_COMMENT), ""));
     CHECK(hengaruto_text(tree.bytes, tree.length, 1000, &at, &count) == HENGARUTO_NO_NODE);
-    CHECK(hengaruto_text(bytes_of(""), 0, 0, &at, &count) == HENGARUTO_NO_TREE);
+    CHECK(hengaruto_text(bytes_of(""), 0, 0, &at, &count) == HENGARUTO_BAD_BLOCK);
     free(tree.bytes);
 }
 
@@ -329,16 +329,16 @@ static void wrong(void)
         CHECK(hengaruto_kind(block, length, 1000) == 0);
         CHECK(hengaruto_parent(block, length, 1000) == HENGARUTO_NONE);
         CHECK(hengaruto_first_child(block, length, 1000) == HENGARUTO_NONE);
-        CHECK(hengaruto_next(block, length, 1000) == HENGARUTO_NONE);
-        CHECK(hengaruto_end(block, length, 1000) == HENGARUTO_NONE);
-        CHECK(hengaruto_contents(block, length, 1000) == HENGARUTO_NONE);
+        CHECK(hengaruto_next_sibling(block, length, 1000) == HENGARUTO_NONE);
+        CHECK(hengaruto_subtree_end(block, length, 1000) == HENGARUTO_NONE);
+        CHECK(hengaruto_template_contents(block, length, 1000) == HENGARUTO_NONE);
         CHECK(hengaruto_name(block, length, 1000) == HENGARUTO_NONE);
-        CHECK(hengaruto_row_count(block, length, 1000) == 0);
+        CHECK(hengaruto_attribute_count(block, length, 1000) == 0);
         CHECK(hengaruto_namespace(block, length, HENGARUTO_NONE) == 0);
         CHECK(hengaruto_prefix(block, length, HENGARUTO_NONE) == 0);
     }
-    CHECK(hengaruto_check(bytes_of(""), 0) == HENGARUTO_NO_TREE);
-    CHECK(hengaruto_check(tree.bytes, tree.length - 1) == HENGARUTO_NO_TREE);
+    CHECK(hengaruto_check(bytes_of(""), 0) == HENGARUTO_BAD_BLOCK);
+    CHECK(hengaruto_check(tree.bytes, tree.length - 1) == HENGARUTO_BAD_BLOCK);
     CHECK(hengaruto_node_count(bytes_of(""), 0) == 0);
     CHECK(hengaruto_quirks(bytes_of(""), 0) == 0);
     free(tree.bytes);
@@ -412,7 +412,7 @@ static void trees(void)
         size_t length = block_of(&blocks[i], bytes);
         uint32_t status = hengaruto_check(bytes, length);
 
-        if (status != (i == 0 ? HENGARUTO_OK : HENGARUTO_NO_TREE)) {
+        if (status != (i == 0 ? HENGARUTO_OK : HENGARUTO_BAD_BLOCK)) {
             printf("%s: status %u\n", blocks[i].what, status);
             CHECK(0);
         }

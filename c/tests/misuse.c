@@ -34,9 +34,9 @@ static void read_all_of(const unsigned char *block, size_t length, uint32_t numb
     uint32_t name;
 
     sum += hengaruto_quirks(block, length) + hengaruto_node_count(block, length);
-    sum += hengaruto_kind(block, length, number) + hengaruto_contents(block, length, number);
+    sum += hengaruto_kind(block, length, number) + hengaruto_template_contents(block, length, number);
     sum += hengaruto_name(block, length, number) + hengaruto_namespace(block, length, number) + hengaruto_prefix(block, length, number);
-    sum += hengaruto_row_count(block, length, number);
+    sum += hengaruto_attribute_count(block, length, number);
     if (hengaruto_text(block, length, number, &at, &count) == HENGARUTO_OK) {
         read_bytes(block, at, count);
     }
@@ -44,7 +44,7 @@ static void read_all_of(const unsigned char *block, size_t length, uint32_t numb
         read_bytes(block, at, count);
     }
     for (uint32_t row = 0; row < 4; row++) {
-        if (hengaruto_row(block, length, number, row, &name, &at, &count) == HENGARUTO_OK) {
+        if (hengaruto_attribute_at(block, length, number, row, &name, &at, &count) == HENGARUTO_OK) {
             sum += name;
             read_bytes(block, at, count);
         }
@@ -54,8 +54,8 @@ static void read_all_of(const unsigned char *block, size_t length, uint32_t numb
 /* The next sibling, the first child and the end have greater numbers than the node, and the parent has a smaller one. */
 static void step(const unsigned char *block, size_t length, uint32_t node)
 {
-    uint32_t next = hengaruto_next(block, length, node), child = hengaruto_first_child(block, length, node);
-    uint32_t end = hengaruto_end(block, length, node), parent = hengaruto_parent(block, length, node);
+    uint32_t next = hengaruto_next_sibling(block, length, node), child = hengaruto_first_child(block, length, node);
+    uint32_t end = hengaruto_subtree_end(block, length, node), parent = hengaruto_parent(block, length, node);
 
     CHECK(next == HENGARUTO_NONE || next > node);
     CHECK(child == HENGARUTO_NONE || child > node);
@@ -69,13 +69,13 @@ static void look(const unsigned char *block, size_t length, uint32_t node)
     struct given given;
     uint32_t status = hengaruto_html(block, length, node, any() & 1, &given.bytes, &given.length);
 
-    CHECK(status == HENGARUTO_OK || status == HENGARUTO_NO_NODE || status == HENGARUTO_NO_TREE);
+    CHECK(status == HENGARUTO_OK || status == HENGARUTO_NO_NODE || status == HENGARUTO_BAD_BLOCK);
     if (status == HENGARUTO_OK) {
         read_bytes(given.bytes, 0, given.length + 1);
         free(given.bytes);
     }
     status = hengaruto_select(block, length, node, bytes_of(SELECTOR), sizeof SELECTOR - 1, &given.bytes, &given.length);
-    CHECK(status == HENGARUTO_OK || status == HENGARUTO_NO_NODE || status == HENGARUTO_NO_TREE);
+    CHECK(status == HENGARUTO_OK || status == HENGARUTO_NO_NODE || status == HENGARUTO_BAD_BLOCK);
     if (status == HENGARUTO_OK) {
         CHECK(given.length % 4 == 0);
         read_bytes(given.bytes, 0, given.length + 1);
@@ -119,7 +119,7 @@ static void cut_blocks(struct given tree)
     for (size_t length = 0; length < tree.length; length++) {
         unsigned char *block = copied(tree.bytes, length);
 
-        CHECK(hengaruto_check(block, length) == HENGARUTO_NO_TREE);
+        CHECK(hengaruto_check(block, length) == HENGARUTO_BAD_BLOCK);
         read_all_of(block, length, any() % 40);
         step(block, length, any() % 40);
         look(block, length, any() % 40);

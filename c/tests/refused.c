@@ -1,4 +1,4 @@
-/* refused.c: each allocation fails in turn. The call then returns HENGARUTO_MEMORY and no result, and has freed what it allocated before.
+/* refused.c: each allocation fails in turn. The call then returns HENGARUTO_NO_MEMORY and no result, and has freed what it allocated before.
  * Link it with libhengaruto.a and -Wl,--wrap=malloc,--wrap=realloc,--wrap=free. */
 #include "testing.h"
 
@@ -125,10 +125,10 @@ static long refuse_each(const char *name, call made, uint32_t wanted)
             CHECK(live == before);
             return request;
         }
-        CHECK(status == HENGARUTO_MEMORY);
+        CHECK(status == HENGARUTO_NO_MEMORY);
         CHECK(given.bytes == NULL && given.length == 0);
         CHECK(live == before);
-        if (status != HENGARUTO_MEMORY || live != before) {
+        if (status != HENGARUTO_NO_MEMORY || live != before) {
             fprintf(stderr, "%s, request %ld: status %u, %ld blocks left\n", name, request, (unsigned)status, live - before);
             return request;
         }

@@ -39,7 +39,7 @@ use super::encoding::{Encoding, SingleByte};
 #[rattlefmt::skip]
 """
 
-HALVES_HEAD = """//! The characters of the bytes from 128 on in the single-byte encodings. U+FFFD stands where there is no character.
+HALVES_HEAD = """//! The characters of the bytes from 128 on in the single-byte encodings. A byte without a character has U+FFFD.
 //! `write_tables.py` writes this file.
 ghost use Rattle.std.specs.Prelude.{◌≡◌};
 ghost use Rattle.h5_encodings.specs.UpperHalf.{upper_half};
@@ -57,7 +57,7 @@ pub fn upper_half(encoding: SingleByte) -> &'static [char; 128]
 """
 
 
-INDEX = """//! The index {name}: the code point of each pointer, and U+0000 where there is none. `write_tables.py` writes this file.
+INDEX = """//! The index {name}: the code point of each pointer, or U+0000 if it has none. `write_tables.py` writes this file.
 ghost use Rattle.std.specs.Prelude.{{◌≡◌}};
 ghost use Rattle.h5_encodings.specs.{module}.{{{function}}};
 
@@ -84,7 +84,7 @@ unfoldable pub {function} : List ℕ
 """
 
 
-RANGES = """//! The index {name} ranges: pointers, and the code points that stand at them. `write_tables.py` writes this file.
+RANGES = """//! The index {name} ranges: pointers, and their code points. `write_tables.py` writes this file.
 ghost use Rattle.std.specs.Prelude.{{◌≡◌}};
 ghost use Rattle.h5_encodings.specs.{module}.{{{function}}};
 
@@ -219,10 +219,10 @@ def encoding_file(encodings):
     out = ENCODING_HEAD + "".join(f"    {variant(name)},\n" for name in singles) + ENCODING_MIDDLE
     for name in others:
         out += f"    {variant(name)},\n"
-    out += "    SingleByte(SingleByte),\n}\n\nimpl SingleByte {\n    /// Its name, as the standard writes it.\n    pub fn name(self) -> &'static str\n"
+    out += "    SingleByte(SingleByte),\n}\n\nimpl SingleByte {\n    /// Returns the name, as the standard writes it.\n    pub fn name(self) -> &'static str\n"
     out += "        ensures { result.now ≡ single_byte_name self }\n    {\n        match self {\n"
     out += "".join(f'            SingleByte::{variant(name)} => "{name}",\n' for name in singles)
-    out += "        }\n    }\n}\n\nimpl Encoding {\n    /// Its name, as the standard writes it.\n    pub fn name(self) -> &'static str\n"
+    out += "        }\n    }\n}\n\nimpl Encoding {\n    /// Returns the name, as the standard writes it.\n    pub fn name(self) -> &'static str\n"
     out += "        ensures { result.now ≡ name_of self }\n    {\n        match self {\n"
     out += "".join(f'            Encoding::{variant(name)} => "{name}",\n' for name in others)
     return out + "            Encoding::SingleByte(encoding) => encoding.name(),\n        }\n    }\n}\n"
@@ -271,7 +271,7 @@ def halves_file(encodings):
 
 def half_file(encodings):
     first, names = halves_of(encodings)
-    out = "-- The characters of the bytes from 128 on in the single-byte encodings: the tables that the code reads. It stays closed, so that\n"
+    out = "-- The characters of the bytes from 128 on in the single-byte encodings: the tables that the code reads. They stay closed, so that\n"
     out += "-- no proof computes with them. `write_tables.py` writes this file.\n"
     out += "use Rattle.std.specs.Prelude.{ℕ, List}\n"
     out += "use Rattle.h5_encodings.specs.declared.encoding.SingleByte.{SingleByte}\n"

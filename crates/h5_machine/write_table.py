@@ -1,5 +1,5 @@
 #!/usr/bin/env python3
-"""Writes the table of named character references out of the definition's list, and what tells the common ones by their numbers.
+"""Writes the table of named character references from the list of the definition, and the match that finds the common ones by number.
 
     write_table.py           writes the files that differ
     write_table.py --check   writes nothing; the status is 1 where a file differs
@@ -19,14 +19,14 @@ LEMMAS = "h5_machine/proofs/CommonLemmas.antt"
 # The names that texts have most.
 COMMON_NAMES = ["amp;", "lt;", "gt;", "quot;", "nbsp;"]
 
-COMMON_HEAD = """//! The names that texts have most, told by their bytes alone. `write_table.py` writes this file.
+COMMON_HEAD = """//! The most frequent names, found by their bytes alone. `write_table.py` writes this file.
 ghost use Rattle.std.specs.Prelude.{◌≡◌, ◌<◌, true, IfSome};
 ghost use Rattle.h5_states.specs.References.{ends_in};
 ghost use Rattle.h5_states.specs.Signs.{semicolon};
 ghost use Rattle.h5_states.specs.Words.{begins, same};
 ghost use Rattle.h5_machine.specs.Numbered.{how_many, name_of};
 
-/// The number of a common name that a text begins with. The name ends in a semicolon, so it is the longest one there.
+/// Returns the number of a common name that a text begins with. The name ends in a semicolon, so no longer name is there.
 #[tactic(auto, using(crate::proofs::CommonLemmas::common_names))]
 pub fn common(text: &[u8]) -> Option<usize>
     ensures within_table { IfSome result (λ number. number < how_many) }
@@ -41,7 +41,7 @@ COMMON_END = """        _ => None,
 }
 """
 
-LEMMAS_HEAD = """-- The common names by their numbers, and the bytes by which they are told. `write_table.py` writes this file.
+LEMMAS_HEAD = """-- The common names by their numbers, and the bytes by which they are found. `write_table.py` writes this file.
 use Rattle.std.proofs.Common.{◌≡◌, ℕ, ◌≤◌, true, refl, ap, ◌∙◌, List, length, get_or, codes}
 use Rattle.h5_states.specs.ReferenceTable.{references}
 use Rattle.h5_states.specs.Words.{begins, same}
@@ -52,7 +52,7 @@ use Rattle.h5_machine.proofs.HasBytes.{has_begins}
 WIDTH = 100
 INDENT = " " * 4
 
-HEAD = """//! The table of named character references (HTML standard, section 13.5), without an address in it. `write_table.py`
+HEAD = """//! The table of named character references (HTML standard, section 13.5), with offsets in place of pointers. `write_table.py`
 //! writes this file.
 """
 
@@ -90,7 +90,7 @@ def escaped(character):
 
 
 def filled(words, between, behind):
-    """Words in indented lines of at most this width, each but the last with what stands behind it."""
+    """Words in indented lines of at most this width, each but the last with the separator after it."""
     lines, line = [], INDENT
     for word in words:
         if line != INDENT and len(line + between + word + behind) > WIDTH:
@@ -110,7 +110,7 @@ def listed(numbers):
 
 
 def begins_of(texts):
-    """Where each text begins among all, one behind the other, and where the last one ends."""
+    """The offset at which each text begins if all are joined, and the end of the last one."""
     begins = [0]
     for text in texts:
         begins.append(begins[-1] + len(text))
@@ -121,22 +121,22 @@ def written(references):
     names, texts = [name for name, _ in references], [text for _, text in references]
     name_begins, text_begins = begins_of(names), begins_of(texts)
     return f"""{HEAD}
-/// The names without their `&`, one behind the other.
+/// The names without their `&`, concatenated.
 pub static NAMES: [u8; {name_begins[-1]}] = *b{quoted([name.decode() for name in names])};
 
-/// Where each name begins, and where the last one ends.
+/// The start of each name, and the end of the last one.
 pub static NAME_BEGINS: [u16; {len(name_begins)}] = {listed(name_begins)};
 
-/// The texts that the names stand for, one behind the other.
+/// The texts of the names, concatenated.
 pub static TEXTS: &str = {quoted(["".join(map(escaped, text.decode())) for text in texts])};
 
-/// Where each text begins, and where the last one ends.
+/// The start of each text, and the end of the last one.
 pub static TEXT_BEGINS: [u16; {len(text_begins)}] = {listed(text_begins)};
 """
 
 
 def arm(name, number):
-    """The arm of the match that tells a name by its bytes."""
+    """The arm of the match that finds a name by its bytes."""
     letters = ", ".join(f"b'{letter}'" for letter in name)
     return f"        [{letters}, ..] => Some({number}),\n"
 

@@ -23,7 +23,7 @@ SET_BITS = 32
 
 
 class Set:
-    """A set of names: its word in known_names.txt, which is that of its flag in small letters, its variant, its list in the
+    """A set of names: its word in known_names.txt, which is the word of its flag in lower case, its variant, its list in the
     definitions, the comment of its variant, and a set all names of which it holds, too."""
 
     def __init__(self, word, variant, listed, comment):
@@ -98,7 +98,7 @@ def read_holds(line, sets):
 
 
 def read_line(line, sets):
-    """A name of a line, and behind it its form in lower case where it has capitals."""
+    """The name on a line, followed by its form in lower case if it has capitals."""
     head, colon, words = line.partition(":")
     text, _, variant = (part.strip() for part in head.partition("="))
     words = words.split()
@@ -114,7 +114,7 @@ def read_line(line, sets):
 
 
 def read():
-    """The names in the order of their texts in lower case, the sets, and the fronts of lists that are told."""
+    """The names in the order of their texts in lower case, the sets, and the starts of the lists that are read."""
     names, fronts = [], {}
     with open(f"{CRATES}/h5_names/known_names.txt", encoding="utf-8") as file:
         lines = [line.strip() for line in file if line.strip() and not line.startswith("#")]
@@ -202,7 +202,7 @@ def filled(items, width, indent=4, behind=""):
 
 
 def between(text, begin, end, new):
-    """The text with what stands between two lines, the first of each kind, written anew."""
+    """The text, with the part between two lines, the first of each kind, replaced."""
     at = text.index(begin) + len(begin)
     return text[:at] + new + text[text.index(end, at) :]
 
@@ -284,7 +284,7 @@ def write_flags(names, sets, text):
 
 
 def write_set_imports(sets, text, lists):
-    """The variants and lists that are used, the lists behind what begins their line."""
+    """The imported variants and lists, each list after the start of its line."""
     text = between(text, "NameSet.TheVariants.{", "}\n", ", ".join(it.variant for it in sets))
     return between(text, lists, "}\n", ", ".join(it.listed for it in sets))
 
@@ -312,7 +312,7 @@ def list_comment(held):
 
 
 def with_head(held, sets, text):
-    """The definitions with the head of a set's list, behind all lists where it is new."""
+    """The definitions with the head of a set's list, which comes after all others if it is new."""
     if f"\n{held.listed} =\n" in text:
         return text
     at = text.index("\n\n", max(text.find(f"\n{it.listed} =\n") for it in sets))

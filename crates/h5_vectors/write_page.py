@@ -131,7 +131,7 @@ def nested_list(n, depth):
         parts += item(n, depth * 2 + k)
     parts += [same("<li>below this:\n")]
     if depth == 1:
-        # An item right in an item closes it, and the end tag behind has nothing to close.
+        # An item directly in an item closes it, and the next end tag has nothing to close.
         parts += [("", "</li>"), *nested_list(n, 0), ("</li/>\n", "\n")]
     else:
         parts += [*nested_list(n, depth - 1), ("</li/>\n", "</li>\n")]
@@ -385,7 +385,7 @@ def front():
 
 
 def back():
-    """What comes behind the body's end: blanks belong to the body, and the unfinished tag is dropped."""
+    """What follows the end of the body: whitespace goes into the body, and the unfinished tag is dropped."""
     return [
         ("</body>\r</html>\r\n<!-- end - of -- page -->\n", "\n\n\n</body></html><!-- end - of -- page -->"),
         ("<a href=\"cut off &amp; never closed>here</a>\n", ""),

@@ -17,7 +17,7 @@ once. `decode` detects the encoding of a page and decodes it. `hengaruto.trees` 
 Scripting is off by default: the content of `noscript` is parsed into elements. Pages that are bytes are taken as UTF-8.
 """
 from ._encoding import decode
-from ._input import Page
+from ._input import Source
 from ._library import Error, SelectorError
 from ._pages import Parser, clean, links, text
 from ._tree import (
@@ -26,7 +26,7 @@ from ._tree import (
     DOCUMENT,
     ELEMENT,
     FRAGMENT,
-    INSTRUCTION,
+    PROCESSING_INSTRUCTION,
     NAMESPACES,
     TEXT,
     Document,
@@ -39,6 +39,6 @@ from ._tree import (
 __version__ = "0.2.0"
 
 __all__ = [
-    "parse", "parse_fragment", "load", "Document", "Node", "Parser", "Page", "text", "links", "clean", "decode", "Error", "SelectorError",
-    "ELEMENT", "TEXT", "INSTRUCTION", "COMMENT", "DOCUMENT", "DOCTYPE", "FRAGMENT", "NAMESPACES",
+    "parse", "parse_fragment", "load", "Document", "Node", "Parser", "Source", "text", "links", "clean", "decode", "Error", "SelectorError",
+    "ELEMENT", "TEXT", "PROCESSING_INSTRUCTION", "COMMENT", "DOCUMENT", "DOCTYPE", "FRAGMENT", "NAMESPACES",
 ]

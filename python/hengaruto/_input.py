@@ -4,12 +4,12 @@ from __future__ import annotations
 import re
 from typing import Union
 
-Page = Union[str, bytes, bytearray, memoryview]
+Source = Union[str, bytes, bytearray, memoryview]
 
 _SURROGATE = re.compile("[\ud800-\udfff]")
 
 
-def utf8(page: Page) -> bytes:
+def utf8(page: Source) -> bytes:
     """Returns a page in UTF-8. A surrogate in a str, which UTF-8 can't encode, becomes U+FFFD."""
     if isinstance(page, bytes):
         return page

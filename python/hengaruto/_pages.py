@@ -4,11 +4,11 @@ from __future__ import annotations
 from typing import List, Optional, Tuple
 
 from . import _library
-from ._input import Page, utf8
+from ._input import Source, utf8
 from ._tree import Document, parse
 
 
-def text(page: Page, *, width: Optional[int] = None) -> str:
+def text(page: Source, *, width: Optional[int] = None) -> str:
     """Returns the text of a page, laid out as a browser shows it without a style sheet: blocks on separate lines, list items with their
     markers, no scripts.
 
@@ -31,7 +31,7 @@ def text(page: Page, *, width: Optional[int] = None) -> str:
     return str(_library.given("page_text", page, len(page), width or 0), "utf-8", "replace")
 
 
-def links(page: Page) -> List[Tuple[str, str]]:
+def links(page: Source) -> List[Tuple[str, str]]:
     """Returns the links of a page, which are its elements `a`, of HTML or SVG, with an href: pairs of href and text, unchanged.
 
     >>> links("<a href='/x'>a <b>link</b></a>")
@@ -42,7 +42,7 @@ def links(page: Page) -> List[Tuple[str, str]]:
     return list(zip(parts[0::2], parts[1::2]))
 
 
-def clean(html: Page) -> str:
+def clean(html: Source) -> str:
     """Returns the HTML that the default policy allows of an untrusted fragment: phrases, links, images, headings, blocks, lists and tables.
 
     Scripts, styles, forms and frames are removed. URLs are relative, http or https, and in links also mailto. The result is safe to show in
@@ -73,7 +73,7 @@ class Parser:
         self._pieces: Optional[List[bytes]] = []
         self._scripting, self._iframe_srcdoc = scripting, iframe_srcdoc
 
-    def feed(self, piece: Page) -> None:
+    def feed(self, piece: Source) -> None:
         """Adds the next chunk."""
         if self._pieces is None:
             raise ValueError("the parser is closed")

@@ -4,9 +4,9 @@ from __future__ import annotations
 from typing import Any, Dict, Iterator, List, Optional, Sequence, Tuple, TypeVar, Union
 
 from . import _library
-from ._input import Page, utf8
+from ._input import Source, utf8
 
-ELEMENT, TEXT, INSTRUCTION, COMMENT, DOCUMENT, DOCTYPE, FRAGMENT = 1, 3, 7, 8, 9, 10, 11
+ELEMENT, TEXT, PROCESSING_INSTRUCTION, COMMENT, DOCUMENT, DOCTYPE, FRAGMENT = 1, 3, 7, 8, 9, 10, 11
 NONE = 0xFFFFFFFF
 
 NAMESPACES: Tuple[Optional[str], ...] = (
@@ -21,7 +21,7 @@ NAMESPACES: Tuple[Optional[str], ...] = (
 _PREFIXES = ("", "xlink:", "xml:", "xmlns:")
 _KINDS = {
     TEXT: "text",
-    INSTRUCTION: "instruction",
+    PROCESSING_INSTRUCTION: "instruction",
     COMMENT: "comment",
     DOCUMENT: "document",
     DOCTYPE: "doctype",
@@ -33,7 +33,7 @@ _T = TypeVar("_T")
 _D = TypeVar("_D")
 
 
-def parse(page: Page, *, scripting: bool = False, iframe_srcdoc: bool = False) -> Document:
+def parse(page: Source, *, scripting: bool = False, iframe_srcdoc: bool = False) -> Document:
     """Parses a page into the tree that browsers build.
 
     Bytes are taken as UTF-8. Decode bytes in another encoding first: `parse(decode(page))`. Scripting is off by default, as in html5lib and
@@ -51,7 +51,7 @@ def parse(page: Page, *, scripting: bool = False, iframe_srcdoc: bool = False) -
     return Document(_library.given("parse", page, len(page), _options(scripting, iframe_srcdoc)))
 
 
-def parse_fragment(page: Page, context: str = "div", *, scripting: bool = False) -> Document:
+def parse_fragment(page: Source, context: str = "div", *, scripting: bool = False) -> Document:
     """Parses a fragment, as innerHTML of an element does. `context` is the name of the element. For an element of SVG or MathML, `svg` or
     `math` and a space precede the name. Scripting is off by default, as in `parse`. An invalid context raises an `Error`.
 
@@ -279,7 +279,7 @@ class Node:
 
     @property
     def kind(self) -> int:
-        """`ELEMENT`, `TEXT`, `COMMENT`, `DOCTYPE`, `DOCUMENT`, `FRAGMENT` or `INSTRUCTION`: the nodeType of the DOM."""
+        """`ELEMENT`, `TEXT`, `COMMENT`, `DOCTYPE`, `DOCUMENT`, `FRAGMENT` or `PROCESSING_INSTRUCTION`: the nodeType of the DOM."""
         return self.document._kinds[self.index] & 255
 
     @property
@@ -340,7 +340,7 @@ class Node:
         kind = self.kind
         if kind == TEXT:
             return self.text()
-        return self._row(0) if kind == COMMENT else self._row(1) if kind == INSTRUCTION else None
+        return self._row(0) if kind == COMMENT else self._row(1) if kind == PROCESSING_INSTRUCTION else None
 
     @property
     def public_id(self) -> Optional[str]:

@@ -1,13 +1,13 @@
-//! The program `h5`: a thin hull round [`h5_commands::run`], which has the commands.
+//! The program `h5`, a thin layer over [`h5_commands::run`], which has the commands.
 //!
-//! It reads its words, hands them on with standard input, output and error, and ends with the status that comes back.
-//! What the commands print is defined in `specs/Printed.antt` of `h5_commands`.
+//! It reads its arguments, passes them with standard input, output and error, and ends with the returned status. Its output is defined in
+//! `specs/Printed.antt` of `h5_commands`.
 #![tactic(auto)]
 
 use std::process::ExitCode;
 use std::{env, io};
 
-// The words of the command, without the program's own name.
+// The arguments, without the program's name.
 fn words_of(rt: &HostRuntime) -> io::Result<Vec<String>> {
     let mut words = Vec::new(rt.alloc());
     for word in env::args(rt)?.skip(1) {

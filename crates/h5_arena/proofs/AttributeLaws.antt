@@ -25,7 +25,7 @@ present_more : (olds xs : List AttributeText) (x : AttributeText) → has_attrib
 present_more olds xs x h =
     ap (λ ys. olds ++ ys) (filter-append (λ a. not (has_attribute a.name olds)) xs (x ∷ []) ∙ ap (λ ys. filter (λ a. not (has_attribute a.name olds)) xs ++ ys) (none (λ a. not (has_attribute a.name olds)) x (rw h refl)) ∙ append-nil (filter (λ a. not (has_attribute a.name olds)) xs))
 
--- whether a name stands among the attributes that were there
+-- true if a name is among the attributes that were there
 there : (olds : List Attribute) (x : Attribute) (b : Bool) → list_any (λ a. is_same_name a.name x.name) olds ≡ b → has_attribute (attribute_text x).name (attribute_texts olds) ≡ b
 there olds x b h = any_of_texts (λ a. is_same_name a.name x.name) olds ∙ h
 
@@ -42,7 +42,7 @@ pub left_out : (olds xs items : List Attribute) (x : Attribute) → list_any (λ
 left_out olds xs items x h e =
     e ∙ sym (ap (λ ys. with_missing ys (attribute_texts olds)) (map-append attribute_text xs (x ∷ [])) ∙ present_more (attribute_texts olds) (attribute_texts xs) (attribute_text x) (there olds x true h))
 
--- those that stand first stay
+-- the first attributes are unchanged
 pub first_stay : (items olds : List Attribute) (x : Attribute) (k : ℕ) → k ≡ length olds → take k items ≡ olds → take k (items ++ x ∷ []) ≡ olds
 first_stay items [] x zero e h = refl
 first_stay items (y ∷ olds) x zero e h = absurd (omega arith)

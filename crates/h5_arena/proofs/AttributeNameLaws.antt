@@ -22,7 +22,7 @@ prefix_ties None (Some y) = refl
 prefix_ties (Some x) None = refl
 prefix_ties (Some x) (Some y) = texts_ties x y
 
--- the order of names tells the same names apart as their equality
+-- the order of names distinguishes the same names as their equality
 name_ties : (x y : QualName) → is_same_name x y ≡ is_eq (name_cmp x y)
 name_ties x y =
     both_tied _ _ _ _ (prefix_ties x.prefix y.prefix) (both_tied _ _ _ _ (texts_ties x.ns y.ns) (texts_ties x.local y.local))
@@ -49,6 +49,6 @@ name_put xs i x name old mid new within e w put so_far q =
 pub all_names : (xs : List Attribute) (i : ℕ) (q : QualName) → length xs ≤ i → list_any (λ a. is_same_name a.name q) (take i xs) ≡ has_attribute q (attribute_texts xs)
 all_names xs i q past = ap (list_any (λ (a : Attribute). is_same_name a.name q)) (take_all i xs past) ∙ sym (any_of_texts (λ a. is_same_name a.name q) xs)
 
--- the names of those that stood first and of those behind them are the names of all
+-- the names of the first attributes and of those after them are the names of all
 pub names_of_all : (found : BTreeSet QualName) (olds news : List Attribute) (had : ℕ) → take had news ≡ olds → AreNames found (attribute_texts olds ++ attribute_texts (drop had news)) → AreNames found (attribute_texts news)
 names_of_all found olds news had first known = subst (AreNames found) (sym (map-append attribute_text olds (drop had news)) ∙ ap attribute_texts (ap (λ xs. xs ++ drop had news) (sym first) ∙ take-append-drop had news)) known

@@ -1,4 +1,4 @@
--- A walk over a node closes what it opens, and so lacks no parent.
+-- A walk over a node closes what it opens, so each call has a parent.
 use Rattle.std.proofs.Common.{◌≡◌, ◌∙◌, ℕ, Bool, true, false, ◌||◌, List, [], ◌∷◌, ◌++◌, Option, ap, refl}
 use Rattle.std.specs.Prelude.{None, Some}
 use Rattle.std.specs.List.{flat_map}
@@ -17,7 +17,7 @@ use Rattle.h5_serialize.specs.declared.options.TraversalScope.TheVariants.{Child
 use Rattle.h5_serialize.proofs.WalkLemmas.{after_all, orphan_split}
 use Rattle.h5_arena.specs.NodeCalls.{calls_around, calls_within, child_calls, shown_children, walk_of}
 
--- where something stands open, these calls lack no parent, and leave open what stood open
+-- if something is open, these calls have parents, and leave open what was open
 record IsBalanced (calls : List Call) : Type 0 where
   parents : (scripting create : Bool) (opener : Opener) (openers : List Opener) → has_orphan (Working scripting create (opener ∷ openers)) calls ≡ false
   leaves : (scripting create : Bool) (opener : Opener) (openers : List Opener) → after_all (Working scripting create (opener ∷ openers)) calls ≡ Working scripting create (opener ∷ openers)

@@ -1,4 +1,4 @@
--- A walk over all that stands below a node, in its middle.
+-- A walk over everything below a node, in the middle.
 use Rattle.std.proofs.Common.{◌≡◌, ◌∙◌, ℕ, suc, ◌+◌, ◌-◌, ◌*◌, ◌<◌, ◌≤◌, Bor, All, List, [], ◌∷◌, ◌++◌, Option, None, Some, ap, append-nil, append_assoc, arith, length, map, refl, subst, sym}
 use Rattle.std.specs.Prelude.{unwrap_or}
 use Rattle.std.specs.List.{flat_map}
@@ -8,25 +8,25 @@ use Rattle.std.proofs.lemmas.List.Elements.{All-head, All-push, All-tail}
 use Prim.Native.Nat.{zero, suc}
 use Rattle.h5_interface.specs.Forest.{Child, ChildNode, ChildText, Forest, Node, children_of}
 use Rattle.h5_arena.specs.ArenaModel.{ArenaView, IsChildHeld, IsHeld, at_node, child_view, child_views, forest_seen}
-use Rattle.h5_arena.specs.Kin.{all_below, with_below}
+use Rattle.h5_arena.specs.Kin.{descendants_with_text, with_below}
 use Rattle.h5_arena.specs.Lent.{AreHeldLent, IsHeldLent, lent_view, lent_views}
 use Rattle.h5_arena.specs.declared.nodes.Child as kept
 use Rattle.h5_arena.specs.declared.nodes.NodeId.{NodeId}
 
--- what is left among children, and below them so many levels down
+-- the children that are left, with everything below them down to this number of levels
 abbrev pub left_at : Forest → ℕ → List Child → List Child
 left_at f k cs = flat_map (with_below k f) cs
 
--- what is left of the lists that wait, of which the innermost comes last; so many levels are below the first
+-- what is left of the waiting lists, the innermost last; this number of levels is below the first
 abbrev pub left_waiting : Forest → ℕ → List (Bor (List kept.Child)) → List Child
 left_waiting f k [] = []
 left_waiting f k (w ∷ ws) = left_waiting f (k - 1) ws ++ left_at f k (child_views w.now)
 
--- what is left of the list at hand, and of those that wait
+-- what is left of the current list, and of the waiting ones
 abbrev pub left : ArenaView → List kept.Child → List (Bor (List kept.Child)) → List Child
 left a rest waiting = let f = forest_seen a in left_at f (f.bound - length waiting) (child_views rest) ++ left_waiting f f.bound waiting
 
--- how much: a child that is passed counts more than a list that comes to wait
+-- a measure of what is left: a child that is passed counts more than a list that starts to wait
 abbrev pub weight : ArenaView → List kept.Child → List (Bor (List kept.Child)) → ℕ
 weight a rest waiting = 2 * length (left a rest waiting) + length waiting
 
@@ -38,7 +38,7 @@ AreHeld a (w ∷ ws) = All (IsChildHeld a) w.now × AreHeld a ws
 -- some are found, and the others are left
 abbrev pub IsWalking : ArenaView → ℕ → List (Bor kept.Child) → List kept.Child → List (Bor (List kept.Child)) → Type 0
 IsWalking a n found rest waiting =
-    (lent_views found ++ left a rest waiting ≡ all_below (forest_seen a) n)
+    (lent_views found ++ left a rest waiting ≡ descendants_with_text (forest_seen a) n)
     × (length waiting ≤ (forest_seen a).bound) × All (IsChildHeld a) rest × AreHeld a waiting × AreHeldLent a found
 
 text_alone : (f : Forest) (k : ℕ) (t : List ℕ) → with_below k f (ChildText t) ≡ ChildText t ∷ []
@@ -71,7 +71,7 @@ held_fewer : (a : ArenaView) (ws : List (Bor (List kept.Child))) (w : Bor (List 
 held_fewer a [] w h = (tt, h.0)
 held_fewer a (v ∷ ws) w h = let k = held_fewer a ws w h.1 in ((h.0, k.0), k.1)
 
--- the children that an arena tells of are those of the forest
+-- the children that an arena returns are those of the forest
 as_told : (o : Option Node) → option_map_or (λ d. d.children) o [] ≡ unwrap_or (option_map (λ d. d.children) o) []
 as_told None = refl
 as_told (Some d) = refl
@@ -90,7 +90,7 @@ module _ (a : ArenaView) (rest : List kept.Child) (waiting : List (Bor (List kep
       ap (λ r. left a r waiting) first
       ∙ append_assoc (with_below level f (child_view c)) (left_at f level (child_views others.now)) (left_waiting f f.bound waiting)
 
-  -- a text comes alone, and a node where no level is left
+  -- a text comes alone, and so does a node if no level is left
   pub text_passed : (t : List ℕ) → child_view c ≡ ChildText t → left a rest waiting ≡ child_view c ∷ left a others.now waiting
   text_passed t is =
       first_next
@@ -107,7 +107,7 @@ module _ (a : ArenaView) (rest : List kept.Child) (waiting : List (Bor (List kep
       ∙ ap (λ l. l ++ left a others.now waiting) (node_last (forest_seen a) n)
       ∙ ap (λ x. x ∷ left a others.now waiting) (sym is)
 
-  -- any other node comes before its children, and those behind it wait
+  -- any other node comes before its children, and those after it wait
   pub node_entered : (id : NodeId) (kids : List kept.Child) → child_view c ≡ ChildNode id.index → length waiting < (forest_seen a).bound → at_node (λ d. d.children) a id ≡ Some (child_views kids)
       → left a rest waiting ≡ child_view c ∷ left a kids (waiting ++ others ∷ [])
   node_entered id kids is room told =
@@ -125,7 +125,7 @@ module _ (a : ArenaView) (rest : List kept.Child) (waiting : List (Bor (List kep
       ∙ ap (λ l. ChildNode id.index ∷ (mine ++ l)) (sym (waiting_more f f.bound waiting others))
       ∙ ap (λ x. x ∷ (mine ++ left_waiting f f.bound (waiting ++ others ∷ []))) (sym is)
 
--- no child is left at hand, and those that wait come next
+-- no child is left in the current list, and the waiting ones come next
 up_next : (a : ArenaView) (waiting : List (Bor (List kept.Child))) (outer : Bor (List kept.Child)) → left a [] (waiting ++ outer ∷ []) ≡ left a outer.now waiting
 up_next a waiting outer = let f = forest_seen a in waiting_more f f.bound waiting outer
 
@@ -186,7 +186,7 @@ module _ (a : ArenaView) (n : ℕ) (found : List (Bor kept.Child)) (rest : List 
       let longer : length (waiting ++ others ∷ []) ≡ length waiting + 1 = length-append waiting (others ∷ []) in
       omega (arith, e, longer)
 
--- the lists that wait go on
+-- the waiting lists continue
 module _ (a : ArenaView) (n : ℕ) (found : List (Bor kept.Child)) (rest : List kept.Child) (all waiting : List (Bor (List kept.Child))) (outer : Bor (List kept.Child)) (none : rest ≡ []) (last : all ≡ waiting ++ outer ∷ []) where
   up : left a rest all ≡ left a outer.now waiting
   up = ap (λ r. left a r all) none ∙ ap (left a []) last ∙ up_next a waiting outer
@@ -208,7 +208,7 @@ module _ (a : ArenaView) (n : ℕ) (found : List (Bor kept.Child)) (rest : List 
   less_up = let e = ap length up in let s = shorter in omega (arith, e, s)
 
 -- nothing is left
-pub ends : (a : ArenaView) (n : ℕ) (found : List (Bor kept.Child)) (rest : List kept.Child) (waiting : List (Bor (List kept.Child))) → rest ≡ [] → waiting ≡ [] → IsWalking a n found rest waiting → lent_views found ≡ all_below (forest_seen a) n
+pub ends : (a : ArenaView) (n : ℕ) (found : List (Bor kept.Child)) (rest : List kept.Child) (waiting : List (Bor (List kept.Child))) → rest ≡ [] → waiting ≡ [] → IsWalking a n found rest waiting → lent_views found ≡ descendants_with_text (forest_seen a) n
 ends a n found rest waiting none last way =
     sym (append-nil (lent_views found))
     ∙ ap (λ l. lent_views found ++ l) (sym (ap (λ r. left a r waiting) none ∙ ap (left a []) last))

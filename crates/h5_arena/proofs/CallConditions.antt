@@ -1,4 +1,4 @@
--- What an arena says of a node's parent, as its forest has it.
+-- The parent of a node, as an arena returns it and as its forest has it.
 use Rattle.std.proofs.Common.{◌≡◌, ◌≢◌, ℕ, refl}
 use Rattle.std.specs.Prelude.{IfNone, IfSome, Option, None, Some, slice_get}
 use Rattle.h5_interface.specs.Forest.{CommentNode, DoctypeNode, DocumentNode, ElementNode, FragmentNode, InstructionNode, Kind, Node}
@@ -41,12 +41,12 @@ has_none a id e = at (slice_get a.nodes id.index) refl
     at None w = let v = (rw w at e) in cc
     at (Some d) w = λ apart. rw w (told d.kind d.parent (some_same _ _ (rw w at e)) (λ v. apart (rw w (rw v refl))))
 
--- a parent that is told is one
+-- a parent that is returned is the parent
 pub child_of : (a : ArenaView) (id : NodeId) (o : Option NodeId) → at_node child_parent a id ≡ Some (optional_place o) → IfSome o (λ p. IsChildOf (forest_seen a) id.index p.index)
 child_of a id None e = tt
 child_of a id (Some p) e = has_parent a id p.index e
 
--- where none is told there is none
+-- if none is returned there is none
 pub no_child : (a : ArenaView) (id : NodeId) (o : Option NodeId) → at_node child_parent a id ≡ Some (optional_place o) → IfNone o (IsNoChild (forest_seen a) id.index)
 no_child a id None e = has_none a id e
 no_child a id (Some p) e = tt

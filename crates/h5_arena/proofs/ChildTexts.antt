@@ -1,4 +1,4 @@
--- Edits of children by place are the edits that the forest's changes speak of.
+-- Edits of children by index are those of the forest's changes.
 use Rattle.std.proofs.Common.{◌≡◌, ◌∙◌, ◌⊎◌, ℕ, ◌+◌, ◌<◌, ◌≤◌, Bool, true, false, List, [], ◌∷◌, ◌++◌, ap, arith, drop, inl, inr, refl, sym, take}
 use Rattle.std.specs.Prelude.{◌&&◌, ◌==◌, if◌then◌else◌, is_some, length, Option, None, Some, slice_get}
 use Rattle.std.specs.List.{insert, remove}
@@ -52,13 +52,13 @@ without_case : (c n : ℕ) (cs : List Child) (b : Bool) → (c == n) ≡ b → (
 without_case c n cs true w h k = absurd (omega arith)
 without_case c n cs false w h k = rw w (ap (λ xs. ChildNode n ∷ xs) (k (omega arith)))
 
--- children without a node that stands once are those before and after it
+-- children without a node that occurs once are those before and after it
 none_without : (c : ℕ) (cs : List Child) → count c (nodes cs) ≡ 0 → without c cs ≡ cs
 none_without c [] e = refl
 none_without c (ChildNode n ∷ cs) e = without_case c n cs (c == n) refl e (none_without c cs)
 none_without c (ChildText t ∷ cs) e = ap (λ xs. ChildText t ∷ xs) (none_without c cs e)
 
--- a node that stands once, at a place, is taken out there
+-- a node that occurs once, at an index, is removed there
 pub without-remove : (c : ℕ) (cs : List Child) (i : ℕ) → slice_get cs i ≡ Some (ChildNode c) → count c (nodes cs) ≡ 1 → without c cs ≡ remove cs i
 without-remove c [] i s e = cc
 without-remove c (ChildText t ∷ cs) zero s e = cc
@@ -78,7 +78,7 @@ text_first t [] e h = refl
 text_first t (ChildNode n ∷ r) e h = refl
 text_first t (ChildText u ∷ r) e h = cc
 
--- Where a node is taken out between no two texts, nothing is joined.
+-- If a node is removed and there aren't texts on both sides, nothing is joined.
 pub joined-apart : (l : List Child) (c : ℕ) (r : List Child) → AreParted (l ++ ChildNode c ∷ r) → (last_text l ≡ None) ⊎ (first_text r ≡ None) → joined (l ++ r) ≡ l ++ r
 joined-apart [] c r h k = joined-parted r h
 joined-apart (ChildNode n ∷ []) c r h k = ap (λ xs. ChildNode n ∷ xs) (joined-parted r h)
@@ -127,12 +127,12 @@ pub either_case : (a b : Option (List ℕ)) → (is_some a && is_some b) ≡ fal
 either_case None b e = inl refl
 either_case (Some t) b e = inr (some_case b e)
 
--- taking out a node between no two texts
+-- removing a node that isn't between two texts
 pub apart_removed : (cs : List Child) (i c : ℕ) → AreParted cs → slice_get cs i ≡ Some (ChildNode c) → count c (nodes cs) ≡ 1 → texts_around cs i ≡ false → joined (without c cs) ≡ remove cs i
 apart_removed cs i c h s e k =
     rw (without-remove c cs i s e) (joined-apart (take i cs) c (drop (suc i) cs) (rw (← split_at cs i c s) h) (either_case _ _ k))
 
--- taking out a node between two texts
+-- removing a node between two texts
 pub met_removed : (cs : List Child) (i c : ℕ) (t u : List ℕ) → AreParted cs → slice_get cs i ≡ Some (ChildText t) → slice_get cs (suc i) ≡ Some (ChildNode c) → slice_get cs (suc (suc i)) ≡ Some (ChildText u)
     → joined (remove cs (suc i)) ≡ remove (remove (set cs i (ChildText (t ++ u))) (suc (suc i))) (suc i)
 met_removed [] i c t u h a b d = cc
@@ -163,7 +163,7 @@ around_before cs i j x e w s = sym (last_take cs j x s) ∙ (let v = (rw e at w)
 pub around_after : (cs : List Child) (i k : ℕ) (x : Child) → k ≡ suc i → texts_around cs i ≡ true → slice_get cs k ≡ Some x → is_child_text x ≡ true
 around_after cs i k x e w s = sym (first_drop cs k x s) ∙ rw e (and_parts _ _ w).1
 
--- a child that is put before a node is put at that node's place
+-- a child inserted before a node is inserted at the node's index
 insert_case : (s n : ℕ) (x : Child) (cs : List Child) (i : ℕ) (b : Bool) → (s == n) ≡ b → (if b then 1 else 0) + count s (nodes cs) ≡ 1 → 0 < count s (nodes cs) → (count s (nodes cs) ≡ 1 → insert_before s x cs ≡ insert cs i x)
     → insert_before s x (ChildNode n ∷ cs) ≡ ChildNode n ∷ insert cs i x
 insert_case s n x cs i true w h k r = absurd (omega arith)
@@ -190,7 +190,7 @@ parted-insert_node (ChildText t ∷ ChildText u ∷ cs) (suc i) c h = absurd h
 pub joined-insert_node : (s c : ℕ) (cs : List Child) (i : ℕ) → slice_get cs i ≡ Some (ChildNode s) → count s (nodes cs) ≡ 1 → AreParted cs → joined (insert_before s (ChildNode c) cs) ≡ insert cs i (ChildNode c)
 joined-insert_node s c cs i g e h = rw (insert_before-insert s (ChildNode c) cs i g e) (joined-parted (insert cs i (ChildNode c)) (parted-insert_node cs i c h))
 
--- a text between a node and the node before which it is put joins nothing
+-- a text inserted between two nodes joins nothing
 insert_text_apart : (s : ℕ) (u : List ℕ) (cs : List Child) (j n : ℕ) → slice_get cs j ≡ Some (ChildNode n) → slice_get cs (suc j) ≡ Some (ChildNode s) → AreParted cs → joined (insert cs (suc j) (ChildText u)) ≡ insert cs (suc j) (ChildText u)
 insert_text_apart s u [] j n g e h = cc
 insert_text_apart s u (ChildText t ∷ cs) zero n g e h = cc
@@ -208,13 +208,13 @@ insert_text_apart s u (ChildText t ∷ ChildText v ∷ cs) (suc j) n g e h = abs
 pub joined-insert_apart : (s : ℕ) (u : List ℕ) (cs : List Child) (i j n : ℕ) → i ≡ suc j → slice_get cs j ≡ Some (ChildNode n) → slice_get cs i ≡ Some (ChildNode s) → count s (nodes cs) ≡ 1 → AreParted cs → joined (insert_before s (ChildText u) cs) ≡ insert cs i (ChildText u)
 joined-insert_apart s u cs i j n w g e one h = rw (insert_before-insert s (ChildText u) cs i e one, w) (insert_text_apart s u cs j n g (rw w at e) h)
 
--- and so does a text that is put first
+-- and so does a text that is inserted first
 pub joined-insert_first : (s : ℕ) (u : List ℕ) (cs : List Child) → slice_get cs 0 ≡ Some (ChildNode s) → count s (nodes cs) ≡ 1 → AreParted cs → joined (insert_before s (ChildText u) cs) ≡ insert cs 0 (ChildText u)
 joined-insert_first s u [] g one h = cc
 joined-insert_first s u (ChildText t ∷ cs) g one h = cc
 joined-insert_first s u (ChildNode n ∷ cs) g one h = rw (insert_before-insert s (ChildText u) (ChildNode n ∷ cs) 0 g one, joined-parted cs h) refl
 
--- a text that is put behind a text is joined to it
+-- a text that is inserted after a text is joined with it
 insert_text_meets : (s : ℕ) (t u : List ℕ) (cs : List Child) (j : ℕ) → slice_get cs j ≡ Some (ChildText t) → slice_get cs (suc j) ≡ Some (ChildNode s) → AreParted cs → joined (insert cs (suc j) (ChildText u)) ≡ set cs j (ChildText (t ++ u))
 insert_text_meets s t u [] j g e h = cc
 insert_text_meets s t u (ChildNode m ∷ cs) zero g e h = cc
@@ -228,7 +228,7 @@ insert_text_meets s t u (ChildText a ∷ ChildText b ∷ cs) j g e h = absurd h
 pub joined-insert_meets : (s : ℕ) (t u : List ℕ) (cs : List Child) (i j : ℕ) → i ≡ suc j → slice_get cs j ≡ Some (ChildText t) → slice_get cs i ≡ Some (ChildNode s) → count s (nodes cs) ≡ 1 → AreParted cs → joined (insert_before s (ChildText u) cs) ≡ set cs j (ChildText (t ++ u))
 joined-insert_meets s t u cs i j w g e one h = rw (insert_before-insert s (ChildText u) cs i e one, w) (insert_text_meets s t u cs j g (rw w at e) h)
 
--- children that come after children join nothing but a last text and a first one
+-- children appended to children join at most a last text and a first one
 pub joined-append_apart : (xs ys : List Child) → AreParted xs → AreParted ys → (last_text xs ≡ None) ⊎ (first_text ys ≡ None) → joined (xs ++ ys) ≡ xs ++ ys
 joined-append_apart [] ys h k a = joined-parted ys k
 joined-append_apart (ChildNode n ∷ []) ys h k a = ap (λ zs. ChildNode n ∷ zs) (joined-parted ys k)

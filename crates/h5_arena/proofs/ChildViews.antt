@@ -163,7 +163,7 @@ remove_held (a ∷ b ∷ []) zero y z = refl
 remove_held (a ∷ b ∷ c ∷ xs) zero y z = refl
 remove_held (a ∷ xs) (suc i) y z = ap (λ vs. a ∷ vs) (remove_held xs i y z)
 
--- the text before has grown, and the two children behind it go
+-- the text before has grown, and the two children after it are removed
 pub joined_around : (cs ps ds es : List own.Child) (i j k n : ℕ) (y z : own.Child) (u : List ℕ) → j ≡ i - 1 → k ≡ i + 1 → texts_around (child_views cs) i ≡ true → slice_get (child_views cs) i ≡ Some (ChildNode n) → z ≡ get_or cs k z → child_view z ≡ ChildText u
     → AreParted (child_views cs)
     → ((t : List ℕ) → slice_get (child_views (set cs k y)) j ≡ Some (ChildText t) → child_views ps ≡ set (child_views (set cs k y)) j (ChildText (t ++ u)))
@@ -225,7 +225,7 @@ meeting_last cs rs xs i e l h =
     let t = last_text_at (child_views cs) i (simp length-map (omega arith)) last in
     (t.0, rw e t.1)
 
--- moved children come after others, where two texts meet
+-- moved children come after others, and two texts meet
 pub appended_meeting : (cs rs ms ds ps es : List own.Child) (i : ℕ) (u : List ℕ) (y : own.Child) → rs ≡ cs → ds ≡ remove ms 0 → es ≡ ps ++ ds → i ≡ length cs - 1 → y ≡ get_or ms 0 y → 0 < length ms → child_view y ≡ ChildText u
     → ((t : List ℕ) → slice_get (child_views rs) i ≡ Some (ChildText t) → child_views ps ≡ set (child_views rs) i (ChildText (t ++ u)))
     → texts_meet (child_views cs) (child_views ms) ≡ true → AreParted (child_views cs) → AreParted (child_views ms) → child_views es ≡ joined (child_views cs ++ child_views ms)
@@ -237,7 +237,7 @@ appended_meeting cs rs ms ds ps es i u y e1 e2 e3 l ey h v grows meet p q =
     ∙ ap (λ xs. set (child_views cs) i (ChildText (t.0 ++ u)) ++ xs) (ap child_views e2 ∙ remove_view ms 0)
     ∙ sym (joined-append_meets (child_views cs) (child_views ms) i t.0 u (simp length-map (omega arith)) t.1 (child_at ms 0 y h ey ∙ ap (λ x. Some x) v) p q)
 
--- and where none meet
+-- and no two texts meet
 pub appended_first : (cs ms : List own.Child) → length cs ≡ 0 → AreParted (child_views ms) → child_views ms ≡ joined (child_views cs ++ child_views ms)
 appended_first [] ms l h = sym (joined-parted (child_views ms) h)
 appended_first (c ∷ cs) ms l h = absurd (omega arith)

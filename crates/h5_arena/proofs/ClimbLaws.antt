@@ -14,7 +14,7 @@ use Rattle.h5_arena.specs.declared.nodes.NodeId.{NodeId}
 use Rattle.h5_arena.proofs.LevelLaws.{apart, held}
 use Rattle.h5_arena.proofs.NodeWrites.{node_at}
 
--- numbers that are no two the same, each of which has n as an ancestor
+-- pairwise different numbers, each of which has n as an ancestor
 pub record AreUnder (f : Forest) (n : ℕ) (under : List ℕ) : Type 0 where
   pub descendants : (a : ℕ) → list_any (eqb a) under ≡ true → IsAncestor (parent_of f) n a
   pub distinct : IsDistinct eqb under
@@ -49,13 +49,13 @@ few_under f n under k there h =
     at q true e g = rw (eqb-true q n e) (held f n k there)
     at q false e g = held f q k (descendant_is_node f n q (h.descendants q (rw e at g)))
 
--- what stands at or above a node is that node, or stands at or above its parent
+-- a node at or above a node is that node, or is at or above its parent
 pub above_parent : (up : ℕ → Option ℕ) (a n p : ℕ) → a ≢ n → up n ≡ Some p → AtOrAbove up a n → AtOrAbove up a p
 above_parent up a n p apart e (inl w) = absurd (apart w)
 above_parent up a n p apart e (inr (Parent w)) = inl (let v : Some a ≡ Some p = sym w ∙ e in cc)
 above_parent up a n p apart e (inr (Further q h w)) = inr (let v : Some q ≡ Some p = sym w ∙ e in let u : q ≡ p = cc in (rw u at h))
 
--- what has no parent has nothing above it
+-- a node without a parent has nothing above it
 pub above_none : (up : ℕ → Option ℕ) (a n : ℕ) → a ≢ n → up n ≡ None → ¬ (AtOrAbove up a n)
 above_none up a n apart e (inl w) = apart w
 above_none up a n apart e (inr h) = no_ancestor up a n e h

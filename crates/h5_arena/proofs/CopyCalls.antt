@@ -1,4 +1,4 @@
--- Copies are told of as their originals are.
+-- Copies have the calls of their originals.
 use Rattle.std.proofs.Common.{◌≡◌, ◌∙◌, ℕ, ◌+◌, ◌-◌, ◌≤◌, List, [], ◌∷◌, ◌++◌, ap, arith, length, refl, subst, sym}
 use Rattle.std.specs.Prelude.{Option, None, Some, slice_get, unwrap_or}
 use Rattle.std.specs.List.{flat_map}
@@ -15,7 +15,7 @@ use Rattle.h5_arena.proofs.CopyLaws.{get_left, get_right}
 use Rattle.h5_arena.proofs.CopyForest.{copy_of}
 use Rattle.h5_arena.proofs.NodeCallLaws.{calls_settled}
 
--- nodes with other numbers stand for those from which they come
+-- renumbered nodes correspond to those from which they come
 renumbered_stand : (stands : ℕ → ℕ → Type 0) (first : ℕ) (cs : List Child) → ((j n : ℕ) → slice_get (nodes cs) j ≡ Some n → stands n (first + j)) → StandFor stands cs (renumbered first cs)
 renumbered_stand stands first [] h = tt
 renumbered_stand stands first (ChildText t ∷ cs) h = (refl, renumbered_stand stands first cs h)
@@ -59,7 +59,7 @@ copies_within ns cs n sources whole h all (suc levels) i m p e =
     (λ j k v. let at : length ns + (w.first + j) ≡ (length ns + w.first) + j = omega arith in
     subst (IsCopyWithin levels (forest_of ns) (forest_of (ns ++ cs)) k) at (copies_within ns cs n sources whole h all levels (w.first + j) k (Some (length ns + i)) (w.all_below j k v))))
 
--- what stands on all levels for something stands for it as a whole
+-- a correspondence on all levels is a correspondence as a whole
 module _ (f g : Forest) where
   all_stand : (cs ds : List Child) → ((levels : ℕ) → StandFor (IsCopyWithin levels f g) cs ds) → StandFor (IsCopyOf f g) cs ds
   all_stand [] [] h = tt
@@ -97,7 +97,7 @@ module _ (f g : Forest) where
   copy_like : (n m : ℕ) → IsCopyOf f g n m → ForBoth (IsLike (IsCopyOf f g)) (f.node n) (g.node m)
   copy_like n m h = nodes_like (f.node n) (g.node m) (λ levels. h (suc levels))
 
-  -- the children of a copy stand for those of the original, and so do those that are shown
+  -- the children of a copy correspond to those of the original, and so do those that are shown
   children_stand : (n m : ℕ) → IsCopyOf f g n m → StandFor (IsCopyOf f g) (children_of f n) (children_of g m)
   children_stand n m h = at (f.node n) (g.node m) (copy_like n m h)
     where
@@ -135,7 +135,7 @@ module _ (f g : Forest) where
   same_below k l (ChildNode n ∷ cs) (ChildText u ∷ ds) h same = absurd h
   same_below k l (ChildNode n ∷ cs) (ChildNode m ∷ ds) h same = ap (λ x. x ++ flat_map (child_calls l) ds) (same n m h.0) ∙ ap (λ xs. k n ++ xs) (same_below k l cs ds h.1 same)
 
-  -- so many levels down, the calls are the same
+  -- down to this number of levels, the calls are equal
   same_within : (levels n m : ℕ) → IsCopyOf f g n m → calls_within levels g m ≡ calls_within levels f n
   unfolding calls_within
   same_within zero n m h = refl

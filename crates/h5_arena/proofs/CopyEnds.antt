@@ -1,4 +1,4 @@
--- An arena with a copy behind the nodes that were there.
+-- An arena with a copy after the existing nodes.
 use Rattle.std.proofs.Common.{◌≡◌, ◌∙◌, ℕ, ◌+◌, List, ◌++◌, ap, arith, length, subst, sym}
 use Rattle.std.specs.Prelude.{None, slice_get}
 use Rattle.std.specs.Option.{option_map}

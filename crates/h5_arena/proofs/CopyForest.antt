@@ -1,4 +1,4 @@
--- Copies behind the nodes of a forest are a forest with them.
+-- A forest, followed by copies, is a forest.
 use Rattle.std.proofs.Common.{◌≡◌, ◌≢◌, ◌∙◌, ◌⊎◌, ℕ, ◌+◌, ◌-◌, ◌<◌, ◌≤◌, Bool, true, false, List, [], ◌∷◌, ◌++◌, ap, append-nil, arith, inl, inr, length, refl, subst, sym}
 use Rattle.std.specs.Prelude.{◌==◌, if◌then◌else◌, Option, None, Some, slice_get}
 use Rattle.std.specs.Option.{option_and_then, option_map, option_map_or, option_to_list}
@@ -57,7 +57,7 @@ nodes_renumbered first [] = refl
 nodes_renumbered first (ChildNode n ∷ cs) = ap (λ l. first ∷ l) (nodes_renumbered (first + 1) cs)
 nodes_renumbered first (ChildText t ∷ cs) = nodes_renumbered first cs
 
--- what is right below a copy has the numbers from the first on
+-- the nodes directly below a copy have consecutive numbers from the first on
 below_copied : (first : ℕ) (parent : Option ℕ) (d : Node) → below (copied first parent d) ≡ upward first (length (below d))
 below_copied first parent d = ap (λ l. l ++ option_to_list (copied first parent d).contents) (nodes_renumbered first d.children) ∙ at (nodes d.children) d.contents
   where
@@ -77,7 +77,7 @@ parted_renumbered first (ChildText t ∷ ChildText u ∷ cs) h = absurd h
 pub get_before : {A : Type 0} (xs ys : List A) (i : ℕ) → i < length xs → slice_get (xs ++ ys) i ≡ slice_get xs i
 get_before xs ys i h = let x = get_there xs i h in get_left xs ys i x.0 x.1 ∙ sym x.1
 
--- a node stands below another as often as it is to
+-- a node appears below another as often as it should
 one_from : (p : ℕ) (o : Option ℕ) (k : ℕ) → (o ≡ Some p → k ≡ 1) → (0 < k → o ≡ Some p) → k ≡ (if is_at p o then 1 else 0)
 one_from p None k hung found =
     elim (cases_lt 0 k) [
@@ -138,7 +138,7 @@ module _ (ns cs : List Node) (n : ℕ) (sources : List Wanted) (whole : IsForest
           let u : k.parent ≡ Some p = sym (ap (λ (d : Node). d.parent) k.is_copy) ∙ v in
           (k.source, k.is_wanted ∙ ap (λ q. Some (k.source, q)) u)
 
-  -- whose parent is whose: as before, or as it was wanted
+  -- the parent of each node: as before, or as it was wanted
   up : (c p : ℕ) → parent_of g c ≡ Some p → ((c < base) × (parent_of f c ≡ Some p)) ⊎ ((i : ℕ) × (m : ℕ) × (c ≡ base + i) × (slice_get sources i ≡ Some (m, Some p)))
   up c p e = elim (cases_lt c base) [
     | inl l ↦ inl (l, sym (ap (option_and_then (λ (d : Node). d.parent)) (old c l)) ∙ e)
@@ -193,7 +193,7 @@ module _ (ns cs : List Node) (n : ℕ) (sources : List Wanted) (whole : IsForest
         λ z. let u : None ≡ Some x.0 = sym z ∙ new p (p - base) at ∙ x.1 in cc
   ]
 
-  -- what stands above a node stood above it before, or came before it
+  -- a node above another was above it before, or came before it
   lower : (a c : ℕ) → IsAncestor (parent_of g) a c → ((c < base) × IsAncestor (parent_of f) a c) ⊎ ((base ≤ c) × (a < c))
   lower a c (Parent e) = elim (up c a e) [
     | inl v ↦ inl (v.0, Parent v.1)
@@ -266,7 +266,7 @@ module _ (ns cs : List Node) (n : ℕ) (sources : List Wanted) (whole : IsForest
           let y = h.done k x w in
           of k x y y.original.contents refl (sym (ap (option_and_then (λ (d : Node). d.contents)) (new m k at ∙ w ∙ ap (λ d. Some d) y.is_copy)) ∙ e)
 
-  -- the document is where it was
+  -- the document is still the first node
   first_old : 0 < base
   first_old = held f 0 whole (document_is_node f whole)
 
@@ -286,7 +286,7 @@ module _ (ns cs : List Node) (n : ℕ) (sources : List Wanted) (whole : IsForest
   pub free : parent_of g base ≡ None
   free = parent_new base 0 n None (omega arith) h.start
 
-  -- what is noted beside the tree stays right
+  -- the data stored besides the tree stays right
   owner_new : (m k : ℕ) (form : ℕ) → m ≡ base + k → form_of g m ≡ Some form → ⊥
   owner_new m k form at e = by (slice_get cs k) refl
     where

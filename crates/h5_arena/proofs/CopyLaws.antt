@@ -18,7 +18,7 @@ use Rattle.h5_arena.proofs.CallConditions.{some_same}
 use Rattle.h5_arena.proofs.LevelLaws.{below_has_parent}
 use Rattle.h5_arena.proofs.NodeWrites.{node_exists, within_is_node}
 
--- what stands in a list stands in a longer one, and what stands there stands in the list or behind it
+-- an entry of a list is one of a longer list, and an entry there is in the list or after it
 pub get_left : {A : Type 0} (xs ys : List A) (i : ℕ) (x : A) → slice_get xs i ≡ Some x → slice_get (xs ++ ys) i ≡ Some x
 get_left [] ys i x e = let v : None ≡ Some x = e in cc
 get_left (y ∷ xs) ys zero x e = e
@@ -64,7 +64,7 @@ below_of_at p q ns j n e = at (slice_get ns j) refl
         let parts = some_pair_parts m n p q v in
         (w ∙ ap (λ x. Some x) parts.0, parts.1)
 
--- what is right below a node is a node
+-- a node directly below a node is a node
 pub below_is_node : (f : Forest) (n j m : ℕ) (d : Node) → IsForest f → f.node n ≡ Some d → slice_get (below d) j ≡ Some m → IsNode f m
 below_is_node f n j m d k e w = child_is_node f m n (below_has_parent f n m k (rw e (stands_in (below d) j m w)))
 
@@ -144,7 +144,7 @@ module _ (f : Forest) (n : ℕ) (sources : List Wanted) (copies : List Node) (so
     ];
   }
 
--- the same, where the lists are known otherwise
+-- as above, from other facts about the lists
 pub begins : (ns : List NodeData) (id : NodeId) (link : Link) (sources olds : List Source) (copies : List NodeData) → id.index < length ns → sources ≡ olds ++ (record { id = id; parent = link }) ∷ [] → olds ≡ [] → link_place link ≡ None → copies ≡ []
     → AreCopied (forest_in ns) id.index (wanted_views sources) (node_views copies)
 begins ns id link sources olds copies there e w none z = rw (e, w, z, none) (none_copied (forest_in ns) id.index (within_is_node ns id.index there))
@@ -169,7 +169,7 @@ wanted_length sources = length-map sources (λ (s : Source). (s.id.index, link_p
 pub next_within : (ns : List NodeData) (n source : ℕ) (parent : Option ℕ) (sources : List Wanted) (copies : List Node) → AreCopied (forest_in ns) n sources copies → slice_get sources (length copies) ≡ Some (source, parent) → source < length ns
 next_within ns n source parent sources copies h next = node_exists ns source (h.are_nodes (length copies) source parent next)
 
--- where no source is left, all are copied
+-- if no source is left, all are copied
 pub ends : (f : Forest) (n : ℕ) (sources : List Wanted) (copies : List Node) → length sources ≤ length copies → AreCopied f n sources copies → AreCopies f n copies
 ends f n sources copies all h = (
   sources,

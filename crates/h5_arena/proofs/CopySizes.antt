@@ -1,4 +1,4 @@
--- How much is left to be copied.
+-- A measure of what is left to be copied.
 use Rattle.std.proofs.Common.{◌≡◌, ◌∙◌, ℕ, ◌+◌, ◌<◌, List, [], ◌∷◌, ◌++◌, ap, arith, drop, refl, sym}
 use Rattle.std.specs.Prelude.{Option, None, Some, slice_get}
 use Rattle.std.proofs.lemmas.Bool.{eq-eqb}
@@ -13,7 +13,7 @@ abbrev pub total : (ℕ → ℕ) → List ℕ → ℕ
 total size [] = 0
 total size (n ∷ ns) = size n + total size ns
 
--- how many nodes stand at and below one, so many levels down, and on all levels
+-- the number of nodes at and below one, down to this number of levels, and at all levels
 unfoldable pub size_within : ℕ → Forest → ℕ → ℕ
 size_within zero f n = 1
 size_within (suc levels) f n = 1 + total (size_within levels f) (below_of f n)
@@ -36,7 +36,7 @@ size_further : (f : Forest) (levels n : ℕ) → ((m : ℕ) → 0 < count m (bel
 unfolding size_within
 size_further f levels n same = ap (λ k. 1 + k) (same_total (size_within (suc levels) f) (size_within levels f) (below_of f n) same)
 
--- a node counts one more than all that is right below it
+-- a node counts one more than everything directly below it
 size_of_node : (f : Forest) (n : ℕ) → IsForest f → size_of f n ≡ 1 + total (size_of f) (below_of f n)
 unfolding size_within
 size_of_node f n k = sym (settled f k (below_of f) (λ n m w. Parent (below_has_parent f n m k w)) (λ levels. size_within levels f) (size_gone f) (size_further f) n)

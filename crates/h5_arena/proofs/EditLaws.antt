@@ -1,4 +1,4 @@
--- Attributes that are set and taken away.
+-- Attributes that are set and removed.
 use Rattle.std.proofs.Common.{◌≡◌, ◌≢◌, ◌∙◌, ℕ, ◌<◌, ◌≤◌, Bool, true, false, ◌&&◌, cond, not, List, [], ◌∷◌, ◌++◌, ap, arith, get_or, is_some, length, refl, subst, sym}
 use Rattle.std.specs.Prelude.{◌==◌, Option, None, Some, nat_lt, slice_get}
 use Rattle.std.specs.Cmp.Lexicographic.{same_text}
@@ -37,7 +37,7 @@ value_set local value (a ∷ attrs) = at (value_set local value attrs) (is_named
     at h' true e = rw (e, e) refl
     at h' false e = rw (e, e) h'
 
--- what was taken away isn't there
+-- a removed attribute isn't there
 pub value_gone : (local : List ℕ) (attrs : List AttributeText) → value_of local (without_named local attrs) ≡ None
 value_gone local [] = refl
 value_gone local (a ∷ attrs) = at (value_gone local attrs) (is_named local a) refl
@@ -68,7 +68,7 @@ other_new local other value apart = at (is_same_text local other) refl
     at true e = absurd (apart (sym (same_text local other (sym e))))
     at false e = rw e refl
 
--- the values of others stay, where one is set
+-- the values of others are unchanged if one is set
 pub others_stay : (local other value : List ℕ) (attrs : List AttributeText) → other ≢ local → value_of other (with_value local value attrs) ≡ value_of other attrs
 others_stay local other value [] apart = other_new local other value apart
 others_stay local other value (a ∷ attrs) apart = at (others_stay local other value attrs apart) (is_named local a) refl (is_named other a) refl
@@ -79,7 +79,7 @@ others_stay local other value (a ∷ attrs) apart = at (others_stay local other 
     at h false e true w = rw (e, w) refl
     at h false e false w = rw (e, w) h
 
--- and where one is taken away
+-- and if one is removed
 pub others_left : (local other : List ℕ) (attrs : List AttributeText) → other ≢ local → value_of other (without_named local attrs) ≡ value_of other attrs
 others_left local other [] apart = refl
 others_left local other (a ∷ attrs) apart = at (others_left local other attrs apart) (is_named local a) refl (is_named other a) refl
@@ -90,7 +90,7 @@ others_left local other (a ∷ attrs) apart = at (others_left local other attrs 
     at h false e true w = rw (e, w) refl
     at h false e false w = rw (e, w) h
 
--- there is a value where there is an attribute
+-- there is a value if there is an attribute
 pub value_there : (local : List ℕ) (attrs : List AttributeText) → list_any (is_named local) attrs ≡ is_some (value_of local attrs)
 value_there local [] = refl
 value_there local (a ∷ attrs) = at (value_there local attrs) (is_named local a) refl
@@ -113,7 +113,7 @@ first_set local value xs i x y found is e =
     let at = position-Some (λ a. is_named local (attribute_text a)) xs i x found in
     set_first local value xs i x y at.0 at.1 at.2 (e ∙ ap (λ z. record (attribute_text z) { value = value }) is)
 
--- where no attribute has this name, one more stands at the end
+-- if no attribute has this name, one is added at the end
 none_first : (p : Attribute → Bool) (xs : List Attribute) → length xs ≤ position_or_len p xs → list_any p xs ≡ false
 none_first p [] h = refl
 none_first p (x ∷ xs) h = at (none_first p xs) (p x) refl
@@ -199,7 +199,7 @@ same_from_seen a b e k = λ i. record {
   keeps_errors = k.2 i;
 }
 
--- what stays where a test that changes nothing chooses is what passes the test
+-- if a test changes no state, the items that it keeps are those that pass it
 module _ {X F : Type 0} (R : F → X → Bool → F → Type 0) (test : X → Bool) (f : F) (tells : (x : X) (b : Bool) (g : F) → R f x b g → (b ≡ test x) × (g ≡ f)) where
   chosen_pass : (x : X) (xs kept : List X) (b : Bool) (bs : List Bool) → b ≡ test x → items_where_true bs xs ≡ kept → items_where_true (b ∷ bs) (x ∷ xs) ≡ cond (test x) (x ∷ kept) kept
   chosen_pass x xs kept true bs e h = rw (← e) (ap (λ rest. x ∷ rest) h)

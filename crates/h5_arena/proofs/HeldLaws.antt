@@ -1,4 +1,4 @@
--- What an arena tells of a node it holds, since its nodes are a forest.
+-- The data of a node of an arena, whose nodes are a forest.
 use Rattle.std.proofs.Common.{◌≡◌, ◌<◌, ℕ, zero, suc, List, [], ◌∷◌, All, Option, None, Some, IfSome, length, refl, ap, sym, ◌∙◌, arith, subst, get_or}
 use Rattle.std.proofs.lemmas.List.{length-map}
 use Rattle.std.specs.List.{slice_get}
@@ -15,7 +15,7 @@ use Rattle.h5_arena.proofs.LevelLaws.{held}
 use Rattle.h5_arena.proofs.NodeCallLaws.{contents_told, here_first, here_later}
 use Rattle.h5_arena.proofs.NodeWrites.{node_at}
 
--- what an arena knows of a node that it holds is what the node keeps
+-- the data of a node of an arena is that of the stored node
 pub node_told : {T : Type 0} (look : Node → T) (a : ArenaView) (ns : List NodeData) (id : NodeId) (d : NodeData) → node_views ns ≡ a.nodes → IsHeld a id → d ≡ get_or ns id.index d → at_node look a id ≡ Some (look (node_view d))
 node_told look a ns id d e there is =
     ap (λ xs. option_map look (slice_get xs id.index)) (sym e)

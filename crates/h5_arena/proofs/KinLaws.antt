@@ -8,7 +8,7 @@ use Rattle.h5_arena.specs.ArenaModel.{ArenaView, at_node, child_parent, forest_s
 use Rattle.h5_arena.specs.Kin.{ancestors_within, tree_parent}
 use Rattle.h5_arena.specs.declared.nodes.NodeId.{NodeId}
 
--- the parent that an arena tells of is that of the forest
+-- the parent that an arena returns is that of the forest
 told : (o : Option Node) (p : Option ℕ) → option_map child_parent o ≡ Some p → option_and_then child_parent o ≡ p
 told None p e = cc
 told (Some d) p e = cc

@@ -22,7 +22,7 @@ parent_of_contents f p c k h = at_parent p (parent_of f c) (rw (← k.one_parent
         let w : d.contents ≡ Some c = (rw e at h) in
         rw (e, w, count-append) (rw (eq-eqb c c refl) (omega arith))
 
--- what is shown below a node has it as an ancestor
+-- a shown child of a node has the node as an ancestor
 pub shown_is_below : (f : Forest) (n m : ℕ) → IsForest f → 0 < count m (nodes (shown_children f n)) → IsAncestor (parent_of f) n m
 shown_is_below f n m k h = at (contents_of f n) refl
   where
@@ -30,7 +30,7 @@ shown_is_below f n m k h = at (contents_of f n) refl
     at None e = Parent (parent_of_child f n m k (rw e at h))
     at (Some c) e = Further c (Parent (parent_of_contents f n c k e)) (parent_of_child f c m k (rw e at h))
 
--- numbers that are no two the same, each an ancestor of n
+-- pairwise different numbers, each an ancestor of n
 record AreAbove (f : Forest) (n : ℕ) (above : List ℕ) : Type 0 where
   ancestors : (a : ℕ) → list_any (eqb a) above ≡ true → IsAncestor (parent_of f) a n
   distinct : IsDistinct eqb above
@@ -85,11 +85,11 @@ few_above f n above k there h =
     at q true e g = rw (eqb-true q n e) (held f n k there)
     at q false e g = held f q k (ancestor_is_node f q n k (h.ancestors q (rw e at g)))
 
--- what stands right below a node, as a child or as contents, has it as its parent
+-- a node directly below a node, as a child or as contents, has it as its parent
 pub below_has_parent : (f : Forest) (n m : ℕ) → IsForest f → 0 < count m (below_of f n) → parent_of f m ≡ Some n
 below_has_parent f n m k h = at_parent n (parent_of f m) (rw (← k.one_parent n m) h)
 
--- what is found level by level, from what is further down, is found once as many levels are looked at as there are nodes
+-- a result level by level is complete after as many levels as there are nodes
 module _ {A : Type 0} (f : Forest) (k : IsForest f) (down : ℕ → List ℕ) (is_below : (n m : ℕ) → 0 < count m (down n) → IsAncestor (parent_of f) n m) (found : ℕ → ℕ → A) (gone : (levels n : ℕ) → f.node n ≡ None → found (suc levels) n ≡ found levels n) (further : (levels n : ℕ) → ((m : ℕ) → 0 < count m (down n) → found (suc levels) m ≡ found levels m) → found (suc (suc levels)) n ≡ found (suc levels) n) where
   settled_from : (levels n : ℕ) (above : List ℕ) → AreAbove f n above → f.bound ≤ length above + levels → found (suc levels) n ≡ found levels n
   settled_from zero n above h e = at (f.node n) refl

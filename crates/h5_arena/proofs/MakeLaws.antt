@@ -72,6 +72,6 @@ template_is ns t c v n e wt wc =
     ∙ ap (make arena_choices (record (plain FragmentNode) { parent = Some n })) (push_is ns t (record v { contents = Some (n + 1) }) wt)
     ∙ template_forest (forest_in ns) (length (node_views ns)) n v len
 
--- an element that is no template is made alone
+-- an element that isn't a template is made alone
 pub made_alone : (choices : SinkChoices) (name : QualName) (attrs : List AttributeText) (flags : ElementFlags) (f g : Forest) → flags.template ≡ false → g ≡ make choices (element name attrs flags) f → g ≡ make_element choices name attrs flags f
 made_alone choices name attrs flags f g w e = e ∙ sym (ap (λ b. with_contents b choices (choices.fresh f) (make choices (element name attrs flags) f)) w)

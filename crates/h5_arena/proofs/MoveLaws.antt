@@ -47,7 +47,7 @@ set_parents_children a q f n = at (f.node n) refl
     at None e = rw e refl
     at (Some d) e = rw e refl
 
--- whether a node is among children, child by child
+-- true if a node is among children, child by child
 abbrev has : List Child → ℕ → Bool
 has [] n = false
 has (x ∷ xs) n = is_this n x || has xs n
@@ -81,7 +81,7 @@ get_drop cs zero k = rw (let e : 0 + k ≡ k = omega arith in e) refl
 get_drop [] (suc i) k = refl
 get_drop (x ∷ cs) (suc i) k = rw (let e : suc i + k ≡ suc (i + k) = omega arith in e) (get_drop cs i k)
 
--- the child at a place behind the start
+-- the child at an index after the start
 pub node_at_drop : (cs : List Child) (i k j n : ℕ) → j ≡ i + k → is_node_at (drop i cs) k n ≡ is_node_at cs j n
 node_at_drop cs i k j n e = rw (e, get_drop cs i k) refl
 
@@ -90,7 +90,7 @@ drop_join t [] = refl
 drop_join t (ChildNode n ∷ zs) = refl
 drop_join t (ChildText u ∷ zs) = refl
 
--- the nodes behind those that were there are those that came
+-- the nodes after those that were there are those that came
 pub nodes_drop_joined : (xs ys : List Child) (k : ℕ) → k ≡ length xs → AreParted xs → nodes (drop k (joined (xs ++ ys))) ≡ nodes ys
 nodes_drop_joined [] ys zero e h = nodes-joined ys
 nodes_drop_joined [] ys (suc k) e h = absurd (omega arith)
@@ -119,7 +119,7 @@ edited_here f p q h k d apart e = at (q == p) refl
     at true u = absurd (apart (sym (eqb-true q p u)))
     at false u = rw (e, u, eq-eqb q q refl) refl
 
--- the children that stand at `to` after the edits
+-- the children of `to` after the edits
 pub moved_children : (f g : Forest) (from to : ℕ) (xs ys : List Child) (d : Node) → from ≢ to → f.node to ≡ Some d → d.children ≡ xs → g ≡ edit_children to (λ cs. cs ++ ys) (edit_children from (λ _. []) f) → children_of g to ≡ joined (xs ++ ys)
 moved_children f g from to xs ys d apart e x w = rw (w, ← x) (edited_here f from to (λ _. []) (λ cs. cs ++ ys) d apart e)
 
@@ -134,7 +134,7 @@ moved_all f g h from to start xs ys d apart e x y l parted w v =
 pub child_held : (ns : List NodeData) (p c : ℕ) → IsForest (forest_in ns) → 0 < count c (nodes (children_of (forest_in ns) p)) → c < length ns
 child_held ns p c k h = child_within ns p c (parent_of_child (forest_in ns) p c k h)
 
--- all that stand at `to` now are nodes
+-- all that are below `to` now are nodes
 pub moved_held : (ns : List NodeData) (g : Forest) (from to c : ℕ) (xs ys : List Child) (d : Node) → IsForest (forest_in ns) → from ≢ to → slice_get (node_views ns) to ≡ Some d → d.children ≡ xs → children_of (forest_in ns) from ≡ ys
     → g ≡ edit_children to (λ cs. cs ++ ys) (edit_children from (λ _. []) (forest_in ns)) → 0 < count c (nodes (children_of g to)) → c < length ns
 moved_held ns g from to c xs ys d k apart e x y w h =
@@ -145,7 +145,7 @@ moved_held ns g from to c xs ys d k apart e x y w h =
     case true m all = child_held ns to c k (rw (e, x) (grind (arith, nat_tests)))
     case false m all = child_held ns from c k (rw y (grind (arith, nat_tests)))
 
--- a child that is no node is none of them
+-- a child that isn't a node is not among them
 pub no_node : (n : ℕ) (x : own.Child) → ((id : NodeId) → x ≡ own_is.Node id → ⊥) → is_this n (child_view x) ≡ false
 no_node n (own_is.Node id) none = absurd (none id refl)
 no_node n (own_is.Text text) none = refl
@@ -179,7 +179,7 @@ adopts_all f g cs q i h e = e ∙ ap (λ xs. set_parents (has_child xs) q f) (ta
     take-past (x ∷ xs) zero w = absurd (omega arith)
     take-past (x ∷ xs) (suc k) w = ap (λ ys. x ∷ ys) (take-past xs k (omega arith))
 
--- where parents alone were set, children and places stay
+-- if only parents were set, children are unchanged
 pub kept_children : (f g : Forest) (chosen : ℕ → Bool) (q : Option ℕ) (p : ℕ) → g ≡ set_parents chosen q f → children_of g p ≡ children_of f p
 kept_children f g chosen q p e = ap (λ y. children_of y p) e ∙ set_parents_children chosen q f p
 
@@ -197,7 +197,7 @@ moved_forest ns from to d d1 e e1 ys a b ed wd ee we =
     children_write (set ns from d1) to e e1 (λ cs. cs ++ ys) (rw (length-set ns from d1) b) ee we
     ∙ ap (edit_children to (λ cs. cs ++ ys)) (children_write ns from d d1 (λ _. []) a ed wd)
 
--- the other node was read where it stood
+-- the other node was read where it is
 pub filled_at : (ns : List NodeData) (from to : ℕ) (d1 e : NodeData) → from ≢ to → e ≡ get_or (set ns from d1) to e → e ≡ get_or ns to e
 filled_at ns from to d1 e apart h = h ∙ get_or-set_other ns from to d1 e (λ w. apart (sym w))
 
@@ -215,7 +215,7 @@ same_node : (b : Bool) (n : ℕ) → (if b then 1 else 0) + 0 ≡ 1 → joined (
 same_node true n h = refl
 same_node false n h = absurd (omega (arith, h))
 
--- what is left of an only child that is taken away
+-- the remainder after an only child is removed
 pub only_removed : (id : ℕ) (c : Child) → count id (nodes (c ∷ [])) ≡ 1 → joined (without id (c ∷ [])) ≡ []
 only_removed id (ChildNode n) h = same_node (eqb id n) n h
 only_removed id (ChildText t) h = absurd (omega (arith, h))

@@ -1,4 +1,4 @@
--- The calls of a node by those of its children, and how much of a walk is left.
+-- The calls of a node by those of its children, and a measure of a walk's remainder.
 use Rattle.std.proofs.Common.{◌≡◌, ◌∙◌, ℕ, ◌+◌, ◌<◌, List, [], ◌∷◌, ◌++◌, ap, arith, refl, sym}
 use Rattle.std.specs.Prelude.{Option, None, Some}
 use Rattle.std.specs.List.{flat_map}
@@ -37,14 +37,14 @@ calls_further : (f : Forest) (levels n : ℕ) → ((m : ℕ) → 0 < count m (no
 unfolding calls_within
 calls_further f levels n same = ap (λ below. option_map_or (λ (d : Node). calls_around d.kind d.attrs below) (f.node n) []) (same_calls (calls_within (suc levels) f) (calls_within levels f) (shown_children f n) same)
 
--- the calls of a node stand around those of its children
+-- the calls of a node surround those of its children
 pub calls_of_node : (f : Forest) (n : ℕ) (d : Node) → IsForest f → f.node n ≡ Some d → calls_of f n ≡ calls_around d.kind d.attrs (calls_of_children f (shown_children f n))
 unfolding calls_within
 calls_of_node f n d k e =
     sym (settled f k (λ n. nodes (shown_children f n)) (λ n m. shown_is_below f n m k) (λ levels. calls_within levels f) (calls_gone f) (calls_further f) n)
     ∙ ap (λ (o : Option Node). option_map_or (λ (d : Node). calls_around d.kind d.attrs (calls_of_children f (shown_children f n))) o []) e
 
--- the same, where the kind is known
+-- as above, if the kind is known
 pub calls_of_kind : (f : Forest) (n : ℕ) (kind : Kind) → IsForest f → kind_of f n ≡ Some kind → (attrs : List AttributeText) × (calls_of f n ≡ calls_around kind attrs (calls_of_children f (shown_children f n)))
 calls_of_kind f n kind k e = at (f.node n) refl
   where
@@ -62,7 +62,7 @@ calls_of_element f n name attrs k e a = at (f.node n) refl
         calls_of_node f n d k w ∙ ap (λ x. calls_around x d.attrs (calls_of_children f (shown_children f n))) (some_same _ _ (rw w at e))
         ∙ ap (λ x. StartOf name x ∷ calls_of_children f (shown_children f n) ++ EndOf name ∷ []) (some_same _ _ (rw w at a))
 
--- what is told of the contents of a node
+-- the calls of the contents of a node
 pub contents_told : (f : Forest) (n : ℕ) (contents : Option ℕ) → option_map (λ d. d.contents) (f.node n) ≡ Some contents → contents_of f n ≡ contents
 contents_told f n contents e = at (f.node n) refl
   where
@@ -70,7 +70,7 @@ contents_told f n contents e = at (f.node n) refl
     at None w = let v = (rw w at e) in cc
     at (Some d) w = rw w (some_same _ _ (rw w at e))
 
--- what is told of are nodes
+-- the shown children are nodes
 pub shown_are_nodes : (f : Forest) (n : ℕ) → IsForest f → AreNodes f (shown_children f n)
 shown_are_nodes f n k = all (shown_children f n) (λ m h. at m (shown_is_below f n m k h))
   where
@@ -83,7 +83,7 @@ shown_are_nodes f n k = all (shown_children f n) (λ m h. at m (shown_is_below f
     all (ChildText t ∷ cs) h = all cs h
     all (ChildNode m ∷ cs) h = (h m (here_first m cs), all cs (λ p w. h p (here_later p m cs w)))
 
--- how much of a walk is left: one step for each child, and one for the end of each node
+-- a measure of a walk's remainder: one step for each child, and one for the end of each node
 abbrev pub weight_of_children : (ℕ → ℕ) → List Child → ℕ
 weight_of_children weight [] = 0
 weight_of_children weight (ChildText t ∷ cs) = 1 + weight_of_children weight cs
@@ -115,6 +115,6 @@ pub weight_of_node : (f : Forest) (n : ℕ) → IsForest f → weight_of f n ≡
 unfolding weight_within
 weight_of_node f n k = sym (settled f k (λ n. nodes (shown_children f n)) (λ n m. shown_is_below f n m k) (λ levels. weight_within levels f) (weight_gone f) (weight_further f) n)
 
--- more levels than nodes tell no more
+-- more levels than nodes add no calls
 pub calls_settled : (f : Forest) (more n : ℕ) → IsForest f → calls_within (f.bound + more) f n ≡ calls_of f n
 calls_settled f more n k = settled_beyond f k (λ n. nodes (shown_children f n)) (λ n m. shown_is_below f n m k) (λ levels. calls_within levels f) (calls_gone f) (calls_further f) more n

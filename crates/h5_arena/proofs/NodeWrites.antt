@@ -63,7 +63,7 @@ pub parent_write : (ns : List NodeData) (c : ℕ) (d d1 : NodeData) (q : Option 
 parent_write ns c d d1 q there e w =
     write_is ns c d1 there ∙ ap (λ v. replaced c v (forest_in ns)) w ∙ replaced_parent (forest_in ns) c (node_view d) q (node_at ns c d there e)
 
--- a node is written as a change of it alone says
+-- a node is written as a change of only this node
 node_write : (ns : List NodeData) (i : ℕ) (d d1 : NodeData) (change : ℕ → Node → Node) → i < length ns → d ≡ get_or ns i d
     → node_view d1 ≡ change i (node_view d) → ((m : ℕ) (v : Node) → slice_get (node_views ns) m ≡ Some v → (m == i) ≡ false → change m v ≡ v) → forest_in (set ns i d1) ≡ change_nodes change (forest_in ns)
 node_write ns i d d1 change there e w other =
@@ -118,7 +118,7 @@ node_exists [] i h = absurd (h refl)
 node_exists (n ∷ ns) zero h = omega arith
 node_exists (n ∷ ns) (suc i) h = let w = node_exists ns i h in omega arith
 
--- and what lies in the vector is a node
+-- and each entry of the vector is a node
 pub within_is_node : (ns : List NodeData) (i : ℕ) → i < length ns → IsNode (forest_in ns) i
 within_is_node [] i h = absurd (omega arith)
 within_is_node (d ∷ ns) zero h = λ e. cc
@@ -127,7 +127,7 @@ within_is_node (d ∷ ns) (suc i) h = within_is_node ns i (omega arith)
 pub held_is_node : (ns : List NodeData) (i : ℕ) → i < length (node_views ns) → IsNode (forest_in ns) i
 held_is_node ns i h = within_is_node ns i (simp length-map at h)
 
--- where a parent, and a child, lie
+-- where a parent, and a child, are
 pub parent_within : (ns : List NodeData) (p c : ℕ) → IsForest (forest_in ns) → parent_of (forest_in ns) c ≡ Some p → p < length ns
 parent_within ns p c k e = node_exists ns p (k.inside p c e)
 
@@ -137,7 +137,7 @@ child_within ns p c e = node_exists ns c (child_is_node (forest_in ns) c p e)
 pub children_at : (ns : List NodeData) (p : ℕ) (d : NodeData) → p < length ns → d ≡ get_or ns p d → children_of (forest_in ns) p ≡ child_views (children_in d.children)
 children_at ns p d h e = rw (node_at ns p d h e) refl
 
--- a node that is no fragment stands once among its parent's children
+-- a node that isn't a fragment occurs once among its parent's children
 pub once_at : (ns : List NodeData) (p c : ℕ) (d : NodeData) → IsForest (forest_in ns) → parent_of (forest_in ns) c ≡ Some p → kind_of (forest_in ns) c ≢ Some FragmentNode → d ≡ get_or ns p d → count c (nodes (child_views (children_in d.children))) ≡ 1
 once_at ns p c d k up no_fragment e =
     let one = child_once (forest_in ns) p c k up no_fragment in
@@ -147,6 +147,6 @@ once_at ns p c d k up no_fragment e =
 pub element_within : (ns : List NodeData) (n : ℕ) → IsElement (forest_in ns) n → n < length ns
 element_within ns n e = node_exists ns n (node_of_kind (forest_in ns) n (ElementNode e.0) e.1)
 
--- what is seen, where the forest alone changed
+-- what is shown if only the forest changed
 pub seen_after : (f g : Forest) (q : QuirksMode) (e : ℕ) → f ≡ g → ◌≡◌ {A = Seen} (record { forest = f; quirks = q; errors = e }) (record { forest = g; quirks = q; errors = e })
 seen_after f g q e w = ap (λ h. record { forest = h; quirks = q; errors = e }) w

@@ -1,4 +1,4 @@
--- What is noted of nodes beside the tree, their form owners and the names of their attributes, stays right whatever changes.
+-- The data stored besides the tree, form owners and the names of attributes, stays right after any change.
 use Rattle.std.proofs.Common.{◌≡◌, ◌∙◌, ℕ, Bool, true, false, cond, List, [], ◌∷◌, ◌++◌, ap, refl, subst, sym}
 use Rattle.std.specs.Prelude.{◌==◌, Option, None, Some}
 use Rattle.std.specs.BTreeSet.{BTreeSet}
@@ -17,7 +17,7 @@ use Rattle.h5_arena.specs.Edits.{edit_attrs}
 use Rattle.h5_arena.specs.declared.attribute_names.AttributeNames.{AttributeNames}
 use Rattle.h5_arena.proofs.CallConditions.{some_same}
 
--- where what is known of nodes changes, each stays a node
+-- if the data of nodes changes, each stays a node
 still_node : (change : ℕ → Node → Node) (f : Forest) (n : ℕ) → IsNode f n → IsNode (change_nodes change f) n
 still_node change f n there = at (f.node n) refl
   where
@@ -25,7 +25,7 @@ still_node change f n there = at (f.node n) refl
     at None w = absurd (there w)
     at (Some d) w = rw w (λ e. cc)
 
--- where it changes in all but form owners, these stay nodes
+-- if everything except form owners changes, these stay nodes
 owners_changed : (change : ℕ → Node → Node) (f : Forest) → ((n : ℕ) (d : Node) → f.node n ≡ Some d → (change n d).marks.form ≡ d.marks.form) → HoldsOwners f → HoldsOwners (change_nodes change f)
 owners_changed change f same k = record { owner = λ n form e. still_node change f form (k.owner n form (sym (form_same n (f.node n) refl) ∙ e)) }
   where
@@ -33,7 +33,7 @@ owners_changed change f same k = record { owner = λ n form e. still_node change
     form_same n None w = rw w refl
     form_same n (Some d) w = rw w (same n d w)
 
--- where it changes in all but attributes, their names stay
+-- if everything except attributes changes, their names are unchanged
 names_changed : {names : AttributeNames} (change : ℕ → Node → Node) (f : Forest) → ((n : ℕ) (d : Node) → (change n d).attrs ≡ d.attrs) → KnowsNames names f → KnowsNames names (change_nodes change f)
 names_changed {names} change f same k = record {
   known = λ n d e. at n d (f.node n) refl e;
@@ -97,7 +97,7 @@ owners_added f n d none k = record { owner = λ m form e. old_is_node f n form d
     at m form true w e = absurd (let v : None ≡ Some form = sym none ∙ (rw w at e) in cc)
     at m form false w e = let v = (rw w at e) in v
 
--- and no names are kept of it
+-- and no names are stored for it
 names_added : {names : AttributeNames} (f : Forest) (n : ℕ) (d : Node) → f.node n ≡ None → KnowsNames names f → KnowsNames names (add_node n d f)
 names_added {names} f n d new k = record {
   known = λ m c e. at m c (m == n) refl e;
@@ -159,7 +159,7 @@ notes_associated f element form place outer there k = record {
   kept_names = names_changed (λ n d. record d { marks = arena_choices.marks_after_associate f element form place outer n }) f (λ n d. refl) k.kept_names;
 }
 
--- where the names that are kept of one node alone change, names are kept of nodes
+-- if only the stored names of one node change, only nodes have stored names
 names_inside : (names news : AttributeNames) (f : Forest) (t : ℕ) (d : Node) → f.node t ≡ Some d → ((n : ℕ) → (n == t) ≡ false → names_at news n ≡ names_at names n) → KnowsNames names f → (n : ℕ) (found : BTreeSet QualName) → names_at news n ≡ Some found → IsNode f n
 names_inside names news f t d there others k n found e = at (n == t) refl
   where
@@ -167,7 +167,7 @@ names_inside names news f t d there others k n found e = at (n == t) refl
     at true w = rw (eqb-true n t w) (rw there (λ x. cc))
     at false w = k.inside n found (sym (others n w) ∙ e)
 
--- the names that are kept of one node change, and the forest doesn't
+-- the stored names of one node change, and the forest doesn't
 pub notes_kept : (names news : AttributeNames) (f : Forest) (t : ℕ) (attrs : List AttributeText) → (d : Node) → f.node t ≡ Some d → attrs ≡ d.attrs → AreNamesAt news t attrs → ((n : ℕ) → (n == t) ≡ false → names_at news n ≡ names_at names n) → HasNotes names f → HasNotes news f
 notes_kept names news f t attrs d there same at_t others k = record {
   owners = k.owners;

@@ -1,4 +1,4 @@
--- Where a node stands among children, looked for from the last on.
+-- The index of a node among children, searched from the end.
 use Rattle.std.proofs.Common.{◌≡◌, ◌<◌, ◌≤◌, ◌+◌, ◌-◌, ◌==◌, ℕ, get_or, take, Bool, true, false, List, [], ◌∷◌, ◌++◌, length, refl, ap, sym, ◌∙◌, arith}
 use Rattle.std.proofs.lemmas.Bool.{eqb-true, eq-eqb}
 use Rattle.std.proofs.lemmas.List.{map-append, take_more}
@@ -17,7 +17,7 @@ other_uncounted n (ChildNode m) h = at (n == m) refl
     at true e = absurd (let same : (m == n) ≡ true = eq-eqb m n (sym (eqb-true n m e)) in cc)
     at false e = rw e refl
 
--- so where the last isn't the node, it stands before
+-- so if the last isn't the node, it is before
 pub stands_before : (n b : ℕ) (x : Value) (xs : List Value) → 0 < b → b ≤ length xs → x ≡ get_or xs (b - 1) x → is_child_node n (child_view x) ≡ false → 0 < count n (nodes (child_views (take b xs)))
     → 0 < count n (nodes (child_views (take (b - 1) xs)))
 stands_before n b x xs some within is other stands =

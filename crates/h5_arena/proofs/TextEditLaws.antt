@@ -1,4 +1,4 @@
--- A text in the stead of children.
+-- A text replaces children.
 use Rattle.std.proofs.Common.{◌≡◌, ◌∙◌, ℕ, ◌+◌, ◌<◌, ◌≤◌, Bool, true, false, cond, List, [], ◌∷◌, ◌++◌, ap, arith, get_or, length, refl, sym, take}
 use Rattle.std.specs.Prelude.{◌||◌, if◌then◌else◌, nat_lt, Option, None, Some, slice_get}
 use Rattle.std.specs.Option.{option_map_or, option_to_list}
@@ -38,7 +38,7 @@ at_one : (b : Bool) → (if b then 1 else 0) ≤ 1
 at_one true = omega arith
 at_one false = omega arith
 
--- a text comes in the stead of children, which are let go
+-- a text replaces children, which lose their parent
 with_text_rehangs : (f : Forest) (n : ℕ) (t : List ℕ) → IsForest f → IsNode f n → Rehangs f (with_text n t f) (has_child (children_of f n)) None
 with_text_rehangs f n t k there = case_n (f.node n) refl
   where
@@ -73,7 +73,7 @@ with_text_keeps f n t there k = record {
   notes = notes_hung (has_child (children_of f n)) None (edit_children n (λ _. text_alone t) f) (notes_edited n (λ _. text_alone t) f k.notes);
 }
 
--- none is let go yet, one more is, and all are
+-- none has lost its parent yet, one more has, and all have
 pub none_let_go : (f : Forest) (cs : List Child) → f ≡ set_parents (has_child (take 0 cs)) None f
 none_let_go f cs = set_parents_none (has_child (take 0 cs)) None f (λ n. refl)
 
@@ -83,7 +83,7 @@ one_let_go f g h cs i x within is v w =
     ∙ set_parents_twice (λ n. is_this n x) (has_child (take i cs)) (has_child (take (i + 1) cs)) None f
     (λ n. taken_more cs i (i + 1) n (omega arith) within ∙ ap (λ o. option_map_or (is_this n) o false || has_child (take i cs) n) is)
 
--- the text stands where the children stood, and they are let go
+-- the text is where the children were, and they have no parent
 pub text_stands : (ns : List NodeData) (n : ℕ) (d d1 : NodeData) (g : Forest) (gone : List own.Child) (t : List ℕ) → n < length ns → d ≡ get_or ns n d → node_view d1 ≡ record (node_view d) { children = text_alone t } → gone ≡ children_in d.children
     → g ≡ set_parents (has_child (child_views gone)) None (forest_in (set ns n d1)) → g ≡ with_text n t (forest_in ns)
 text_stands ns n d d1 g gone t there e v stood w =

@@ -17,7 +17,7 @@ use Rattle.h5_arena.specs.declared.nodes.Child.TheVariants.{Node, Text}
 use Rattle.h5_arena.specs.declared.walk.OpenNode.{OpenNode}
 use Rattle.h5_arena.proofs.NodeCallLaws.{shown_are_nodes, weight_of, weight_of_children, weight_of_node}
 
--- the calls of the open nodes that wait, of which the innermost comes last
+-- the calls of the waiting open nodes, the innermost last
 abbrev pub calls_waiting : Forest → List OpenNode → List Call
 calls_waiting f [] = []
 calls_waiting f (node ∷ around) = calls_waiting f around ++ calls_left f node
@@ -27,7 +27,7 @@ abbrev pub AreWaiting : Forest → List OpenNode → Type 0
 AreWaiting f [] = Unit {0}
 AreWaiting f (node ∷ around) = AreNodes f (child_views node.rest.now) × AreWaiting f around
 
--- how much is left of an open node, and of all that wait
+-- a measure of the remainder of an open node, and of all that wait
 abbrev pub weight_left : Forest → OpenNode → ℕ
 weight_left f node = 1 + weight_of_children (weight_of f) (child_views node.rest.now)
 
@@ -52,16 +52,16 @@ waiting_fewer f [] node h = (tt, h.0)
 waiting_fewer f (outer ∷ around) node h = let k = waiting_fewer f around node h.1 in ((h.0, k.0), k.1)
 
 module _ {M : Type 0} (answer : M → Call → Result (Unit {0}) SerializeFault) (after : M → Call → M) (writes : M → Call → List ℕ) (breaks : M → Option (List ℕ) → Call → SerializeFault → M → Option (List ℕ) → Type 0) (f : Forest) where
-  -- a fault that is answered as it came
+  -- an error that is returned unchanged
   pub begins_stopped : {m n : M} {t u : Option (List ℕ)} {calls : List Call} {fault : SerializeFault} (result : Result (Option OpenNode) SerializeFault) → IsErrAnd result (λ answered. answered ≡ fault) → IsStopped answer after writes breaks calls m t fault n u → Begins answer after writes breaks f calls m t result n u
   begins_stopped (Ok opened) is h = absurd is
   begins_stopped {m} {n} {t} {u} {calls} (Err answered) is h = let P : SerializeFault → Type 0 = λ x. IsStopped answer after writes breaks calls m t x n u in subst P (sym is) h
 
-  -- the first call met a fault
+  -- the first call failed
   pub begins_refused : {m n : M} {t u : Option (List ℕ)} {calls : List Call} {fault : SerializeFault} (call : Call) (left : List Call) (result : Result (Option OpenNode) SerializeFault) → calls ≡ call ∷ left → IsErrAnd result (λ answered. answered ≡ fault) → Makes answer after writes breaks call m t (Err fault) n u → Begins answer after writes breaks f calls m t result n u
   begins_refused call left result e is made = begins_stopped result is (Refused [] call left e NoCall made)
 
-  -- the first call met a fault, or there was no memory for it
+  -- the first call failed, or an allocation for it
   pub begins_not : {m n : M} {t u : Option (List ℕ)} {calls : List Call} {fault : SerializeFault} (call : Call) (left : List Call) (result : Result (Option OpenNode) SerializeFault) → calls ≡ call ∷ left → IsErrAnd result (λ answered. answered ≡ fault) → IsStopped answer after writes breaks (call ∷ []) m t fault n u → Begins answer after writes breaks f calls m t result n u
   begins_not {m} {n} {t} {u} {calls} {fault} call left result e is stopped =
       begins_stopped result is (subst (λ l. IsStopped answer after writes breaks l m t fault n u) (sym e) (stopped_early answer after writes breaks left stopped))
@@ -86,14 +86,14 @@ module _ {M : Type 0} (answer : M → Call → Result (Unit {0}) SerializeFault)
     pub held : AreNodes f (child_views current.rest.now)
     pub waiting : AreWaiting f around
 
-  -- a fault among the calls that come next
+  -- an error among the calls that come next
   pub under_way_stopped : {f : Forest} {calls : List Call} {m n k : M} {t u v : Option (List ℕ)} {current : OpenNode} {around : List OpenNode} {fault : SerializeFault} (next later : List Call) → IsUnderWay f calls m t current around n u
       → calls_left f current ++ calls_waiting f around ≡ next ++ later → IsStopped answer after writes breaks next n u fault k v → IsStopped answer after writes breaks calls m t fault k v
   under_way_stopped {m} {k} {t} {v} {fault} next later way e stopped =
       let whole = way.split ∙ ap (λ l. way.made ++ l) e in
       subst (λ l. IsStopped answer after writes breaks l m t fault k v) (sym whole) (stopped_join answer after writes breaks way.are_made (stopped_early answer after writes breaks later stopped))
 
-  -- want of memory behind the calls that came next
+  -- an allocation that fails after the calls that came next
   pub under_way_starved : {f : Forest} {calls : List Call} {m n k : M} {t u v : Option (List ℕ)} {current : OpenNode} {around : List OpenNode} (next later : List Call) → IsUnderWay f calls m t current around n u
       → calls_left f current ++ calls_waiting f around ≡ next ++ later → AreMade answer after writes breaks n u next k v → IsStopped answer after writes breaks calls m t Memory k v
   under_way_starved next later way e made =
@@ -132,7 +132,7 @@ first_child f current around x rest e =
     ∙ ap (λ l. l ++ calls_waiting f around) (append_assoc own later ends)
     ∙ append_assoc own (later ++ ends) (calls_waiting f around)
 
--- where the child was opened, its calls go on with those that are left of it
+-- if the child was opened, its calls continue with those that are left of it
 pub child_opened : (f : Forest) (current opened : OpenNode) (around : List OpenNode) (x : Child) (rest : Bor (List Child)) (made : List Call) → current.rest.now ≡ x ∷ rest.now
     → child_calls (calls_of f) (child_view x) ≡ made ++ calls_left f opened
     → calls_left f current ++ calls_waiting f around ≡ made ++ (calls_left f opened ++ calls_waiting f (around ++ behind current rest ∷ []))
@@ -148,12 +148,12 @@ pub child_done : (f : Forest) (current : OpenNode) (around : List OpenNode) (x :
 child_done f current around x rest made e split =
     first_child f current around x rest e ∙ ap (λ l. l ++ (calls_left f (behind current rest) ++ calls_waiting f around)) (split ∙ append-nil made)
 
--- where no child is left, the end comes next
+-- if no child is left, the end comes next
 pub no_child : (f : Forest) (current : OpenNode) (around : List OpenNode) → length current.rest.now ≡ 0
     → calls_left f current ++ calls_waiting f around ≡ end_calls (option_copied current.name) ++ calls_waiting f around
 no_child f current around e = ap (λ xs. (calls_of_children f (child_views xs) ++ end_calls (option_copied current.name)) ++ calls_waiting f around) (nil_from_length current.rest.now e)
 
--- the first child, and those behind it, are nodes or texts
+-- the first child, and those after it, are nodes or texts
 pub first_held : (f : Forest) (current : OpenNode) (x : Child) (rest : Bor (List Child)) → current.rest.now ≡ x ∷ rest.now → AreNodes f (child_views current.rest.now) → AreNodes f (child_view x ∷ []) × AreNodes f (child_views rest.now)
 first_held f current x rest e h = at x (subst (λ xs. AreNodes f (child_views xs)) e h)
   where
@@ -161,7 +161,7 @@ first_held f current x rest e h = at x (subst (λ xs. AreNodes f (child_views xs
     at (Node id) h = ((h.0, tt), h.1)
     at (Text text) h = (tt, h)
 
--- less is left where a child was opened
+-- less is left if a child was opened
 pub less_opened : (f : Forest) (current opened : OpenNode) (around : List OpenNode) (x : Child) (rest : Bor (List Child)) → IsForest f → current.rest.now ≡ x ∷ rest.now → OpensChild f (child_view x) (Ok (Some opened))
     → weight_left f opened + weight_waiting f (around ++ behind current rest ∷ []) < weight_left f current + weight_waiting f around
 less_opened f current opened around x rest k e h = at x e h

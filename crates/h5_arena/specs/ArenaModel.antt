@@ -1,4 +1,4 @@
--- What an arena holds: its nodes in the order in which they were made, and the forest that they are.
+-- An arena: its nodes in the order in which they were made, and the forest that they are.
 use Rattle.std.specs.Prelude.{◌≡◌, ◌≢◌, ◌<◌, ◌+◌, ℕ, ◌-◌, ◌==◌, ◌&&◌, Bool, true, false, cond, length, List, [], ◌∷◌, map, Option, None, Some, String, slice_get, string_bytes, refl}
 use Rattle.std.specs.BTreeSet.{BTreeSet}
 use Rattle.std.specs.List.{find}
@@ -27,7 +27,7 @@ use Rattle.h5_arena.specs.declared.nodes.Kind.TheVariants.{Comment, Doctype, Doc
 use Rattle.h5_arena.specs.declared.nodes.Child as child
 use Rattle.h5_arena.specs.declared.nodes.Child.TheVariants as child_is
 
--- a kind, a child and a node, without where their texts lie in memory
+-- a kind, a child and a node, independent of where their texts are in memory
 abbrev pub kind_view : Kind → forest.Kind
 kind_view Document = DocumentNode
 kind_view (Doctype name public_id system_id) = DoctypeNode (string_bytes name) (string_bytes public_id) (string_bytes system_id)
@@ -43,12 +43,12 @@ child_view (child_is.Text text) = forest.ChildText (string_bytes text)
 abbrev pub child_views : List child.Child → List forest.Child
 child_views = map child_view
 
--- the children that a node keeps
+-- the stored children of a node
 abbrev pub children_in : Below → List child.Child
 children_in (below_is.One c) = c ∷ []
 children_in (below_is.List list) = list.items
 
--- they are kept in a list
+-- the children are stored in a list
 abbrev pub IsList : Below → Type 0
 IsList (below_is.One c) = ⊥
 IsList (below_is.List list) = Unit {0}
@@ -59,7 +59,7 @@ place id = id.index
 abbrev pub optional_place : Option NodeId → Option ℕ
 optional_place = option_map place
 
--- the place that a link leads to
+-- the target of a link
 abbrev pub place_before : ℕ → Option ℕ
 place_before zero = None
 place_before (suc n) = Some n
@@ -80,14 +80,14 @@ node_view d = record {
 abbrev pub node_views : List NodeData → List Node
 node_views = map node_view
 
--- nodes named by their places; the first is the document
+-- nodes named by their indices; the first is the document
 abbrev pub forest_of : List Node → Forest
 forest_of nodes = record { document = 0; bound = length nodes; node = slice_get nodes }
 
 abbrev pub forest_in : List NodeData → Forest
 forest_in nodes = forest_of (node_views nodes)
 
--- the form owner that is noted of a node
+-- the stored form owner of a node
 abbrev pub form_of : Forest → ℕ → Option ℕ
 form_of f n = option_and_then (λ d. d.marks.form) (f.node n)
 
@@ -95,23 +95,23 @@ form_of f n = option_and_then (λ d. d.marks.form) (f.node n)
 pub record HoldsOwners (f : Forest) : Type 0 where
   pub owner : (n form : ℕ) → form_of f n ≡ Some form → IsNode f form
 
--- names are kept of nodes alone, and are those of their attributes
+-- only nodes have stored names, which are those of their attributes
 pub record KnowsNames (names : AttributeNames) (f : Forest) : Type 0 where
   pub known : (n : ℕ) (d : Node) → f.node n ≡ Some d → AreNamesAt names n d.attrs
   pub inside : (n : ℕ) (found : BTreeSet QualName) → names_at names n ≡ Some found → IsNode f n
 
--- what is noted of nodes beside the tree is right
+-- the data stored besides the tree is right
 pub record HasNotes (names : AttributeNames) (f : Forest) : Type 0 where
   pub owners : HoldsOwners f
   pub kept_names : KnowsNames names f
 
--- the nodes of an arena are a forest, and what is noted of them is right
+-- the nodes of an arena are a forest, and the data stored besides is right
 pub record IsArena (names : AttributeNames) (f : Forest) : Type 0 where
   pub is_forest : IsForest f
   pub notes : HasNotes names f
 
--- an arena: its nodes, its quirks mode, the texts of the errors told to it, whether the text of an error was
--- lost, and whether such texts are kept at all
+-- an arena: its nodes, its quirks mode, the texts of the reported errors, whether the text of an error was lost, and whether such texts are
+-- stored at all
 pub record ArenaView : Type 0 where
   pub nodes : List Node
   pub quirks : QuirksMode
@@ -119,22 +119,22 @@ pub record ArenaView : Type 0 where
   pub errors_lost : Bool
   pub keeps_errors : Bool
 
--- it holds its document alone
+-- an arena with only its document
 abbrev pub new_arena : ArenaView
 new_arena = record { nodes = plain DocumentNode ∷ []; quirks = NoQuirks; errors = []; errors_lost = false; keeps_errors = true }
 
--- the same, where no text of an error is kept
+-- an arena with only its document, which stores no text of an error
 abbrev pub silent_arena : ArenaView
 silent_arena = record new_arena { keeps_errors = false }
 
 abbrev pub forest_seen : ArenaView → Forest
 forest_seen a = forest_of a.nodes
 
--- each error counts, and so does that any was lost
+-- each stored error counts 1, and all lost ones together 1
 abbrev pub seen_of : ArenaView → Seen
 seen_of a = record { forest = forest_of a.nodes; quirks = a.quirks; errors = length a.errors + cond a.errors_lost 1 0 }
 
--- the texts of the errors, whether one was lost, and whether they are kept, stay as they were
+-- the texts of errors, whether one was lost, and whether they are stored, are unchanged
 abbrev pub KeepsErrors : (old new : ArenaView) → Type 0
 KeepsErrors old new = (new.errors ≡ old.errors) × (new.errors_lost ≡ old.errors_lost) × (new.keeps_errors ≡ old.keeps_errors)
 
@@ -159,11 +159,11 @@ name_of_kind (CommentNode text) = None
 name_of_kind (InstructionNode target text) = None
 name_of_kind FragmentNode = None
 
--- the value of the first of some attributes that has this local name and no namespace
+-- the value of the first attribute with this local name and no namespace
 abbrev pub value_of : (local : List ℕ) → List AttributeText → Option (List ℕ)
 value_of local attrs = option_map (λ a. a.value) (find (λ a. is_same_text a.name.ns [] && is_same_text a.name.local local) attrs)
 
--- whose child a node is; a fragment is none, but contents
+-- the node whose child a node is; a fragment isn't a child
 abbrev pub child_parent_of_kind : forest.Kind → Option ℕ → Option ℕ
 child_parent_of_kind DocumentNode parent = parent
 child_parent_of_kind (DoctypeNode name public_id system_id) parent = parent
@@ -180,24 +180,24 @@ pub record IsChildOf (f : Forest) (n p : ℕ) : Type 0 where
   pub parent : forest.parent_of f n ≡ Some p
   pub no_fragment : forest.kind_of f n ≢ Some FragmentNode
 
--- a node is nobody's child: it has no parent, unless it is the contents of a template
+-- a node is not a child: it is a fragment, or has no parent
 abbrev pub IsNoChild : Forest → ℕ → Type 0
 IsNoChild f n = forest.kind_of f n ≢ Some FragmentNode → forest.parent_of f n ≡ None
 
--- what an arena knows of a node
+-- a part of a node's data, if the id is a node of the arena
 abbrev pub at_node : {T : Type 0} → (Node → T) → ArenaView → NodeId → Option T
 at_node look a id = option_map look (slice_get a.nodes id.index)
 
--- the node at this place, if there is one
+-- the node with this number, if there is one
 abbrev pub id_at : ArenaView → ℕ → Option NodeId
 id_at a n = option_map (λ _. record { index = n }) (slice_get a.nodes n)
 
--- the node that a child is
+-- the node of a child
 abbrev pub node_of : forest.Child → Option ℕ
 node_of (forest.ChildNode n) = Some n
 node_of (forest.ChildText t) = None
 
--- the root of a fragment: the document's last child, where it is a node
+-- the root of a fragment: the document's last child, if it is a node
 abbrev pub fragment_root : ArenaView → Option ℕ
 fragment_root a = let children = children_of (forest_seen a) 0 in option_and_then node_of (slice_get children (length children - 1))
 
@@ -205,7 +205,7 @@ fragment_root a = let children = children_of (forest_seen a) 0 in option_and_the
 abbrev pub marks_at : Forest → ℕ → Marks
 marks_at f n = option_map_or (λ d. d.marks) (f.node n) (no_marks no_flags)
 
--- a forest that stays is a rearrangement of itself
+-- an unchanged forest is a rearrangement of itself
 pub same_forest : (f : Forest) → IsForest f → Rearranges f f
 same_forest f k = record {
   is_forest = k;
@@ -215,9 +215,8 @@ same_forest f k = record {
   parents = λ n p there e. e;
 }
 
--- A new node has the first free place. A script that started is marked, and an element that is associated
--- with a form gets that form; `pop` changes nothing. Shadow roots are allowed, but none is attached, and
--- no option is copied.
+-- A new node gets the first unused index. A script that started is marked, and an element that is associated with a form gets that form;
+-- `pop` changes nothing. Shadow roots are allowed, but none is attached, and no option is copied.
 abbrev pub arena_choices : SinkChoices
 arena_choices = record {
   fresh = λ f. f.bound;

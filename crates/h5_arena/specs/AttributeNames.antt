@@ -1,4 +1,4 @@
--- The names that are kept of the attributes of nodes.
+-- The stored names of the attributes of nodes.
 use Rattle.std.specs.Prelude.{◌≡◌, ℕ, List, Option, Some}
 use Rattle.std.specs.BTreeMap.{get}
 use Rattle.std.specs.BTreeSet.{BTreeSet, contains}
@@ -15,14 +15,14 @@ use Rattle.h5_arena.specs.declared.attribute_names.AttributeNames.{AttributeName
 abbrev pub name_cmp : QualName → QualName → Ordering
 name_cmp x y = ordering_then (option_cmp (slice_cmp nat_cmp) x.prefix y.prefix) (ordering_then (slice_cmp nat_cmp x.ns y.ns) (slice_cmp nat_cmp x.local y.local))
 
--- a set has the names of these attributes, and no others
+-- a set has exactly the names of these attributes
 abbrev pub AreNames : BTreeSet QualName → List AttributeText → Type 0
 AreNames names attrs = (q : QualName) → contains name_cmp names q ≡ has_attribute q attrs
 
--- the names that are kept of a node
+-- the stored names of a node
 abbrev pub names_at : AttributeNames → ℕ → Option (BTreeSet QualName)
 names_at names n = get nat_cmp names.by_node n
 
--- where any are kept of a node, they are those of these attributes
+-- if names are stored for a node, they are those of these attributes
 abbrev pub AreNamesAt : AttributeNames → ℕ → List AttributeText → Type 0
 AreNamesAt names n attrs = (found : BTreeSet QualName) → names_at names n ≡ Some found → AreNames found attrs

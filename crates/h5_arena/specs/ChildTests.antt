@@ -4,7 +4,7 @@ use Rattle.std.specs.Option.{option_map_or}
 use Prim.Native.Nat.{suc}
 use Rattle.h5_interface.specs.Forest.{Child, ChildNode, ChildText}
 
--- whether a child is this node, and whether it is a text
+-- true if a child is this node; true if a child is a text
 abbrev pub is_child_node : ℕ → Child → Bool
 is_child_node c (ChildNode n) = n == c
 is_child_node c (ChildText t) = false
@@ -13,7 +13,7 @@ abbrev pub is_child_text : Child → Bool
 is_child_text (ChildNode n) = false
 is_child_text (ChildText t) = true
 
--- the text at the end, and the one at the front
+-- the last child and the first child, if it is a text
 abbrev pub last_text : List Child → Option (List ℕ)
 last_text [] = None
 last_text (ChildText t ∷ []) = Some t
@@ -25,15 +25,15 @@ first_text [] = None
 first_text (ChildText t ∷ cs) = Some t
 first_text (ChildNode n ∷ cs) = None
 
--- whether texts stand on both sides of a place
+-- true if there are texts on both sides of an index
 abbrev pub texts_around : List Child → ℕ → Bool
 texts_around cs i = is_some (last_text (take i cs)) && is_some (first_text (drop (suc i) cs))
 
--- whether a last text meets a first one
+-- true if a last text is followed by a first one
 abbrev pub texts_meet : List Child → List Child → Bool
 texts_meet xs ys = is_some (last_text xs) && is_some (first_text ys)
 
--- whether the child at a place is this node
+-- true if the child at an index is this node
 abbrev pub is_this : ℕ → Child → Bool
 is_this n (ChildNode m) = n == m
 is_this n (ChildText t) = false

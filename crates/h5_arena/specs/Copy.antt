@@ -3,29 +3,29 @@
 use Rattle.std.specs.Prelude.{◌≡◌, ◌≢◌, ℕ, List, [], ◌∷◌, Option, None, Some}
 use Prim.Native.Nat.{zero, suc}
 use Rattle.h5_interface.specs.Forest.{Child, ChildNode, ChildText, DocumentNode, Forest, Node, kind_of}
-use Rattle.h5_arena.specs.declared.fault.TreeFault.{TreeFault}
-use Rattle.h5_arena.specs.declared.fault.TreeFault.TheVariants.{IsDocument, Memory}
+use Rattle.h5_arena.specs.declared.fault.EditError.{EditError}
+use Rattle.h5_arena.specs.declared.fault.EditError.TheVariants.{IsDocument, Memory}
 
--- why a node is not copied: it is the document; memory is asked for only where it isn't
-abbrev pub KeepsFromCopy : Forest → ℕ → TreeFault → Type 0
+-- the reason that a node is not copied: it is the document. An allocation can fail only if it isn't
+abbrev pub KeepsFromCopy : Forest → ℕ → EditError → Type 0
 KeepsFromCopy f n IsDocument = kind_of f n ≡ Some DocumentNode
 KeepsFromCopy f n Memory = kind_of f n ≢ Some DocumentNode
 KeepsFromCopy f n fault = ⊥
 
--- this is there on both sides, or on none
+-- both are present and related, or both are missing
 abbrev pub ForBoth : {A : Type 0} → (A → A → Type 0) → Option A → Option A → Type 0
 ForBoth same None None = Unit {0}
 ForBoth same (Some x) (Some y) = same x y
 ForBoth same x y = ⊥
 
--- one by one, the texts are the same texts, and nodes stand for nodes
+-- one by one, the texts are equal, and the nodes correspond
 abbrev pub StandFor : (stands : ℕ → ℕ → Type 0) → List Child → List Child → Type 0
 StandFor stands [] [] = Unit {0}
 StandFor stands (ChildText t ∷ cs) (ChildText u ∷ ds) = (u ≡ t) × StandFor stands cs ds
 StandFor stands (ChildNode n ∷ cs) (ChildNode m ∷ ds) = stands n m × StandFor stands cs ds
 StandFor stands cs ds = ⊥
 
--- a copy is what its original is, and what stands below it stands for what stands below the original. It has no form owner
+-- a copy has the data of its original, and the nodes below it correspond to those below the original. It has no form owner
 pub record IsLike (stands : ℕ → ℕ → Type 0) (original copy : Node) : Type 0 where
   pub kind : copy.kind ≡ original.kind
   pub attrs : copy.attrs ≡ original.attrs
@@ -35,11 +35,11 @@ pub record IsLike (stands : ℕ → ℕ → Type 0) (original copy : Node) : Typ
   pub children : StandFor stands original.children copy.children
   pub contents : ForBoth stands original.contents copy.contents
 
--- a node of g is a copy of one of f, so many levels down
+-- a node of g is a copy of one of f, down to this number of levels
 abbrev pub IsCopyWithin : ℕ → (f g : Forest) → ℕ → ℕ → Type 0
 IsCopyWithin zero f g n m = Unit {0}
 IsCopyWithin (suc levels) f g n m = ForBoth (IsLike (IsCopyWithin levels f g)) (f.node n) (g.node m)
 
--- on all levels
+-- at all levels
 abbrev pub IsCopyOf : (f g : Forest) → ℕ → ℕ → Type 0
 IsCopyOf f g n m = (levels : ℕ) → IsCopyWithin levels f g n m

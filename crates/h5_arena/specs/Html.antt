@@ -10,18 +10,18 @@ use Rattle.h5_serialize.specs.declared.options.TraversalScope.TheVariants.{Child
 use Rattle.h5_arena.specs.ArenaModel.{name_of_kind}
 use Rattle.h5_arena.specs.NodeCalls.{walk_of}
 
--- the default options, but for what is written
+-- the default options, except for the scope
 abbrev pub opts_for : TraversalScope → SerializeOpts
 opts_for scope = record { scripting_enabled = true; traversal_scope = scope; create_missing_parent = false }
 
--- what is written of a node so
+-- the HTML of a node with this scope
 abbrev pub html_of : Forest → ℕ → TraversalScope → List ℕ
 html_of f n scope = walk_text (new_standing (opts_for scope)) (walk_of f n scope)
 
--- a node with what it holds
+-- the HTML of a node with its content
 abbrev pub outer_html : Forest → ℕ → List ℕ
 outer_html f n = html_of f n IncludeNode
 
--- what it holds alone, as it is written inside of it
+-- the HTML of the content of a node, as it is written inside the node
 abbrev pub inner_html : Forest → ℕ → List ℕ
 inner_html f n = html_of f n (ChildrenOnly (option_and_then name_of_kind (kind_of f n)))

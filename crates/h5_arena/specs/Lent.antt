@@ -1,4 +1,4 @@
--- Children that are lent, one by one.
+-- Borrowed children, one by one.
 use Rattle.std.specs.Borrow.{Bor}
 use Rattle.std.specs.Prelude.{All, List, map}
 use Rattle.h5_interface.specs.Forest as forest

@@ -14,11 +14,11 @@ abbrev pub end_calls : Option QualName → List Call
 end_calls None = []
 end_calls (Some name) = EndOf name ∷ []
 
--- what an open node still makes: the calls of the children that are left, and its end
+-- the calls that are left of an open node: those of its remaining children, and its end
 abbrev pub calls_left : Forest → OpenNode → List Call
 calls_left f node = calls_of_children f (child_views node.rest.now) ++ end_calls (option_copied node.name)
 
--- the same, where a node was opened at all
+-- the calls that are left of a node if it was opened
 abbrev pub calls_opened : Forest → Option OpenNode → List Call
 calls_opened f None = []
 calls_opened f (Some node) = calls_left f node
@@ -29,13 +29,13 @@ AreNodes f [] = Unit {0}
 AreNodes f (ChildNode n ∷ cs) = (n < f.bound) × AreNodes f cs
 AreNodes f (ChildText t ∷ cs) = AreNodes f cs
 
--- where a node was opened, what is left of it are the children that n shows
+-- if a node was opened, its remaining children are all children that n shows
 abbrev pub OpensChildren : Forest → ℕ → Result (Option OpenNode) SerializeFault → Type 0
 OpensChildren f n (Ok None) = Unit {0}
 OpensChildren f n (Ok (Some node)) = child_views node.rest.now ≡ shown_children f n
 OpensChildren f n (Err fault) = Unit {0}
 
--- the same of a child; a text is never opened
+-- if a child was opened, it is a node, with all children that it shows
 abbrev pub OpensChild : Forest → Child → Result (Option OpenNode) SerializeFault → Type 0
 OpensChild f (ChildNode n) result = OpensChildren f n result
 OpensChild f (ChildText t) (Ok None) = Unit {0}

@@ -1,4 +1,4 @@
-//! The names of the attributes of nodes that have many, in order.
+//! Ordered sets of attribute names, for nodes with many attributes.
 ghost use Rattle.std.specs.Prelude.{◌≡◌, ◌==◌, ◌||◌, ◌++◌, ℕ, IfOk, IfSome, List, None, OnOk, OnErr, false};
 ghost use Rattle.std.specs.BTreeSet.{contains};
 ghost use Rattle.h5_names.specs.declared.qualified.QualName.{QualName};
@@ -11,7 +11,7 @@ use h5_names::{Attribute, QualName};
 use std::alloc::{AllocError, Global};
 use std::collections::{BTreeMap, BTreeSet};
 
-// The attributes of a node that has fewer are looked through.
+// With fewer attributes than this, they are searched one by one.
 const MANY: usize = 12;
 
 /// The names of the attributes of some nodes: of those that had many when they were given more.
@@ -20,7 +20,7 @@ pub(crate) struct AttributeNames {
     by_node: BTreeMap<usize, BTreeSet<QualName>>,
 }
 
-// Puts the names of these attributes among others.
+// Adds the names of these attributes to a set.
 fn add_names(names: &mut BTreeSet<QualName>, attrs: &[Attribute]) -> Result<(), AllocError>
     ensures { OnOk result ((q : QualName) → contains name_cmp names.new q ≡ (contains name_cmp names.old q || has_attribute q (attribute_texts attrs.now))) }
 {
@@ -40,7 +40,7 @@ fn names_of(alloc: Global, attrs: &[Attribute]) -> Result<BTreeSet<QualName>, Al
 }
 
 impl AttributeNames {
-    /// Those of no node, which takes no memory.
+    /// Sets for no node. Doesn't allocate.
     pub(crate) fn new(alloc: Global) -> AttributeNames
         ensures { (n : ℕ) → names_at result n ≡ None }
     {
@@ -49,7 +49,7 @@ impl AttributeNames {
         }
     }
 
-    /// Keeps no names of a node any longer.
+    /// Drops the set of a node.
     pub(crate) fn forget(&mut self, node: usize)
         ensures none { names_at self.new node ≡ None }
         ensures others { (n : ℕ) → (n == node) ≡ false → names_at self.new n ≡ names_at self.old n }
@@ -57,7 +57,7 @@ impl AttributeNames {
         let _ = self.by_node.remove(&node);
     }
 
-    // The names of a node's attributes, where they are kept or the attributes are many. They are kept no longer.
+    // Takes the set of a node out, or makes it if the node has many attributes.
     fn take(
         &mut self,
         alloc: Global,
@@ -80,7 +80,7 @@ impl AttributeNames {
         }
     }
 
-    // Keeps these names and those of more attributes as the names of a node.
+    // Stores these names and those of more attributes as the set of a node.
     fn keep(
         &mut self,
         node: usize,
@@ -98,7 +98,7 @@ impl AttributeNames {
         Ok(())
     }
 
-    /// Adds to the attributes of a node those whose names don't stand there yet. An Err leaves the attributes as they were.
+    /// Adds the attributes to a node whose names it doesn't have. If it fails, the attributes are unchanged.
     pub(crate) fn add_missing(
         &mut self,
         alloc: Global,

@@ -1,4 +1,4 @@
-//! Attributes of a node: the value of one, and those that it lacks.
+//! Attributes of a node: their values, and adding missing ones.
 ghost use Rattle.std.specs.Prelude.{◌≡◌, OnOk, OnErr, option_copied, take, vec_len};
 ghost use Rattle.std.specs.Option.{ForSome};
 ghost use Rattle.std.specs.List.{list_any};
@@ -11,7 +11,7 @@ use h5_names::{Attribute, Namespace, QualName};
 use std::alloc::AllocError;
 use std::collections::BTreeSet;
 
-// The value of the first attribute that has this local name and no namespace.
+// The value of the first attribute with this local name and no namespace.
 pub(crate) fn value_of<'a>(attrs: &'a [Attribute], local: &str) -> Option<&'a str>
     ensures { option_copied result ≡ value_of local.now (attribute_texts attrs.now) }
 {
@@ -23,7 +23,7 @@ pub(crate) fn value_of<'a>(attrs: &'a [Attribute], local: &str) -> Option<&'a st
     None
 }
 
-// Whether one of these attributes has this name. Where their names are there in order, the walk is spared.
+// Returns true if one of these attributes has this name. Uses the set of their names, if there is one.
 fn has_name(attrs: &[Attribute], names: Option<&BTreeSet<QualName>>, name: &QualName) -> bool
     requires { ForSome (option_copied names) (λ found. AreNames found (attribute_texts attrs.now)) }
     ensures { result ≡ list_any (λ a. is_same_name a.name name.now) attrs.now }
@@ -34,8 +34,7 @@ fn has_name(attrs: &[Attribute], names: Option<&BTreeSet<QualName>>, name: &Qual
     }
 }
 
-// Adds the attributes whose names don't stand there yet; the names of those that do may be there in order. An Err leaves the
-// attributes as they were.
+// Adds the attributes whose names are missing; `names` may have the names that are present. If it fails, the attributes are unchanged.
 pub(crate) fn add_missing(
     attrs: &mut Vec<Attribute>,
     names: Option<&BTreeSet<QualName>>,

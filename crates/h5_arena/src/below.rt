@@ -1,4 +1,4 @@
-//! What stands below a node. A first child is kept in the node, since most nodes have no other.
+//! The children of a node. A single child is stored in the node, since most nodes have no more than one.
 ghost use Rattle.std.specs.Prelude.{◌≡◌, ◌<◌, ◌++◌, ◌∷◌, [], ℕ, IfOk, OnOk, OnErr, Some, length, slice_get, string_bytes};
 ghost use Rattle.h5_interface.specs.Changes.{insert_before, joined, without};
 ghost use Rattle.h5_interface.specs.Forest.{AreParted, ChildNode, ChildText, count, nodes};
@@ -17,21 +17,21 @@ pub(crate) enum Below {
 }
 
 impl Below {
-    /// None, which takes no memory.
+    /// No children. Doesn't allocate.
     pub(crate) fn none(alloc: Global) -> Below
         ensures { children_in result ≡ [] }
     {
         Below::List(Vec::new(alloc))
     }
 
-    /// How many there are.
+    /// The number of children.
     pub(crate) fn len(&self) -> usize
         ensures { result ≡ length (children_in self.now) }
     {
         self.as_slice().len()
     }
 
-    /// The children, lent.
+    /// The children, borrowed.
     pub(crate) fn as_slice(&self) -> &[Child]
         ensures value { result.now ≡ children_in self.now }
     {
@@ -42,8 +42,7 @@ impl Below {
     }
 }
 
-// A list of a child alone, with room for two more: most nodes that have a few children have two, three or five, texts of blanks
-// among them.
+// A list with a single child, and memory for two more: most nodes with few children have two, three or five, counting texts of whitespace.
 fn list_of(alloc: Global, children: &mut Below) -> Result<Vec<Child>, AllocError>
     ensures ok { OnOk result (children_in children.new ≡ []) }
     ensures list { IfOk result (λ list. list.items ≡ children_in children.old) }
@@ -59,7 +58,7 @@ fn list_of(alloc: Global, children: &mut Below) -> Result<Vec<Child>, AllocError
     }
 }
 
-// Keeps the children in a list from now on.
+// Stores the children in a list from now on.
 fn make_list(alloc: Global, children: &mut Below) -> Result<(), AllocError>
     ensures same { children_in children.new ≡ children_in children.old }
     ensures list { OnOk result (IsList children.new) }
@@ -74,7 +73,7 @@ fn make_list(alloc: Global, children: &mut Below) -> Result<(), AllocError>
     }
 }
 
-// One more child, the last.
+// Adds a last child.
 #[inline(always)]
 pub(crate) fn add_child(alloc: Global, children: &mut Below, child: Child) -> Result<(), AllocError>
     ensures ok { OnOk result (children_in children.new ≡ children_in children.old ++ child ∷ []) }
@@ -94,7 +93,7 @@ pub(crate) fn add_child(alloc: Global, children: &mut Below, child: Child) -> Re
     }
 }
 
-// A text as the last child.
+// Adds a text as the last child.
 pub(crate) fn push_text(alloc: Global, children: &mut Below, text: String) -> Result<(), AllocError>
     requires { AreParted (child_views (children_in children.old)) }
     ensures ok { OnOk result
@@ -114,7 +113,7 @@ pub(crate) fn push_text(alloc: Global, children: &mut Below, text: String) -> Re
     }
 }
 
-// A node before the node at this place.
+// Inserts a node before the node at this index.
 pub(crate) fn insert_node(
     alloc: Global,
     children: &mut Below,
@@ -134,7 +133,7 @@ pub(crate) fn insert_node(
     }
 }
 
-// A text before the node at this place.
+// Inserts a text before the node at this index.
 pub(crate) fn insert_text(
     alloc: Global,
     children: &mut Below,
@@ -154,7 +153,7 @@ pub(crate) fn insert_text(
     }
 }
 
-// Takes a node from among children. An only child is let go without a list.
+// Removes a node from children. Removing an only child needs no list.
 #[tactic(auto, using(crate::proofs::MoveLaws::only_removed))]
 pub(crate) fn remove_node(alloc: Global, children: &mut Below, id: NodeId) -> Result<(), AllocError>
     requires once { count id.index (nodes (child_views (children_in children.old))) ≡ 1 }
@@ -171,7 +170,7 @@ pub(crate) fn remove_node(alloc: Global, children: &mut Below, id: NodeId) -> Re
     }
 }
 
-// Moves children to the end of others, all of them in lists.
+// Moves children to the end of others; both are lists.
 fn append_list(list: &mut Vec<Child>, moved: &mut Below) -> Result<(), AllocError>
     requires list { IsList moved.old }
     requires parted { AreParted (child_views list.old.items) }

@@ -1,4 +1,4 @@
-//! Edits of the children of one node, each of which joins the texts that come to be neighbours.
+//! Edits of the children of one node. Each joins texts that become neighbours.
 ghost use Rattle.std.specs.Prelude.{◌≡◌, ◌<◌, ◌+◌, ◌++◌, ◌∷◌, [], ℕ, List, length, true, OnOk, OnErr, Some, slice_get, slice_set, string_bytes, vec_capacity, vec_len};
 ghost use Rattle.std.specs.List.{remove};
 ghost use Rattle.h5_interface.specs.Changes.{insert_before, joined, without};
@@ -10,7 +10,7 @@ use super::nodes::{Child, NodeId};
 use std::alloc::AllocError;
 use std::mem;
 
-// Whether a child is this node.
+// Returns true if a child is this node.
 pub(crate) fn is_node(child: &Child, index: usize) -> bool
     ensures { result ≡ is_child_node index (child_view child.now) }
 {
@@ -29,8 +29,7 @@ fn is_text(child: &Child) -> bool
     }
 }
 
-// Where a node stands among children. It is looked for from the last on, since what is put before a sibling is mostly
-// put near the end.
+// The index of a node among children. The search begins at the end, since most insertions before a sibling are near the end.
 pub(crate) fn place_of(children: &[Child], index: usize) -> usize
     requires { 0 < count index (nodes (child_views children.now)) }
     ensures bound { result < length children.now }
@@ -47,7 +46,7 @@ pub(crate) fn place_of(children: &[Child], index: usize) -> usize
     unreachable!()
 }
 
-// A text at the end of the text at this place. No child moves, and the vector keeps its room.
+// Appends to the text at this index. No child moves, and the capacity of the vector is unchanged.
 fn push_to_text(children: &mut Vec<Child>, at: usize, text: &str) -> Result<(), AllocError>
     requires within { at < vec_len children.old }
     requires text { (t : List ℕ) × (slice_get (child_views children.old.items) at ≡ Some (ChildText t)) }
@@ -66,7 +65,7 @@ fn push_to_text(children: &mut Vec<Child>, at: usize, text: &str) -> Result<(), 
     }
 }
 
-// A text as the last child.
+// Adds a text as the last child.
 pub(crate) fn push_text(children: &mut Vec<Child>, text: String) -> Result<(), AllocError>
     requires { AreParted (child_views children.old.items) }
     ensures ok { OnOk result
@@ -86,7 +85,7 @@ pub(crate) fn push_text(children: &mut Vec<Child>, text: String) -> Result<(), A
     Ok(())
 }
 
-// A node before the node at this place.
+// Inserts a node before the node at this index.
 pub(crate) fn insert_node(
     children: &mut Vec<Child>,
     at: usize,
@@ -102,7 +101,7 @@ pub(crate) fn insert_node(
     Ok(())
 }
 
-// A text before the node at this place.
+// Inserts a text before the node at this index.
 pub(crate) fn insert_text(
     children: &mut Vec<Child>,
     at: usize,
@@ -126,7 +125,7 @@ pub(crate) fn insert_text(
     Ok(())
 }
 
-// Whether texts stand on both sides of a place.
+// Returns true if the children before and after an index are texts.
 fn has_texts_around(children: &[Child], at: usize) -> bool
     requires { at < length children.now }
     ensures { result ≡ texts_around (child_views children.now) at }
@@ -142,7 +141,7 @@ fn has_texts_around(children: &[Child], at: usize) -> bool
     before && after
 }
 
-// Takes the node from between two texts, which are joined.
+// Removes the node between two texts, and joins these.
 fn remove_between(children: &mut Vec<Child>, at: usize, id: NodeId) -> Result<(), AllocError>
     requires within { at < vec_len children.old }
     requires node { slice_get (child_views children.old.items) at ≡ Some (ChildNode id.index) }
@@ -151,7 +150,7 @@ fn remove_between(children: &mut Vec<Child>, at: usize, id: NodeId) -> Result<()
     ensures ok { OnOk result (child_views children.new.items ≡ joined (remove (child_views children.old.items) at)) }
     ensures err { OnErr result (child_views children.new.items ≡ child_views children.old.items) }
 {
-    // The text behind the node is taken out, and the node stands in its place, until it is joined.
+    // The text after the node is taken out, and the node is put in its place, until the text is joined.
     let Child::Text(after) = mem::replace(&mut children[at + 1], Child::Node(id)) else {
         unreachable!();
     };
@@ -164,7 +163,7 @@ fn remove_between(children: &mut Vec<Child>, at: usize, id: NodeId) -> Result<()
     Ok(())
 }
 
-// Takes a node from among children.
+// Removes a node from children.
 pub(crate) fn remove_node(children: &mut Vec<Child>, id: NodeId) -> Result<(), AllocError>
     requires once { count id.index (nodes (child_views children.old.items)) ≡ 1 }
     requires parted { AreParted (child_views children.old.items) }
@@ -180,7 +179,7 @@ pub(crate) fn remove_node(children: &mut Vec<Child>, id: NodeId) -> Result<(), A
     Ok(())
 }
 
-// Whether a text at the end of these children meets one at the front of those.
+// Returns true if the last child and the first moved child are texts.
 fn have_meeting_texts(children: &[Child], moved: &[Child]) -> bool
     ensures { result ≡ texts_meet (child_views children.now) (child_views moved.now) }
 {
@@ -204,7 +203,7 @@ fn append_meeting(children: &mut Vec<Child>, moved: &mut Vec<Child>) -> Result<(
     ensures err { OnErr result (child_views children.new.items ≡ child_views children.old.items) }
     ensures stay { OnErr result (moved.new.items ≡ moved.old.items) }
 {
-    // After this there is room for all that is moved, so that only the text can be refused.
+    // This reserves memory for everything that is moved, so that after it only the allocation for the text can fail.
     children.reserve(moved.len())?;
     let last = children.len() - 1;
     match &moved[0] {

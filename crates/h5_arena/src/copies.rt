@@ -1,4 +1,4 @@
-//! A copy of a node with all that stands below it: a list of new nodes, which is made beside those that are there.
+//! Copies a node with its subtree: the copies are a list of new nodes, made before any of them is added to the arena.
 ghost use Rattle.std.specs.Prelude.{◌≡◌, ◌<◌, ◌+◌, ◌-◌, ◌^◌, ◌++◌, ◌∷◌, [], IfOk, None, OnOk, Option, Some, length, map, vec_len};
 ghost use Rattle.std.specs.Option.{option_map, option_to_list};
 ghost use Rattle.h5_names.specs.AttributeText.{attribute_texts};
@@ -12,7 +12,7 @@ use super::nodes::{Child, NodeData, NodeId};
 use h5_names::Attribute;
 use std::alloc::{AllocError, Global};
 
-// A node that is to be copied, and the copy that its own copy stands below.
+// A node to copy, and the copy that will be the parent of its copy.
 #[derive(Clone, Copy)]
 struct Source {
     id: NodeId,
@@ -29,8 +29,7 @@ fn copy_attributes(alloc: Global, attrs: &[Attribute]) -> Result<Vec<Attribute>,
     Ok(copy)
 }
 
-// A copy of a child. A node is put behind the sources, and its copy has the number that it will have behind the nodes, of which
-// there are so many.
+// A copy of a child. A node is appended to the sources; its copy gets its future number, which is after the `count` nodes of the arena.
 fn copy_child(
     child: &Child,
     parent: Link,
@@ -73,7 +72,7 @@ fn copy_children(
     Ok(copies)
 }
 
-// A copy of the contents of a template, if there are any: they are put behind the sources.
+// A copy of the contents of a template, if there are any: they are appended to the sources.
 fn copy_contents(
     contents: Link,
     parent: Link,
@@ -95,7 +94,7 @@ fn copy_contents(
     }
 }
 
-// A copy of a node, which is to stand below this parent, at this place. What is right below the node is put behind the sources.
+// A copy of a node, with this parent and this future number. The nodes directly below the node are appended to the sources.
 fn copy_node(
     alloc: Global,
     node: &NodeData,
@@ -125,7 +124,7 @@ fn copy_node(
     })
 }
 
-// Copies of a node and of all that stands below it, level by level, as they are to lie behind the nodes. The node's own comes first.
+// Copies of a node and of its subtree, level by level, with their future numbers after the nodes. The copy of the node itself comes first.
 pub(crate) fn copies(
     alloc: Global,
     nodes: &[NodeData],

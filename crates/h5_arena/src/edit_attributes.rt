@@ -1,4 +1,4 @@
-//! Attributes that are set and taken away. An Err leaves all nodes as they were.
+//! Sets and removes attributes. If a call fails, all nodes are unchanged.
 ghost use Rattle.std.specs.Prelude.{◌≡◌, ◌<◌, ◌∷◌, [], IfOk, OnErr, OnOk, is_some, position, string_bytes, vec_len};
 ghost use Rattle.std.specs.List.{list_any};
 ghost use Rattle.h5_names.specs.AttributeText.{attribute_text, attribute_texts};
@@ -10,7 +10,7 @@ use super::nodes::{NodeData, NodeId};
 use h5_names::{Attribute, LocalName, Namespace, QualName};
 use std::alloc::{AllocError, Global};
 
-// Whether an attribute has this local name and no namespace.
+// Returns true if an attribute has this local name and no namespace.
 fn is_named(attribute: &Attribute, name: &str) -> bool
     ensures { result ≡ is_named name.now (attribute_text attribute.now) }
 {
@@ -28,21 +28,21 @@ fn new_attribute(alloc: Global, name: &str, value: String) -> Result<Attribute, 
     })
 }
 
-// Where the first attribute of this name stands.
+// The index of the first attribute with this name.
 fn place_of_named(attrs: &[Attribute], name: &str) -> Option<usize>
     ensures { result ≡ position (λ a. is_named name.now (attribute_text a)) attrs.now }
 {
     attrs.iter().position(|attribute| is_named(attribute, name))
 }
 
-// Whether there is an attribute of this name.
+// Returns true if there is an attribute with this name.
 fn has_named(attrs: &[Attribute], name: &str) -> bool
     ensures { result ≡ list_any (λ a. is_named name.now (attribute_text a)) attrs.now }
 {
     attrs.iter().any(|attribute| is_named(attribute, name))
 }
 
-// The first attribute of this name gets the value. Where there is none, one more stands at the end.
+// Sets the value of the first attribute with this name. If there is none, adds one at the end.
 fn set_value(
     alloc: Global,
     attrs: &mut Vec<Attribute>,
@@ -66,7 +66,7 @@ fn set_value(
     }
 }
 
-// Takes away the attributes of this name, and tells whether there was one.
+// Removes the attributes with this name, and returns true if there was one.
 fn remove_named(attrs: &mut Vec<Attribute>, name: &str) -> bool
     ensures changed { attribute_texts attrs.new.items ≡ without_named name.now (attribute_texts attrs.old.items) }
     ensures had { result ≡ list_any (is_named name.now) (attribute_texts attrs.old.items) }
@@ -76,7 +76,7 @@ fn remove_named(attrs: &mut Vec<Attribute>, name: &str) -> bool
     had
 }
 
-// The first attribute of this name of a node gets the value. Where there is none, one more stands at the end.
+// Sets the value of a node's first attribute with this name. If there is none, adds one at the end.
 pub(crate) fn set_attr(
     nodes: &mut Vec<NodeData>,
     id: NodeId,
@@ -93,7 +93,7 @@ pub(crate) fn set_attr(
     Ok(())
 }
 
-// Takes the attributes of this name from a node, and tells whether there was one.
+// Removes the attributes with this name from a node, and returns true if there was one.
 pub(crate) fn remove_attr(nodes: &mut Vec<NodeData>, id: NodeId, name: &str) -> bool
     requires { id.index < vec_len nodes.old }
     ensures changed { forest_in nodes.new.items ≡ edit_attrs id.index (without_named name.now) (forest_in nodes.old.items) }

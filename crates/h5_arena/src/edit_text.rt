@@ -1,4 +1,4 @@
-//! A text in the stead of the children of a node. An Err leaves all nodes as they were.
+//! Replaces the children of a node with a text. If a call fails, all nodes are unchanged.
 ghost use Rattle.std.specs.Prelude.{◌≡◌, ◌<◌, ℕ, IfOk, None, OnErr, OnOk, vec_len};
 ghost use Rattle.h5_interface.specs.Changes.{has_child, set_parents};
 ghost use Rattle.h5_interface.specs.Forest.{ChildNode, IsForest, count, nodes as nodes_among};
@@ -12,7 +12,7 @@ use super::nodes::{Child, NodeData, NodeId};
 use std::alloc::{AllocError, Global};
 use std::mem;
 
-// This text as the only child, or none where it is empty.
+// This text as the only child, or no child if it is empty.
 fn only_text(alloc: Global, text: &str) -> Result<Below, AllocError>
     ensures { IfOk result (λ below. child_views (children_in below) ≡ text_alone text.now) }
 {
@@ -23,7 +23,7 @@ fn only_text(alloc: Global, text: &str) -> Result<Below, AllocError>
     Ok(Below::One(Child::Text(text)))
 }
 
-// A child that is a node has no parent any longer.
+// Removes the parent of a child that is a node.
 fn let_go(nodes: &mut Vec<NodeData>, child: &Child)
     requires { (n : ℕ) → child_view child.now ≡ ChildNode n → n < vec_len nodes.old }
     ensures { forest_in nodes.new.items ≡ set_parents (λ n. is_this n (child_view child.now)) None (forest_in nodes.old.items) }
@@ -34,7 +34,7 @@ fn let_go(nodes: &mut Vec<NodeData>, child: &Child)
     }
 }
 
-// Children that are nodes have no parent any longer.
+// Removes the parents of children that are nodes.
 fn let_all_go(nodes: &mut Vec<NodeData>, children: &[Child])
     requires { (n : ℕ) → 0 < count n (nodes_among (child_views children.now)) → n < vec_len nodes.old }
     ensures { forest_in nodes.new.items ≡ set_parents (has_child (child_views children.now)) None (forest_in nodes.old.items) }
@@ -44,7 +44,7 @@ fn let_all_go(nodes: &mut Vec<NodeData>, children: &[Child])
     }
 }
 
-// A text in the stead of the children of a node.
+// Replaces the children of a node with a text.
 pub(crate) fn set_text(nodes: &mut Vec<NodeData>, id: NodeId, text: &str) -> Result<(), AllocError>
     requires held { id.index < vec_len nodes.old }
     requires forest { IsForest (forest_in nodes.old.items) }

@@ -1,4 +1,4 @@
-//! Calls for those who edit a tree.
+//! The calls that edit a tree.
 ghost use Rattle.std.specs.Prelude.{◌≡◌, ◌≢◌, ◌≤◌, ℕ, IfErr, IfOk, List, None, OnErr, OnOk, Some, is_some, length};
 ghost use Rattle.h5_interface.specs.Forest.{DocumentNode, IsElement, IsNode, attrs_of, children_of, kind_of, parent_of};
 ghost use Rattle.h5_interface.specs.Seen.{CanAppend, CanInsertBefore, after_append, after_append_before, changed, child_of};
@@ -6,9 +6,9 @@ ghost use Rattle.h5_arena.specs.ArenaModel.{IsHeld, IsNoChild, KeepsErrors, fore
 ghost use Rattle.h5_arena.specs.Copy.{IsCopyOf, KeepsFromCopy};
 ghost use Rattle.h5_arena.specs.Edits.{KeepsFromAppend, KeepsFromInsert, edit_attrs, take_out, text_alone, with_text, with_value, without_named};
 ghost use Rattle.h5_arena.specs.Html.{outer_html};
-ghost use Rattle.h5_arena.specs.declared.fault.TreeFault.TheVariants.{Memory};
+ghost use Rattle.h5_arena.specs.declared.fault.EditError.TheVariants.{Memory};
 
-use super::fault::TreeFault;
+use super::fault::EditError;
 use super::nodes::{Kind, NodeId};
 use super::tree::Arena;
 use super::{copies, edit_attributes, edit_text, links, standing};
@@ -16,9 +16,8 @@ use h5_interface::{NodeOrText, TreeSink};
 use std::alloc::AllocError;
 
 impl Arena {
-    /// Gives an element's attribute a value: the first that has this local name and no namespace, and where there is none, one
-    /// more at the end. All else stays as it was, the nodes and the other attributes too. An Err, for memory, leaves the arena as
-    /// it was.
+    /// Sets an attribute of an element: the first one with this local name and no namespace. If there is none, adds one at the end. Changes
+    /// nothing else. Fails with `AllocError` if an allocation fails; then the arena is unchanged. `id` must be an element.
     pub fn set_attr(&mut self, id: NodeId, name: &str, value: &str) -> Result<(), AllocError>
         requires { IsElement (forest_seen self.old) id.index }
         ensures ok { OnOk result
@@ -36,8 +35,8 @@ impl Arena {
         Ok(())
     }
 
-    /// Takes all attributes that have this local name and no namespace from a node, and tells whether there was one. All else stays
-    /// as it was. It takes no memory.
+    /// Removes all attributes with this local name and no namespace from a node, and returns true if there was one. Changes nothing else.
+    /// Doesn't allocate. `id` must be a node of this arena.
     pub fn remove_attr(&mut self, id: NodeId, name: &str) -> bool
         requires { IsHeld self.old id }
         ensures changed { seen_of self.new ≡ changed (edit_attrs id.index (without_named name.now)) (seen_of self.old) }
@@ -53,9 +52,9 @@ impl Arena {
         edit_attributes::remove_attr(&mut self.nodes, id, name)
     }
 
-    /// Takes a node from the node whose child it is, with all that stands below it, so that it can be put elsewhere. Texts that
-    /// come to be neighbours are joined. Nothing changes where it is nobody's child: the document, a node without a parent, and
-    /// the contents of a template, which stay with it. An Err, for memory, leaves the arena as it was.
+    /// Removes a node from its parent, with its subtree, so that it can be inserted elsewhere. Texts that become neighbours are joined.
+    /// Changes nothing if the node is not a child: for the document, a node without a parent, and the contents of a template, which stay
+    /// with the template. Fails with `AllocError` if an allocation fails; then the arena is unchanged. `id` must be a node of this arena.
     pub fn detach(&mut self, id: NodeId) -> Result<(), AllocError>
         requires { IsHeld self.old id }
         ensures ok { OnOk result (seen_of self.new ≡ changed (take_out id.index) (seen_of self.old)) }
@@ -74,8 +73,9 @@ impl Arena {
         }
     }
 
-    /// Puts a text in the stead of the children of a node, or nothing where it is empty. The children stay in the arena, without a
-    /// parent. The contents of a template are none of its children. An Err, for memory, leaves the arena as it was.
+    /// Replaces the children of a node with a text, or with nothing if the text is empty. The children stay in the arena, without a parent.
+    /// The contents of a template aren't among its children. Fails with `AllocError` if an allocation fails; then the arena is unchanged.
+    /// `id` must be a node of this arena.
     pub fn set_text(&mut self, id: NodeId, text: &str) -> Result<(), AllocError>
         requires { IsHeld self.old id }
         ensures ok { OnOk result (seen_of self.new ≡ changed (with_text id.index text.now) (seen_of self.old)) }
@@ -89,12 +89,12 @@ impl Arena {
         Ok(())
     }
 
-    /// Copies a node with all that stands below it, the contents of templates too (DOM standard, section 4.4, "clone a node", with its
-    /// subtree). The copy has no parent, and what was there stays as it was. A copy is what its original is: of the same kind and name,
-    /// with the same attributes and flags, and a script has started where its original has; it has no form owner. It costs what is
-    /// copied, however deep that is. The fault is `IsDocument` for the document, and `Memory` where memory is refused; the arena is
-    /// then as it was.
-    pub fn copy(&mut self, id: NodeId) -> Result<NodeId, TreeFault>
+    /// Copies a node with its subtree, including the contents of templates (DOM standard, section 4.4, "clone a node", with its subtree),
+    /// and returns the copy, which has no parent. Existing nodes are unchanged. A copy has the kind, name, attributes and flags of its
+    /// original, and is a started script if the original is one; it has no form owner. The cost is that of what is copied, regardless of
+    /// its depth. Fails with `IsDocument` for the document, and with `Memory` if an allocation fails; then the arena is unchanged. `id`
+    /// must be a node of this arena.
+    pub fn copy(&mut self, id: NodeId) -> Result<NodeId, EditError>
         requires { IsHeld self.old id }
         ensures new { IfOk result (λ copy. copy.index ≡ length self.old.nodes) }
         ensures held { IfOk result (λ copy. IsHeld self.new copy) }
@@ -111,7 +111,7 @@ impl Arena {
         ensures elements { (n : ℕ) → IsElement (forest_seen self.old) n → IsElement (forest_seen self.new) n }
     {
         if matches!(self.kind(id), Kind::Document) {
-            return Err(TreeFault::IsDocument);
+            return Err(EditError::IsDocument);
         }
         let index = self.nodes.len();
         let mut copies = copies::copies(self.alloc, self.nodes.as_slice(), id)?;
@@ -119,9 +119,9 @@ impl Arena {
         Ok(NodeId { index })
     }
 
-    /// Makes a child the last child of a node, as `append` does, or tells why it can't stand there; a text is joined to a text
-    /// before it. Whether the child stands above the node is found on the way up from the node. An Err leaves the arena as it was.
-    pub fn try_append(&mut self, parent: NodeId, child: NodeOrText<NodeId>) -> Result<(), TreeFault>
+    /// Appends a child to a node, as `append` does; a text is joined with a text before it. Fails with the reason if the child isn't
+    /// allowed there, and with `Memory` if an allocation fails; then the arena is unchanged. A cycle is found by walking up from the node.
+    pub fn try_append(&mut self, parent: NodeId, child: NodeOrText<NodeId>) -> Result<(), EditError>
         ensures ok { OnOk result (seen_of self.new ≡ after_append parent.index (child_of place child) (seen_of self.old)) }
         ensures may { OnOk result (CanAppend (forest_seen self.old) parent.index (child_of place child)) }
         ensures told { IfErr result (λ fault. KeepsFromAppend (forest_seen self.old) parent.index (child_of place child) fault) }
@@ -136,13 +136,13 @@ impl Arena {
         Ok(())
     }
 
-    /// Puts a child before a sibling, as `append_before_sibling` does, or tells why it can't stand there; a text is joined to a text
-    /// before it. An Err leaves the arena as it was.
+    /// Inserts a child before a sibling, as `append_before_sibling` does; a text is joined with a text before it. Fails with the reason if
+    /// the child isn't allowed there, and with `Memory` if an allocation fails; then the arena is unchanged.
     pub fn try_insert_before(
         &mut self,
         sibling: NodeId,
         child: NodeOrText<NodeId>,
-    ) -> Result<(), TreeFault>
+    ) -> Result<(), EditError>
         ensures ok { OnOk result
             (seen_of self.new ≡ after_append_before sibling.index (child_of place child) (seen_of self.old)) }
         ensures may { OnOk result (CanInsertBefore (forest_seen self.old) sibling.index (child_of place child)) }

@@ -11,7 +11,7 @@ use h5_names::QualName;
 use h5_serialize::{SerializeFault, SerializeOpts, TraversalScope, serialize};
 use std::alloc::AllocError;
 
-// What is written of a node, as bytes.
+// The HTML of a node, as bytes.
 fn html_bytes(
     arena: &Arena,
     id: NodeId,
@@ -29,7 +29,7 @@ fn html_bytes(
     Ok(html)
 }
 
-// What is written of a node, as a text. Into a vector nothing but want of memory stops it, and what is written of texts is one.
+// The HTML of a node, as a text. Writing to a vector fails only if an allocation fails, and the HTML of texts is valid UTF-8.
 fn html_text(
     arena: &Arena,
     id: NodeId,
@@ -47,7 +47,7 @@ fn html_text(
     }
 }
 
-// A copy of the name of an element, or nothing of any other node.
+// A copy of the name of an element; `None` for any other node.
 fn name_copy(arena: &Arena, id: NodeId) -> Result<Option<QualName>, AllocError>
     requires { IsHeld arena.now id }
     ensures { IfOk result (λ name. name ≡ option_and_then name_of_kind (kind_of (forest_seen arena.now) id.index)) }
@@ -62,8 +62,9 @@ fn name_copy(arena: &Arena, id: NodeId) -> Result<Option<QualName>, AllocError>
 }
 
 impl Arena {
-    /// A node as HTML, with what it holds; of a document or a fragment what it holds (HTML standard, section 13.3). Of a template
-    /// the contents are written. An `AllocError` where memory is refused.
+    /// Returns the HTML of a node with its content; for a document or a fragment, of the content only; for a template, its contents are
+    /// written as its content (HTML standard, section 13.3). Fails with `AllocError` if an allocation fails. `id` must be a node of this
+    /// arena.
     pub fn outer_html(&self, id: NodeId) -> Result<String, AllocError>
         requires { IsHeld self.now id }
         ensures { IfOk result (λ html. string_bytes html ≡ outer_html (forest_seen self.now) id.index) }
@@ -71,8 +72,8 @@ impl Arena {
         html_text(self, id, TraversalScope::IncludeNode)
     }
 
-    /// What a node holds, as HTML: texts right inside of a `style` and its like as they stand, all others with their escapes. Of a
-    /// template it is what its contents hold. An `AllocError` where memory is refused.
+    /// Returns the HTML of the content of a node: texts directly inside elements such as `style` are unescaped, all others escaped. For a
+    /// template, it is the content of its contents. Fails with `AllocError` if an allocation fails. `id` must be a node of this arena.
     pub fn inner_html(&self, id: NodeId) -> Result<String, AllocError>
         requires { IsHeld self.now id }
         ensures { IfOk result (λ html. string_bytes html ≡ inner_html (forest_seen self.now) id.index) }

@@ -1,9 +1,9 @@
-//! What stands above, beside and below a node (DOM standard, section 1.1, "Trees").
+//! Ancestors, siblings and descendants of a node (DOM standard, section 1.1, "Trees").
 ghost use Rattle.std.specs.Prelude.{◌≡◌, All, IfOk, IfSome, Some, map, string_bytes};
 ghost use Rattle.std.specs.Option.{option_map};
 ghost use Rattle.h5_interface.specs.Forest.{nodes};
 ghost use Rattle.h5_arena.specs.ArenaModel.{ArenaView, IsChildHeld, IsHeld, at_node, child_view, child_views, forest_seen, place};
-ghost use Rattle.h5_arena.specs.Kin.{all_below, ancestors, children_around, children_before, children_behind, descendants, first_of, last_of, texts_among};
+ghost use Rattle.h5_arena.specs.Kin.{descendants_with_text, ancestors, siblings_with_self, children_before, children_behind, descendants, first_of, last_of, texts_among};
 ghost use Rattle.h5_arena.specs.Lent.{AreHeldLent, lent_views};
 
 use super::children::is_node;
@@ -11,7 +11,7 @@ use super::nodes::{Child, NodeId};
 use super::tree::Arena;
 use std::alloc::{AllocError, Global};
 
-// The children behind a node among these, and those before it. It is looked for from the first on.
+// The children after a node, and those before it. The search begins at the first.
 fn behind(children: &[Child], id: NodeId) -> &[Child]
     ensures children { child_views result.now ≡ children_behind id.index (child_views children.now) }
     ensures held { (a : ArenaView) → All (IsChildHeld a) children.now → All (IsChildHeld a) result.now }
@@ -65,10 +65,10 @@ fn texts_among(alloc: Global, children: &[&Child]) -> Result<String, AllocError>
 }
 
 impl Arena {
-    /// The children of a node's parent, and so the node itself and its siblings; none where it is nobody's child.
-    pub fn children_around(&self, id: NodeId) -> &[Child]
+    /// The children of a node's parent: the node itself and its siblings; none if the node is not a child.
+    pub fn siblings_with_self(&self, id: NodeId) -> &[Child]
         requires { IsHeld self.now id }
-        ensures children { child_views result.now ≡ children_around (forest_seen self.now) id.index }
+        ensures children { child_views result.now ≡ siblings_with_self (forest_seen self.now) id.index }
         ensures held { All (IsChildHeld self.now) result.now }
     {
         match self.parent(id) {
@@ -77,25 +77,25 @@ impl Arena {
         }
     }
 
-    /// The siblings before a node, in order. It is looked for among the children of its parent.
+    /// The siblings before a node, in order. Searches the children of the parent for the node.
     pub fn siblings_before(&self, id: NodeId) -> &[Child]
         requires { IsHeld self.now id }
-        ensures children { child_views result.now ≡ children_before id.index (children_around (forest_seen self.now) id.index) }
+        ensures children { child_views result.now ≡ children_before id.index (siblings_with_self (forest_seen self.now) id.index) }
         ensures held { All (IsChildHeld self.now) result.now }
     {
-        before(self.children_around(id), id)
+        before(self.siblings_with_self(id), id)
     }
 
-    /// The siblings behind a node, in order. It is looked for among the children of its parent.
-    pub fn siblings_behind(&self, id: NodeId) -> &[Child]
+    /// The siblings after a node, in order. Searches the children of the parent for the node.
+    pub fn siblings_after(&self, id: NodeId) -> &[Child]
         requires { IsHeld self.now id }
-        ensures children { child_views result.now ≡ children_behind id.index (children_around (forest_seen self.now) id.index) }
+        ensures children { child_views result.now ≡ children_behind id.index (siblings_with_self (forest_seen self.now) id.index) }
         ensures held { All (IsChildHeld self.now) result.now }
     {
-        behind(self.children_around(id), id)
+        behind(self.siblings_with_self(id), id)
     }
 
-    /// The first child of a node, a node or a text, or nothing where it has none.
+    /// The first child of a node, a node or a text, if there is one.
     pub fn first_child(&self, id: NodeId) -> Option<&Child>
         requires { IsHeld self.now id }
         ensures child { at_node (λ d. first_of d.children) self.now id ≡ Some (option_map (λ c. child_view c.now) result) }
@@ -104,7 +104,7 @@ impl Arena {
         self.children(id).first()
     }
 
-    /// The last child of a node, or nothing where it has none.
+    /// The last child of a node, a node or a text, if there is one.
     pub fn last_child(&self, id: NodeId) -> Option<&Child>
         requires { IsHeld self.now id }
         ensures child { at_node (λ d. last_of d.children) self.now id ≡ Some (option_map (λ c. child_view c.now) result) }
@@ -113,25 +113,25 @@ impl Arena {
         self.children(id).last()
     }
 
-    /// The sibling right before a node, a node or a text, or nothing where there is none.
+    /// The previous sibling of a node, a node or a text, if there is one.
     pub fn previous_sibling(&self, id: NodeId) -> Option<&Child>
         requires { IsHeld self.now id }
-        ensures sibling { option_map (λ c. child_view c.now) result ≡ last_of (children_before id.index (children_around (forest_seen self.now) id.index)) }
+        ensures sibling { option_map (λ c. child_view c.now) result ≡ last_of (children_before id.index (siblings_with_self (forest_seen self.now) id.index)) }
         ensures held { IfSome result (λ c. IsChildHeld self.now c.now) }
     {
         self.siblings_before(id).last()
     }
 
-    /// The sibling right behind a node, a node or a text, or nothing where there is none.
+    /// The next sibling of a node, a node or a text, if there is one.
     pub fn next_sibling(&self, id: NodeId) -> Option<&Child>
         requires { IsHeld self.now id }
-        ensures sibling { option_map (λ c. child_view c.now) result ≡ first_of (children_behind id.index (children_around (forest_seen self.now) id.index)) }
+        ensures sibling { option_map (λ c. child_view c.now) result ≡ first_of (children_behind id.index (siblings_with_self (forest_seen self.now) id.index)) }
         ensures held { IfSome result (λ c. IsChildHeld self.now c.now) }
     {
-        self.siblings_behind(id).first()
+        self.siblings_after(id).first()
     }
 
-    /// The ancestors of a node, the nearest first: its parent, and so on. An `AllocError` where memory is refused.
+    /// Returns the ancestors of a node, the nearest first. Fails with `AllocError` if an allocation fails.
     pub fn ancestors(&self, id: NodeId) -> Result<Vec<NodeId>, AllocError>
         requires { IsHeld self.now id }
         ensures found { IfOk result (λ found. map place found.items ≡ ancestors (forest_seen self.now) id.index) }
@@ -149,10 +149,10 @@ impl Arena {
         Ok(found)
     }
 
-    /// All that stands below a node, nodes and texts, in tree order. An `AllocError` where memory is refused.
-    pub fn all_below(&self, id: NodeId) -> Result<Vec<&Child>, AllocError>
+    /// Returns everything below a node, nodes and texts, in tree order. Fails with `AllocError` if an allocation fails.
+    pub fn descendants_with_text(&self, id: NodeId) -> Result<Vec<&Child>, AllocError>
         requires { IsHeld self.now id }
-        ensures found { IfOk result (λ found. lent_views found.items ≡ all_below (forest_seen self.now) id.index) }
+        ensures found { IfOk result (λ found. lent_views found.items ≡ descendants_with_text (forest_seen self.now) id.index) }
         ensures held { IfOk result (λ found. AreHeldLent self.now found.items) }
     {
         let mut found = Vec::new(self.alloc);
@@ -178,23 +178,23 @@ impl Arena {
         }
     }
 
-    /// The nodes below a node, in tree order: its children, theirs, and so on. An `AllocError` where memory is refused.
+    /// Returns the nodes below a node, in tree order. Fails with `AllocError` if an allocation fails.
     pub fn descendants(&self, id: NodeId) -> Result<Vec<NodeId>, AllocError>
         requires { IsHeld self.now id }
         ensures found { IfOk result (λ found. map place found.items ≡ descendants (forest_seen self.now) id.index) }
         ensures held { IfOk result (λ found. All (IsHeld self.now) found.items) }
     {
-        let below = self.all_below(id)?;
+        let below = self.descendants_with_text(id)?;
         nodes_among(self, below.as_slice())
     }
 
-    /// The texts below a node, joined in tree order (DOM standard, section 4.4, "descendant text content"). An `AllocError` where
-    /// memory is refused.
+    /// Returns the texts below a node, joined in tree order (DOM standard, section 4.4, "descendant text content"). Fails with `AllocError`
+    /// if an allocation fails.
     pub fn text(&self, id: NodeId) -> Result<String, AllocError>
         requires { IsHeld self.now id }
-        ensures { IfOk result (λ text. string_bytes text ≡ texts_among (all_below (forest_seen self.now) id.index)) }
+        ensures { IfOk result (λ text. string_bytes text ≡ texts_among (descendants_with_text (forest_seen self.now) id.index)) }
     {
-        let below = self.all_below(id)?;
+        let below = self.descendants_with_text(id)?;
         texts_among(self.alloc, below.as_slice())
     }
 }

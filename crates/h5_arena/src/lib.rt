@@ -1,16 +1,16 @@
-//! A tree whose nodes lie in one vector: a lawful sink of a tree builder.
+//! A tree whose nodes are in one vector: a sink of a tree builder. Its nodes are a forest at any time (the invariant of `Arena`).
 //!
-//! `tree` has the arena and the calls that read it, and `sink` those of a builder. `nodes` has what a node is, `below`
-//! what stands below it, and `shared` what elements of one name share. `makes` makes nodes; `link`, `links`, `children`
-//! and `moves` change parents and children. `kin` has what stands above, beside and below a node, and `html` a node as HTML.
-//! `attributes` reads and adds attributes, and `attribute_names` keeps the names of many in order. `edits` has the calls of
-//! those who edit a tree: `edit_attributes`, `edit_text` and `copies` do their work, `standing` finds whether a child may stand below a
-//! node, and `fault` says why not. `walk` is the walk of a serializer over a node (HTML standard, section 13.3), and `laws`
-//! has what holds of its calls.
+//! `tree` has the arena and its reading calls, `sink` the calls of a tree builder, and `edits` the calls that edit a tree. `nodes` has the
+//! nodes, `below` their children, and `shared` the kinds that elements with one name share. `makes` makes nodes; `link`, `links`,
+//! `children` and `moves` change parents and children. `attributes` and `attribute_names` read and add attributes. `edit_attributes`,
+//! `edit_text` and `copies` do the work of `edits`; `standing` finds out if a child may be inserted, and `fault` has the reasons. `kin` has
+//! ancestors, siblings and descendants, `html` a node as HTML, `walk` the walk of a serializer over a node (HTML standard, section 13.3),
+//! and `laws` the laws of its calls.
 //!
-//! It stands on `h5_interface`, whose sink it is, and on `h5_serialize`. The crates of rules and the builder don't
-//! stand on it; the program and the tests do. Begin with `specs/ArenaModel.antt`, the forest that the nodes are, and
-//! `src/tree.rt`; then `specs/NodeCalls.antt` and `src/walk.rt`.
+//! Only `parse_error` changes the texts of errors and the flag `errors_lost` (`KeepsErrors`).
+//!
+//! This crate depends on h5_interface, whose `TreeSink` it implements, and on h5_serialize; the rules and the tree builder don't use it.
+//! Begin with `specs/ArenaModel.antt` (the forest of the nodes) and `src/tree.rt`; then read `specs/NodeCalls.antt` and `src/walk.rt`.
 #![tactic(auto)]
 
 mod attribute_names;
@@ -36,7 +36,7 @@ mod standing;
 mod tree;
 mod walk;
 
-pub use fault::TreeFault;
+pub use fault::EditError;
 pub use nodes::{Child, Kind, NodeId};
 pub use tree::Arena;
 pub use walk::NodeRef;

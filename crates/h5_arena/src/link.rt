@@ -1,13 +1,13 @@
-//! Links from node to node.
+//! Links between nodes.
 ghost use Rattle.std.specs.Prelude.{◌≡◌, ◌<◌, None, Some};
 ghost use Rattle.h5_arena.specs.ArenaModel.{link_place, optional_place};
 
 use super::nodes::NodeId;
 
-/// A node or none, in the room of one number.
+/// A node or none, in the size of one number.
 #[derive(Clone, Copy)]
 pub(crate) struct Link {
-    // One more than the node's place, or 0.
+    // The node's index plus 1, or 0.
     behind: usize,
 }
 
@@ -29,7 +29,7 @@ impl Link {
         }
     }
 
-    /// The node, where there is one.
+    /// The node, if there is one.
     pub(crate) fn node(self) -> Option<NodeId>
         ensures { optional_place result ≡ link_place self }
     {

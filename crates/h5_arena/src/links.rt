@@ -1,4 +1,4 @@
-//! Changes of parents and children over the nodes of an arena. An Err leaves all nodes as they were.
+//! Changes of parents and children. If a call fails, all nodes are unchanged.
 ghost use Rattle.std.specs.Prelude.{◌≡◌, ◌≢◌, ◌<◌, ◌==◌, ℕ, [], None, Some, OnOk, OnErr, string_bytes, vec_len};
 ghost use Rattle.h5_interface.specs.Changes as change;
 ghost use Rattle.h5_interface.specs.Forest.{FragmentNode, IsForest, kind_of, parent_of};
@@ -10,7 +10,7 @@ use super::{below, children};
 use std::alloc::{AllocError, Global};
 use std::mem;
 
-// A node as the last child of another.
+// Appends a node to another.
 #[inline(always)]
 pub(crate) fn append_node(
     nodes: &mut Vec<NodeData>,
@@ -31,7 +31,7 @@ pub(crate) fn append_node(
     Ok(())
 }
 
-// A text at the end of the children of a node.
+// Appends a text to the children of a node.
 #[inline(always)]
 pub(crate) fn append_text(
     nodes: &mut Vec<NodeData>,
@@ -49,7 +49,7 @@ pub(crate) fn append_text(
     Ok(())
 }
 
-// A node before a sibling, below this parent of the sibling.
+// Inserts a node before a sibling, which has this parent.
 fn insert_node_below(
     nodes: &mut Vec<NodeData>,
     parent: NodeId,
@@ -72,7 +72,7 @@ fn insert_node_below(
     Ok(())
 }
 
-// A text before a sibling, below this parent of the sibling.
+// Inserts a text before a sibling, which has this parent.
 fn insert_text_below(
     nodes: &mut Vec<NodeData>,
     parent: NodeId,
@@ -92,7 +92,7 @@ fn insert_text_below(
     Ok(())
 }
 
-// A node before a sibling.
+// Inserts a node before a sibling.
 pub(crate) fn insert_node_before(
     nodes: &mut Vec<NodeData>,
     sibling: NodeId,
@@ -114,7 +114,7 @@ pub(crate) fn insert_node_before(
     }
 }
 
-// A text before a sibling.
+// Inserts a text before a sibling.
 pub(crate) fn insert_text_before(
     nodes: &mut Vec<NodeData>,
     sibling: NodeId,
@@ -135,7 +135,7 @@ pub(crate) fn insert_text_before(
     }
 }
 
-// Takes a node from this parent.
+// Removes a node from this parent.
 fn detach_from(nodes: &mut Vec<NodeData>, parent: NodeId, id: NodeId) -> Result<(), AllocError>
     requires parent { parent_of (forest_in nodes.old.items) id.index ≡ Some parent.index }
     requires no_fragment { kind_of (forest_in nodes.old.items) id.index ≢ Some FragmentNode }
@@ -151,7 +151,7 @@ fn detach_from(nodes: &mut Vec<NodeData>, parent: NodeId, id: NodeId) -> Result<
     Ok(())
 }
 
-// Takes a node from its parent, if it has one.
+// Removes a node from its parent, if it has one.
 pub(crate) fn detach(nodes: &mut Vec<NodeData>, id: NodeId) -> Result<(), AllocError>
     requires held { id.index < vec_len nodes.old }
     requires no_fragment { kind_of (forest_in nodes.old.items) id.index ≢ Some FragmentNode }

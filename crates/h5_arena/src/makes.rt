@@ -1,4 +1,4 @@
-//! New nodes. An Err leaves all nodes as they were.
+//! Makes nodes. If a call fails, all nodes are unchanged.
 ghost use Rattle.std.specs.Prelude.{◌≡◌, ◌<◌, ◌++◌, ◌∷◌, [], None, IfOk, OnOk, OnErr, vec_len};
 ghost use Rattle.std.specs.Arc.{arc_value};
 ghost use Rattle.h5_names.specs.declared.qualified.QualName.{QualName};
@@ -18,7 +18,7 @@ use h5_names::{Attribute, QualName};
 use std::alloc::{AllocError, Global};
 use std::sync::Arc;
 
-// A node that is no element, with nothing below it and no parent.
+// A node that isn't an element, with nothing below it and without a parent.
 pub(crate) fn bare_node(alloc: Global, kind: Kind) -> Result<NodeData, AllocError>
     ensures { IfOk result (λ node. node_view node ≡ plain (kind_view kind)) }
 {
@@ -38,7 +38,7 @@ pub(crate) fn bare_node(alloc: Global, kind: Kind) -> Result<NodeData, AllocErro
     })
 }
 
-// An element with nothing below it and no parent.
+// An element with nothing below it and without a parent.
 fn bare_element(
     alloc: Global,
     kind: Arc<Kind>,
@@ -59,7 +59,7 @@ fn bare_element(
     }
 }
 
-// A new node that is no element.
+// Adds a node that isn't an element.
 pub(crate) fn push_plain(
     nodes: &mut Vec<NodeData>,
     alloc: Global,
@@ -74,7 +74,7 @@ pub(crate) fn push_plain(
     Ok(())
 }
 
-// A new template, and its contents right after it.
+// Adds a template, and its contents directly after it.
 fn push_template(
     nodes: &mut Vec<NodeData>,
     alloc: Global,
@@ -100,7 +100,7 @@ fn push_template(
     }
 }
 
-// A new element, and its contents where it is a template.
+// Adds an element, and its contents if it is a template.
 pub(crate) fn push_element(
     nodes: &mut Vec<NodeData>,
     shared: &mut SharedKinds,
@@ -124,7 +124,7 @@ pub(crate) fn push_element(
     Ok(())
 }
 
-// A new node that is no element, as the last child of an old one.
+// Adds a node that isn't an element as the last child of an existing node.
 pub(crate) fn push_child(
     nodes: &mut Vec<NodeData>,
     alloc: Global,

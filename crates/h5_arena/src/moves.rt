@@ -1,4 +1,4 @@
-//! All children of one node go to another.
+//! Moves all children of one node to another.
 ghost use Rattle.std.specs.Prelude.{◌≡◌, ◌≢◌, ◌<◌, ◌≤◌, ℕ, Some, OnOk, OnErr, drop, length, vec_len};
 ghost use Rattle.h5_interface.specs.Changes as change;
 ghost use Rattle.h5_interface.specs.Changes.{has_child, set_parents};
@@ -12,7 +12,7 @@ use super::nodes::{Child, NodeData, NodeId};
 use std::alloc::{AllocError, Global};
 use std::mem;
 
-// The child at this place, if it is a node, has this parent.
+// Sets the parent of the child at this index, if it is a node.
 fn adopt_child(nodes: &mut Vec<NodeData>, parent: NodeId, at: usize)
     requires parent { parent.index < vec_len nodes.old }
     requires within { at < length (children_of (forest_in nodes.old.items) parent.index) }
@@ -29,7 +29,7 @@ fn adopt_child(nodes: &mut Vec<NodeData>, parent: NodeId, at: usize)
     }
 }
 
-// The children from this place on, as far as they are nodes, have this parent.
+// Sets the parent of the children from this index on that are nodes.
 fn adopt_children(nodes: &mut Vec<NodeData>, parent: NodeId, start: usize)
     requires parent { parent.index < vec_len nodes.old }
     requires held { (n : ℕ) → 0 < count n (nodes_among (children_of (forest_in nodes.old.items) parent.index)) → n < vec_len nodes.old }
@@ -42,8 +42,7 @@ fn adopt_children(nodes: &mut Vec<NodeData>, parent: NodeId, start: usize)
     }
 }
 
-// Moves all children of the one node to the end of those of the other, which is another node. An Err
-// leaves all nodes as they were.
+// Moves all children of one node to the end of those of another. If it fails, all nodes are unchanged.
 pub(crate) fn reparent(
     nodes: &mut Vec<NodeData>,
     alloc: Global,

@@ -5,13 +5,13 @@ use h5_interface::ElementFlags;
 use h5_names::{Attribute, QualName};
 use std::sync::Arc;
 
-/// A node of an arena, named by its place in the vector.
+/// A node of an arena, by its index in the vector.
 #[derive(Clone, Copy, Debug, PartialEq, Eq)]
 pub struct NodeId {
     pub(crate) index: usize,
 }
 
-/// What a node is (DOM standard, section 4, "Nodes").
+/// The kind of a node (DOM standard, section 4, "Nodes").
 #[derive(Debug, Drop)]
 pub enum Kind {
     Document,
@@ -31,21 +31,21 @@ pub enum Kind {
     Fragment,
 }
 
-/// What stands below a node. No text is empty, and no two texts are neighbours.
+/// A child of a node. No text is empty, and no two texts are neighbours.
 #[derive(Debug, Drop)]
 pub enum Child {
     Node(NodeId),
     Text(String),
 }
 
-/// A node. What it is, elements of one name share.
+/// A node. Elements with equal names share their kind.
 #[derive(Drop)]
 pub(crate) struct NodeData {
     pub(crate) kind: Arc<Kind>,
     pub(crate) attrs: Vec<Attribute>,
     pub(crate) children: Below,
     pub(crate) contents: Link,
-    // The node whose child this is, or whose contents.
+    // The parent of a child, or the template of its contents.
     pub(crate) parent: Link,
     pub(crate) flags: ElementFlags,
     pub(crate) started: bool,

@@ -1,4 +1,4 @@
-//! What elements are, shared between those of one name.
+//! Kinds of elements, shared between elements with equal names.
 ghost use Rattle.std.specs.Prelude.{◌≡◌, ◌<◌, IfOk, IfSome, OnOk, true, vec_len};
 ghost use Rattle.std.specs.Arc.{arc_value};
 ghost use Rattle.h5_interface.specs.Forest.{ElementNode};
@@ -9,22 +9,22 @@ use h5_names::QualName;
 use std::alloc::{AllocError, Global};
 use std::sync::Arc;
 
-/// The kinds of the elements that were made last, one for each local name that HTML knows, and one for all
-/// others: most elements of a page have few names.
+/// Recent kinds of elements, one for each local name that HTML knows, and one for all others: most elements of a page have one of few
+/// names.
 #[derive(Drop)]
 pub(crate) struct SharedKinds {
     // By the number of the local name.
     by_local: Vec<Option<Arc<Kind>>>,
 }
 
-// Whether two names are the same.
+// Returns true only if two names are equal.
 fn is_same(x: &QualName, y: &QualName) -> bool
     ensures { result ≡ true → x.now ≡ y.now }
 {
     *x == *y
 }
 
-// What an element of this name is, where it was kept.
+// The kind of an element with this name, if the slot has it.
 fn kept(slot: &Option<Arc<Kind>>, name: &QualName) -> Result<Option<Arc<Kind>>, AllocError>
     ensures { IfOk result (λ found. IfSome found (λ kind. kind_view (arc_value kind) ≡ ElementNode name.now)) }
 {
@@ -48,14 +48,14 @@ fn make_slots(slots: &mut Vec<Option<Arc<Kind>>>, last: usize) -> Result<(), All
 }
 
 impl SharedKinds {
-    /// None yet, which takes no memory.
+    /// No kinds yet, without an allocation.
     pub(crate) fn new(alloc: Global) -> SharedKinds {
         SharedKinds {
             by_local: Vec::new(alloc),
         }
     }
 
-    /// What an element of this name is: shared with the last one of its local name, where that has the same name.
+    /// The kind of an element with this name: shared with the last one of its local name, if their names are equal.
     pub(crate) fn element(&mut self, alloc: Global, name: QualName) -> Result<Arc<Kind>, AllocError>
         ensures { IfOk result (λ kind. kind_view (arc_value kind) ≡ ElementNode name) }
     {

@@ -27,14 +27,14 @@ impl TreeSink for Arena {
 
     ghost told = { seen_of };
 
-    /// The arena, as it is.
+    /// Returns the arena, unchanged.
     fn finish(self) -> Arena
         ensures { result ≡ self }
     {
         self
     }
 
-    /// Keeps the text of the error, unless the arena keeps none. Where it is lost, `errors_lost` tells.
+    /// Stores the text of the error, unless the arena stores none. If the text is not stored, `errors_lost` is set.
     fn parse_error(&mut self, message: &str)
         ensures forest { (seen_of self.new).forest ≡ (seen_of self.old).forest }
         ensures quirks { (seen_of self.new).quirks ≡ (seen_of self.old).quirks }
@@ -87,7 +87,7 @@ impl TreeSink for Arena {
         }
     }
 
-    /// The new node is an element of the arena.
+    /// As in `TreeSink`. The node is an element of the arena.
     fn create_element(
         &mut self,
         name: QualName,
@@ -264,7 +264,7 @@ impl TreeSink for Arena {
         node.started = true;
     }
 
-    /// Nothing changes.
+    /// Changes nothing.
     fn pop(&mut self, element: &NodeId)
         ensures { self.new ≡ self.old }
     {
@@ -297,7 +297,7 @@ impl TreeSink for Arena {
         self.quirks = mode;
     }
 
-    /// Nothing changes.
+    /// Changes nothing.
     fn set_current_line(&mut self, line: u64)
         ensures { self.new ≡ self.old }
     {

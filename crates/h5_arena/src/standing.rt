@@ -1,4 +1,4 @@
-//! Whether a child may stand below a node.
+//! Tests if a child may be inserted.
 ghost use Rattle.std.specs.Prelude.{◌≡◌, ◌<◌, IfErr, IfNone, IfSome, OnOk, false, length, true};
 ghost use Rattle.h5_interface.specs.Ancestors.{AtOrAbove};
 ghost use Rattle.h5_interface.specs.Forest.{ChildNode, IsForest, parent_of};
@@ -6,11 +6,11 @@ ghost use Rattle.h5_interface.specs.Seen.{CanAppend, CanInsertBefore, IsFreeFor,
 ghost use Rattle.h5_arena.specs.ArenaModel.{IsChildOf, IsNoChild, forest_in, place};
 ghost use Rattle.h5_arena.specs.Edits.{Bars, IsThere, KeepsFromAppend, KeepsFromInsert};
 
-use super::fault::TreeFault;
+use super::fault::EditError;
 use super::nodes::{Kind, NodeData, NodeId};
 use h5_interface::NodeOrText;
 
-// Whether the one node is the other, or stands above it: from the other node one goes up, parent by parent.
+// Returns true if `above` is `id` or an ancestor of it. Walks up from `id`, parent by parent.
 fn is_at_or_above(nodes: &[NodeData], above: NodeId, id: NodeId) -> bool
     requires held { id.index < length nodes.now }
     requires forest { IsForest (forest_in nodes.now) }
@@ -31,8 +31,8 @@ fn is_at_or_above(nodes: &[NodeData], above: NodeId, id: NodeId) -> bool
     unreachable!()
 }
 
-// Whether a node may become a child of another, or why not.
-fn check_node(nodes: &[NodeData], parent: NodeId, id: NodeId) -> Result<(), TreeFault>
+// Succeeds if a node may become a child of another; the error is the reason why not.
+fn check_node(nodes: &[NodeData], parent: NodeId, id: NodeId) -> Result<(), EditError>
     requires parent { parent.index < length nodes.now }
     requires held { id.index < length nodes.now }
     requires forest { IsForest (forest_in nodes.now) }
@@ -41,23 +41,23 @@ fn check_node(nodes: &[NodeData], parent: NodeId, id: NodeId) -> Result<(), Tree
 {
     let node = &nodes[id.index];
     if matches!(&*node.kind, Kind::Document) {
-        return Err(TreeFault::IsDocument);
+        return Err(EditError::IsDocument);
     }
     if node.parent.node().is_some() {
-        return Err(TreeFault::HasParent);
+        return Err(EditError::HasParent);
     }
     if is_at_or_above(nodes, id, parent) {
-        return Err(TreeFault::WouldNestInItself);
+        return Err(EditError::WouldBeCycle);
     }
     Ok(())
 }
 
-// Whether a child that is there may stand below a node, or why not.
+// Succeeds if an existing child may be inserted below a node; the error is the reason why not.
 fn check_below(
     nodes: &[NodeData],
     parent: NodeId,
     child: &NodeOrText<NodeId>,
-) -> Result<(), TreeFault>
+) -> Result<(), EditError>
     requires parent { parent.index < length nodes.now }
     requires child { IsThere (forest_in nodes.now) (child_of place child.now) }
     requires forest { IsForest (forest_in nodes.now) }
@@ -68,14 +68,14 @@ fn check_below(
         NodeOrText::AppendNode(id) => check_node(nodes, parent, *id),
         NodeOrText::AppendText(text) => {
             if text.is_empty() {
-                return Err(TreeFault::EmptyText);
+                return Err(EditError::EmptyText);
             }
             Ok(())
         }
     }
 }
 
-// Whether a child is there, where it is a node.
+// Returns true if a child is a text or a node of the arena.
 fn is_there(nodes: &[NodeData], child: &NodeOrText<NodeId>) -> bool
     ensures there { result ≡ true → IsThere (forest_in nodes.now) (child_of place child.now) }
     ensures gone { result ≡ false → ¬ (IsThere (forest_in nodes.now) (child_of place child.now)) }
@@ -86,26 +86,26 @@ fn is_there(nodes: &[NodeData], child: &NodeOrText<NodeId>) -> bool
     }
 }
 
-// Whether a child may become the last child of a node, or why not.
+// Succeeds if a child may be appended to a node; the error is the reason why not.
 pub(crate) fn check_append(
     nodes: &[NodeData],
     parent: NodeId,
     child: &NodeOrText<NodeId>,
-) -> Result<(), TreeFault>
+) -> Result<(), EditError>
     requires { IsForest (forest_in nodes.now) }
     ensures may { OnOk result (CanAppend (forest_in nodes.now) parent.index (child_of place child.now)) }
     ensures told { IfErr result (λ fault. KeepsFromAppend (forest_in nodes.now) parent.index (child_of place child.now) fault) }
 {
     if parent.index >= nodes.len() {
-        return Err(TreeFault::NotHere);
+        return Err(EditError::UnknownNode);
     }
     if !is_there(nodes, child) {
-        return Err(TreeFault::NotHere);
+        return Err(EditError::UnknownNode);
     }
     check_below(nodes, parent, child)
 }
 
-// Whose child a node is.
+// The node whose child a node is.
 fn parent_of_child(nodes: &[NodeData], id: NodeId) -> Option<NodeId>
     requires { id.index < length nodes.now }
     ensures child { IfSome result (λ parent. IsChildOf (forest_in nodes.now) id.index parent.index) }
@@ -118,24 +118,24 @@ fn parent_of_child(nodes: &[NodeData], id: NodeId) -> Option<NodeId>
     }
 }
 
-// Whether a child may be put before a sibling, or why not.
+// Succeeds if a child may be inserted before a sibling; the error is the reason why not.
 pub(crate) fn check_insert(
     nodes: &[NodeData],
     sibling: NodeId,
     child: &NodeOrText<NodeId>,
-) -> Result<(), TreeFault>
+) -> Result<(), EditError>
     requires { IsForest (forest_in nodes.now) }
     ensures may { OnOk result (CanInsertBefore (forest_in nodes.now) sibling.index (child_of place child.now)) }
     ensures told { IfErr result (λ fault. KeepsFromInsert (forest_in nodes.now) sibling.index (child_of place child.now) fault) }
 {
     if sibling.index >= nodes.len() {
-        return Err(TreeFault::NotHere);
+        return Err(EditError::UnknownNode);
     }
     if !is_there(nodes, child) {
-        return Err(TreeFault::NotHere);
+        return Err(EditError::UnknownNode);
     }
     match parent_of_child(nodes, sibling) {
-        None => Err(TreeFault::NoParent),
+        None => Err(EditError::NoParent),
         Some(parent) => check_below(nodes, parent, child),
     }
 }

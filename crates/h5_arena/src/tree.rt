@@ -1,4 +1,4 @@
-//! The arena, and the calls that read it.
+//! The arena, and its reading calls.
 ghost use Rattle.std.specs.Prelude.{◌≡◌, ◌<◌, All, IfNone, IfOk, IfSome, Some, length, nat_lt, option_copied, true};
 ghost use Rattle.h5_names.specs.AttributeText.{attribute_texts};
 
@@ -11,18 +11,20 @@ use h5_names::{Attribute, QualName};
 use std::alloc::{AllocError, Global};
 use std::marker::Model;
 
-/// A tree whose nodes lie in one vector, in the order in which they were made. The contents of a template
-/// are a node of their own, which comes after the template.
+/// A tree whose nodes are in one vector, in the order in which they were made. The contents of a template are a separate node, which comes
+/// after the template.
+///
+/// The ids passed to a call must be those of nodes of this arena, as `holds` tests. Only `try_append` and `try_insert_before` test them.
 #[derive(Drop)]
 pub struct Arena {
     pub(crate) nodes: Vec<NodeData>,
-    // These two are not in the view: what they hold the nodes hold, too.
+    // These two aren't in the view: their contents are also in the nodes.
     pub(crate) shared: SharedKinds,
     pub(crate) names: AttributeNames,
     pub(crate) quirks: QuirksMode,
     pub(crate) errors: Vec<String>,
     pub(crate) errors_lost: bool,
-    // Else the text of each error is lost.
+    // If false, the text of each error is lost.
     pub(crate) keeps_errors: bool,
     pub(crate) alloc: Global,
 }
@@ -41,23 +43,22 @@ ghost use Rattle.h5_interface.specs.Forest.{IsElement, IsNode};
 ghost use Rattle.h5_arena.specs.ArenaModel.{ArenaView, IsChildHeld, IsChildOf, IsHeld, IsNoChild, at_node, child_parent, child_views, forest_seen, fragment_root, id_at, kind_view, name_of_kind, new_arena, optional_place, silent_arena, texts_of, value_of};
 
 impl Arena {
-    /// An arena that holds its document alone, with NoQuirks and no error, or an `AllocError` where memory
-    /// is refused.
+    /// Returns an arena with only its document, in no-quirks mode and without errors. Fails with `AllocError` if an allocation fails.
     pub fn new(alloc: Global) -> Result<Arena, AllocError>
         ensures { IfOk result (λ a. a ≡ new_arena) }
     {
         Arena::begin(alloc, true)
     }
 
-    /// An arena like that of `new`, but it keeps no texts of parse errors: `errors` is empty, and `errors_lost` tells whether
-    /// an error was told. All else is the same, the tree above all.
+    /// Returns an arena as `new` does, but one that doesn't store the texts of parse errors: `errors` is empty, and `errors_lost` returns
+    /// true once an error is reported. Fails with `AllocError` if an allocation fails.
     pub fn without_errors(alloc: Global) -> Result<Arena, AllocError>
         ensures { IfOk result (λ a. a ≡ silent_arena) }
     {
         Arena::begin(alloc, false)
     }
 
-    // An arena that holds its document alone, and keeps the texts of errors or doesn't.
+    // An arena with only its document, which stores the texts of errors or doesn't.
     fn begin(alloc: Global, keeps_errors: bool) -> Result<Arena, AllocError>
         ensures { IfOk result (λ a. a ≡ record new_arena { keeps_errors = keeps_errors }) }
     {
@@ -75,7 +76,7 @@ impl Arena {
         })
     }
 
-    /// Whether this is a node of the arena.
+    /// Returns true if this is a node of the arena.
     pub fn holds(&self, id: NodeId) -> bool
         ensures held { result ≡ nat_lt id.index (length self.now.nodes) }
         ensures node { result ≡ true → IsNode (forest_seen self.now) id.index }
@@ -92,14 +93,14 @@ impl Arena {
         NodeId { index: 0 }
     }
 
-    /// How many nodes there are, those without a parent too.
+    /// The number of nodes, including those without a parent.
     pub fn len(&self) -> usize
         ensures { result ≡ length self.now.nodes }
     {
         self.nodes.len()
     }
 
-    /// The node that was made at this place in the order, from 0, or nothing where there is none.
+    /// The node with this number in the order in which nodes were made, counted from 0, if there is one.
     pub fn id(&self, index: usize) -> Option<NodeId>
         ensures { result ≡ id_at self.now index }
     {
@@ -110,7 +111,7 @@ impl Arena {
         }
     }
 
-    /// What a node is.
+    /// The kind of a node.
     pub fn kind(&self, id: NodeId) -> &Kind
         requires { IsHeld self.now id }
         ensures { at_node (λ d. d.kind) self.now id ≡ Some (kind_view result.now) }
@@ -118,7 +119,7 @@ impl Arena {
         &*self.nodes[id.index].kind
     }
 
-    /// The name of an element, and nothing of any other node. What has a name is an element.
+    /// The name of an element; `None` for any other node. A node with a name is an element.
     pub fn name(&self, id: NodeId) -> Option<&QualName>
         requires { IsHeld self.now id }
         ensures name { at_node (λ d. name_of_kind d.kind) self.now id ≡ Some (option_copied result) }
@@ -131,7 +132,7 @@ impl Arena {
         }
     }
 
-    /// The attributes of an element, in the order in which they came.
+    /// The attributes of an element, in the order in which they were added.
     pub fn attrs(&self, id: NodeId) -> &[Attribute]
         requires { IsHeld self.now id }
         ensures { at_node (λ d. d.attrs) self.now id ≡ Some (attribute_texts result.now) }
@@ -139,8 +140,8 @@ impl Arena {
         self.nodes[id.index].attrs.as_slice()
     }
 
-    /// The value of an attribute: of the first that has this local name and no namespace. Nothing where there is none, as of any
-    /// node that is no element.
+    /// The value of an attribute: of the first one with this local name and no namespace. `None` if there is none, as for any node that
+    /// isn't an element.
     pub fn attr(&self, id: NodeId, name: &str) -> Option<&str>
         requires { IsHeld self.now id }
         ensures { at_node (λ d. value_of name.now d.attrs) self.now id ≡ Some (option_copied result) }
@@ -157,7 +158,7 @@ impl Arena {
         self.nodes[id.index].children.as_slice()
     }
 
-    /// Whose child a node is. The contents of a template are nobody's child.
+    /// The node whose child a node is. The contents of a template aren't a child.
     pub fn parent(&self, id: NodeId) -> Option<NodeId>
         requires { IsHeld self.now id }
         ensures parent { at_node child_parent self.now id ≡ Some (optional_place result) }
@@ -168,7 +169,7 @@ impl Arena {
         self.child_parent(id)
     }
 
-    // Whose child a node is, as it is kept beside the node.
+    // The node whose child a node is, as stored with the node.
     fn child_parent(&self, id: NodeId) -> Option<NodeId>
         requires { IsHeld self.now id }
         ensures parent { at_node child_parent self.now id ≡ Some (optional_place result) }
@@ -181,7 +182,7 @@ impl Arena {
         }
     }
 
-    /// The contents of a template, and nothing of any other node.
+    /// The contents of a template; `None` for any other node.
     pub fn contents(&self, id: NodeId) -> Option<NodeId>
         requires { IsHeld self.now id }
         ensures contents { at_node (λ d. d.contents) self.now id ≡ Some (optional_place result) }
@@ -190,8 +191,8 @@ impl Arena {
         self.nodes[id.index].contents.node()
     }
 
-    /// The root that the parser of a fragment made, an `html`, below which the fragment stands: the document's last child. Nothing
-    /// where the document has no child, or where its last child is a text.
+    /// The root that a fragment parser makes, an `html` element, whose children are the fragment: the document's last child. `None` if the
+    /// document has no child, or its last child is a text.
     pub fn fragment_root(&self) -> Option<NodeId>
         ensures root { optional_place result ≡ fragment_root self.now }
         ensures held { IfSome result (IsHeld self.now) }
@@ -202,7 +203,7 @@ impl Arena {
         }
     }
 
-    /// The form that an element was associated with.
+    /// The form with which an element was associated.
     pub fn form(&self, id: NodeId) -> Option<NodeId>
         requires { IsHeld self.now id }
         ensures form { at_node (λ d. d.marks.form) self.now id ≡ Some (optional_place result) }
@@ -211,7 +212,7 @@ impl Arena {
         self.nodes[id.index].form.node()
     }
 
-    /// Whether an element was marked as a script that has started.
+    /// Returns true if an element was marked as a script that has started.
     pub fn started(&self, id: NodeId) -> bool
         requires { IsHeld self.now id }
         ensures { at_node (λ d. d.marks.started) self.now id ≡ Some result }
@@ -226,14 +227,14 @@ impl Arena {
         self.quirks
     }
 
-    /// The texts of the parse errors, in the order in which they were told.
+    /// The texts of the parse errors, in the order in which they were reported.
     pub fn errors(&self) -> &[String]
         ensures { texts_of result.now ≡ self.now.errors }
     {
         self.errors.as_slice()
     }
 
-    /// Whether the text of a parse error found no memory; in an arena that keeps none, whether an error was told.
+    /// Returns true if an allocation for the text of a parse error failed or, in an arena that stores no texts, if an error was reported.
     pub fn errors_lost(&self) -> bool
         ensures { result ≡ self.now.errors_lost }
     {

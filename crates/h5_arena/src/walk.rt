@@ -1,5 +1,4 @@
-//! The walk of a serializer over a node of an arena (HTML standard, section 13.3, "Serializing HTML
-//! fragments").
+//! The walk of a serializer over a node of an arena (HTML standard, section 13.3, "Serializing HTML fragments").
 ghost use Rattle.std.specs.Prelude.{◌≡◌, ◌∷◌, [], Some, option_copied};
 ghost use Rattle.h5_interface.specs.Forest.{ElementNode};
 ghost use Rattle.h5_serialize.specs.Walk.{Walks};
@@ -12,7 +11,7 @@ use super::tree::Arena;
 use h5_names::QualName;
 use h5_serialize::{Serialize, SerializeFault, Serializer, TraversalScope};
 
-/// A node of an arena, lent: what can be written by a serializer.
+/// A borrowed node of an arena. A serializer can write it.
 #[derive(Clone, Copy)]
 pub struct NodeRef<'a> {
     pub arena: &'a Arena,
@@ -21,7 +20,7 @@ pub struct NodeRef<'a> {
     ghost held: { IsHeld arena.now id },
 }
 
-// A node that was begun: its children that are left, and the name of an element, which is to be ended.
+// An open node: its children that are left, and the name of an element that is still to be ended.
 #[derive(Clone, Copy)]
 struct OpenNode<'a> {
     rest: &'a [Child],
@@ -29,7 +28,7 @@ struct OpenNode<'a> {
 }
 
 impl Arena {
-    /// A node of the arena, lent with it, as what a serializer writes.
+    /// A node, borrowed with its arena, for a serializer. `id` must be a node of this arena.
     pub fn at(&self, id: NodeId) -> NodeRef<'_>
         requires { IsHeld self.now id }
         ensures arena { result.arena.now ≡ self.now }
@@ -39,7 +38,7 @@ impl Arena {
     }
 }
 
-// The children that are told of: for a template, those of its contents.
+// The children of a node in the walk: for a template, those of its contents.
 fn shown_children(arena: &Arena, id: NodeId) -> &[Child]
     requires { IsHeld arena.now id }
     ensures { child_views result.now ≡ shown_children (forest_seen arena.now) id.index }
@@ -74,7 +73,7 @@ fn begin_element<'a, S: Serializer>(
     }))
 }
 
-// Begins a node: one with children is opened, and any other is done.
+// Begins a node: one with children is opened, any other is complete.
 fn begin<'a, S: Serializer>(
     arena: &'a Arena,
     id: NodeId,
@@ -131,7 +130,7 @@ fn begin_child<'a, S: Serializer>(
     }
 }
 
-// Ends a node whose children are all done.
+// Ends a node after its children.
 fn end<S: Serializer>(name: Option<&QualName>, serializer: &mut S) -> Result<(), SerializeFault>
     ensures { Walks S.answer S.after S.writes S.breaks (end_calls (option_copied name.entry))
         (S.meaning serializer.old) (S.contents serializer.old) result
@@ -143,7 +142,7 @@ fn end<S: Serializer>(name: Option<&QualName>, serializer: &mut S) -> Result<(),
     }
 }
 
-// Makes the calls that are left of an open node. The nodes around the one that is told of wait in a vector.
+// Makes the calls that are left of an open node. The nodes around the current one are in a vector.
 fn walk_open<'a, S: Serializer>(
     arena: &'a Arena,
     first: OpenNode<'a>,
@@ -218,13 +217,12 @@ impl Serialize for NodeRef<'_> {
 
     ghost walk = { λ node. walk_of (forest_seen node.arena.now) node.id.index };
 
-    /// With `IncludeNode` tells of the node: an element is started, its children are told of, and it is
-    /// ended; a document and a fragment have their children told of alone; all else is one call. With
-    /// `ChildrenOnly` tells of its children alone. Of a template those of its contents are told of.
+    /// Makes the calls of the node's walk. With `IncludeNode`: an element is started, followed by the calls of its children, and ended; a
+    /// document and a fragment have only the calls of their children; any other node is one call. With `ChildrenOnly`: only the calls of
+    /// the children. For a template, the children are those of its contents.
     ///
-    /// Answers the first fault of the serializer, or `Memory`, where memory is refused for a name or for the
-    /// nodes that are open at one time; the serializer is then as after the calls made. No text and no
-    /// attribute is copied.
+    /// Fails with the first error of the serializer, or with `Memory` if an allocation fails for a name or for the nodes that are open at
+    /// one time; then the serializer is as after the calls made. Texts and attributes aren't copied.
     fn serialize<S: Serializer>(
         &self,
         serializer: &mut S,

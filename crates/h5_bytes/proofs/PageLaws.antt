@@ -1,4 +1,4 @@
--- Chunks of a page that were taken one after the other are one text that was read.
+-- Chunks of a page that were taken one after another are one text that was read.
 use Rattle.std.proofs.Common.{◌≡◌, ◌++◌, ℕ, List, [], ◌∷◌, Option, Some, None, Result, IfOk, OnOk, Ok, Err, sym, subst, append_assoc, append-nil}
 use Rattle.h5_token.specs.declared.fault.BuildFault.{BuildFault}
 use Rattle.h5_interface.specs.Seen.{Seen}
@@ -11,13 +11,13 @@ use Rattle.h5_driver.proofs.ReadingLaws.{followed_by, parses_behind}
 use Rattle.h5_bytes.specs.Parsing.{IsHanded, ParsingPage, ProcessedAllBytes, ProcessedBytes}
 use Rattle.h5_bytes.specs.Texts.{text_behind, text_in}
 
--- where a piece was handed on
+-- a chunk of text was passed
 pub handed_on : {P Q : Type 0} (result : Result (Unit {0}) BuildFault) → (P → Q) → OnOk result P → OnOk result Q
 handed_on (Ok tt) f p = f p
 handed_on (Err fault) f p = p
 
 module _ {R S H O : Type 0} (reader : Ghosts R S H O) {choices : SinkChoices} (law : AreReadings choices reader.first reader.Readings reader.Reads) where
-  -- what a parser makes of what waits, with a text behind it
+  -- what a parser makes from what waits, with a text after it
   abbrev ParsesText : Parsing R → List ℕ → Seen → Type 0
   ParsesText p text told = Parses reader.Reads choices (text_of reader p) (view_of reader p) (p.waiting ++ text) told
 
@@ -25,7 +25,7 @@ module _ {R S H O : Type 0} (reader : Ghosts R S H O) {choices : SinkChoices} (l
   abbrev ParsesBytes : ParsingPage R → List ℕ → Seen → Type 0
   ParsesBytes p bytes told = ParsesText p.parser (text_behind p.opts p.stage bytes) told
 
-  -- a piece was taken, and then the rest
+  -- a chunk of text was taken, and then the remaining text
   piece_parsed : (text rest : List ℕ) (old new : Parsing R) (told : Seen) → Processed reader text old new → ParsesText new rest told → ParsesText old (text ++ rest) told
   piece_parsed text rest old new told took parses =
       let none : List ℕ → Type 0 = λ waiting. Parses reader.Reads choices (text_of reader new) (view_of reader new) (waiting ++ rest) told in

@@ -1,4 +1,4 @@
--- The text of a page's bytes, where they are cut.
+-- The text of a page's bytes, at a split.
 use Rattle.std.proofs.Common.{◌≡◌, ◌≤◌, ◌∙◌, ℕ, List, [], ◌++◌, length, Vec, Some, sym, ap, subst, append_assoc, append-nil}
 use Rattle.std.specs.declared.alloc.Global.{Global}
 use Rattle.std.proofs.lemmas.List.{take-append-le}
@@ -10,11 +10,11 @@ use Rattle.h5_encodings.specs.Sniffing.{encoding_of}
 use Rattle.h5_bytes.specs.declared.stage.Stage.TheVariants.{Sniffing, Decoding}
 use Rattle.h5_bytes.specs.Texts.{Takes, encoding_of_bytes, text_of_bytes}
 
--- what follows the first 1,024 bytes says nothing of the encoding
+-- what follows the first 1,024 bytes doesn't change the encoding
 encoding_decided : (opts : EncodingOpts) (bytes more : List ℕ) → 1024 ≤ length bytes → encoding_of_bytes opts (bytes ++ more) ≡ encoding_of_bytes opts bytes
 encoding_decided opts bytes more enough = ap (encoding_of opts) (take-append-le 1024 bytes more enough)
 
--- bytes that came, behind those that waited, decide the encoding
+-- bytes that follow those that waited determine the encoding
 pub decided : (opts : EncodingOpts) (first : Vec ℕ Global) (now bytes text : List ℕ) (source : Source) (decoder : State) → now ≡ first.items ++ bytes → 1024 ≤ length now
     → source ≡ (encoding_of_bytes opts now).1 → Decodes (start (encoding_of_bytes opts now).0) now text decoder → Takes opts (Sniffing first) bytes (Some text) (Decoding decoder source)
 decided opts first now bytes text source decoder same enough by decodes =

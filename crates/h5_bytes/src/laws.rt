@@ -1,4 +1,4 @@
-//! How the bytes of a page are cut doesn't matter.
+//! How the bytes of a page are split doesn't matter.
 ghost use Rattle.std.specs.Prelude.{ℕ, List, ◌++◌, []};
 ghost use Rattle.h5_interface.specs.Seen.{Seen};
 ghost use Rattle.h5_driver.specs.Parsing.{joined, text_of, view_of};
@@ -8,8 +8,8 @@ ghost use Rattle.h5_bytes.specs.Texts.{text_behind};
 
 use h5_driver::Reader;
 
-/// `process` on each of some chunks, and then `finish`, by a parser of bytes in any encoding: what the sink tells at the end is what
-/// it tells of the text of all bytes together, in the encoding that all of them say.
+/// If a parser of bytes takes chunks by `process` one after another, and `finish` follows, the sink shows what it shows for the
+/// text of all bytes together, in the encoding that they determine.
 pub fn chunks_then_finish<R: Reader>()
     ensures { (chunks : List (List ℕ)) (first last : ParsingPage R) (told : Seen) →
         ProcessedAllBytes R.Reader chunks first last

@@ -15,15 +15,15 @@ use h5_token::BuildFault;
 use std::alloc::Global;
 use std::marker::Model;
 
-/// A parser of a document from bytes, over a parser of text. It is in the encoding that the page is in: which that is its first
-/// 1,024 bytes say, or all where they are fewer, with what else is known (HTML standard, section 13.2.3.2).
+/// A parser of a document from bytes, over a parser of text. It decodes the page's encoding, which is determined by the first
+/// 1,024 bytes, or by all if there are fewer, and by the options (HTML standard, section 13.2.3.2).
 ///
-/// It takes bytes in chunks, and how they are cut into chunks doesn't matter. While fewer than 1,024 bytes came they wait, and the
-/// parser is handed nothing. U+FFFD stands for each error, as the decoder of the encoding tells them. A byte order mark is a
-/// character of the text; so the reader's option `discard_bom` says what becomes of it.
+/// It takes bytes in chunks, and how they are split doesn't matter. While fewer than 1,024 bytes came, they wait, and the parser
+/// of text gets nothing. U+FFFD replaces each error that the encoding's decoder returns. A byte order mark is decoded like any
+/// other character; the tokenizer's option `discard_bom` decides what becomes of it.
 ///
-/// Contracts see it as its parser, the options, where it stands with the bytes, and whether it has failed: it has after a fault,
-/// and then every call answers `Failed`.
+/// Contracts see it as its parser, the options, its stage, and whether it has failed. It has failed after an error, and then
+/// every call that returns a result fails with `Failed`.
 #[derive(Drop)]
 pub struct BytesParser<R: Reader + Drop> {
     parser: Parser<R>,
@@ -44,7 +44,7 @@ impl<R: Reader + Drop> Model for BytesParser<R> {
     ghost view = { λ p. record { parser = p.parser; opts = p.opts; stage = p.stage; failed = p.failed } };
 }
 
-// The tree of a whole page.
+// Returns the tree of a whole page.
 fn whole<R: Reader + Drop>(
     alloc: Global,
     parser: Parser<R>,
@@ -65,7 +65,7 @@ fn whole<R: Reader + Drop>(
 }
 
 impl<R: Reader + Drop> BytesParser<R> {
-    /// A parser of bytes that took nothing yet, over a parser of text that goes on where it is. It takes no memory.
+    /// Returns a new parser of bytes, over a parser of text that continues from its state. Allocates nothing.
     pub fn new(alloc: Global, parser: Parser<R>, opts: EncodingOpts) -> BytesParser<R>
         ensures parser { result.parser ≡ parser }
         ensures opts { result.opts ≡ opts }
@@ -82,29 +82,29 @@ impl<R: Reader + Drop> BytesParser<R> {
         }
     }
 
-    /// The encoding that the page is in, and what it is known by. `None` while fewer than 1,024 bytes came.
+    /// Returns the page's encoding, and where it comes from, or `None` while fewer than 1,024 bytes came.
     pub fn encoding(&self) -> Option<(Encoding, Source)>
         ensures { result ≡ decided_in self.now.stage }
     {
         self.stage.encoding()
     }
 
-    /// Whether U+FFFD has stood for bytes, as far as their text is decided. It isn't told of UTF-8: `false` there.
+    /// Returns true if U+FFFD has replaced bytes, as far as their text is decided. UTF-8 isn't counted: always false for it.
     pub fn has_errors(&self) -> bool
         ensures { result ≡ nat_lt 0 (replaced_in self.now.stage) }
     {
-        self.stage.replaced() > 0
+        self.stage.replacement_count() > 0
     }
 
-    /// How many U+FFFD have stood for bytes, as far as their text is decided, at most as many as a u64 holds. It isn't told of UTF-8:
-    /// 0 there.
-    pub fn replaced(&self) -> u64
+    /// Returns how many U+FFFD have replaced bytes, as far as their text is decided. The count stops at the maximum of `u64`.
+    /// UTF-8 isn't counted: always 0 for it.
+    pub fn replacement_count(&self) -> u64
         ensures { result ≡ replaced_in self.now.stage }
     {
-        self.stage.replaced()
+        self.stage.replacement_count()
     }
 
-    // Takes the next chunk of the bytes, whatever was before.
+    // Parses the next chunk of the bytes, even if the parser has failed.
     fn take(&mut self, bytes: &[u8]) -> Result<(), BuildFault>
         ensures takes { OnOk result (ProcessedBytes R.Reader bytes.now self.old self.new) }
         ensures flag { self.new.failed ≡ self.old.failed }
@@ -117,11 +117,11 @@ impl<R: Reader + Drop> BytesParser<R> {
         }
     }
 
-    /// Takes the next chunk of the bytes: its text, as far as that is decided, as `Parser::process` takes a piece. While fewer than
-    /// 1,024 bytes came they wait.
+    /// Parses the next chunk of the bytes: its text, as far as that is decided, as `Parser::process` does. While fewer than
+    /// 1,024 bytes came, they wait.
     ///
-    /// It answers `Memory` where memory is refused, and `Failed` after that; then nothing has changed. Where its parser had
-    /// failed before, it answers `Failed` as soon as that is handed a text.
+    /// Fails with `Memory` if an allocation fails; the parser has then failed. Fails with `Failed`, and changes nothing, if the
+    /// parser had failed before. If its parser of text had failed before, fails with `Failed` as soon as that gets text.
     pub fn process(&mut self, bytes: &[u8]) -> Result<(), BuildFault>
         ensures takes { OnOk result (ProcessedBytes R.Reader bytes.now self.old self.new) }
         ensures works { OnOk result (self.new.failed ≡ false) }
@@ -139,10 +139,10 @@ impl<R: Reader + Drop> BytesParser<R> {
         Ok(())
     }
 
-    /// The end of the bytes: what the sink gives. U+FFFD stands for a character that isn't finished.
+    /// Ends the bytes, and returns the output of the sink. U+FFFD replaces an unfinished character.
     ///
-    /// It has built what the tokens of the text of all bytes build, by the rules of tree construction. It answers `Memory` where
-    /// memory is refused, and `Failed` where that was before.
+    /// The tree is what tree construction builds from the tokens of the text of all bytes. Fails with `Memory` if an allocation
+    /// fails, and with `Failed` if the parser had failed before.
     pub fn finish(self) -> Result<<R::Sink as TreeSink>::Output, BuildFault>
         ensures parses { IfOk result (λ output. Parses R.Reads R.Sink.choices (text_of R.Reader self.parser) (view_of R.Reader self.parser) (self.parser.waiting ++ text_behind self.opts self.stage []) (R.Sink.told output)) }
         ensures failed { self.failed ≡ true → result ≡ Err BuildFault.Failed }
@@ -164,8 +164,8 @@ impl<R: Reader + Drop> BytesParser<R> {
         }
     }
 
-    /// Takes all bytes, and their end: `process`, and `finish`. The text of a plain document gives that document, as by
-    /// `Parser::process_pieces`.
+    /// Parses all bytes: `process`, then `finish`. From the text of a readable plain document it makes that document, as
+    /// `Parser::process_pieces` does. Fails like `finish`.
     pub fn one(self, bytes: &[u8]) -> Result<<R::Sink as TreeSink>::Output, BuildFault>
         ensures parses { IfOk result (λ output. Parses R.Reads R.Sink.choices (text_of R.Reader self.parser) (view_of R.Reader self.parser) (self.parser.waiting ++ text_behind self.opts self.stage bytes.now) (R.Sink.told output)) }
         ensures plain { IfOk result (λ output. BringsBack R.first (text_of R.Reader self.parser) (view_of R.Reader self.parser) self.parser.waiting (text_behind self.opts self.stage bytes.now) (R.Sink.told output)) }

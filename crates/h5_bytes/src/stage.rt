@@ -1,4 +1,4 @@
-//! Where a parser of bytes stands with them.
+//! The stages of a parser of bytes.
 ghost use Rattle.std.specs.Prelude.{◌≡◌, ℕ, List, [], IfOk, Some, option_map, string_bytes};
 ghost use Rattle.h5_encodings.specs.declared.sniffing.EncodingOpts.{EncodingOpts};
 ghost use Rattle.h5_encodings.specs.Decoding.{Decodes, start};
@@ -7,19 +7,19 @@ ghost use Rattle.h5_bytes.specs.Texts.{Takes, decided_in, encoding_of_bytes, rep
 use h5_encodings::{Decoder, Encoding, EncodingOpts, Source, sniff};
 use std::alloc::{AllocError, Global};
 
-// So many bytes decide the encoding.
+// This number of bytes determines the encoding.
 const SNIFFED: usize = 1024;
 
-/// Where a parser of bytes stands with them.
+/// The stage of a parser of bytes.
 #[derive(Drop)]
 pub enum Stage {
     /// Fewer than 1,024 bytes came. They wait.
     Sniffing(Vec<u8>),
-    /// The encoding is decided, by this.
+    /// The encoding is determined, and comes from this source.
     Decoding(Decoder, Source),
 }
 
-// The bytes that decide the encoding, read in it.
+// The bytes that determine the encoding, decoded in it.
 #[derive(Drop)]
 pub(super) struct Sniffed {
     pub(super) decoder: Decoder,
@@ -27,7 +27,7 @@ pub(super) struct Sniffed {
     pub(super) text: String,
 }
 
-// What the first bytes decide.
+// Determines the encoding from the first bytes, and decodes them.
 pub(super) fn read_first(
     alloc: Global,
     opts: EncodingOpts,
@@ -47,7 +47,7 @@ pub(super) fn read_first(
 }
 
 impl Stage {
-    // Nothing came yet.
+    // Returns the stage before any bytes.
     pub(super) fn new(alloc: Global) -> Stage
         ensures waits { waiting_in result ≡ Some [] }
         ensures text { (opts : EncodingOpts) (bytes : List ℕ) → text_behind opts result bytes ≡ text_of_bytes opts bytes }
@@ -55,7 +55,7 @@ impl Stage {
         Stage::Sniffing(Vec::new(alloc))
     }
 
-    // The text of the next bytes as far as it is decided; none while they wait.
+    // Returns the text of the next bytes as far as it is decided, or none while they wait.
     pub(super) fn decode(
         &mut self,
         alloc: Global,
@@ -82,7 +82,7 @@ impl Stage {
         }
     }
 
-    // The encoding, once it is decided.
+    // Returns the encoding, once it is determined.
     pub(super) fn encoding(&self) -> Option<(Encoding, Source)>
         ensures { result ≡ decided_in self.now }
     {
@@ -92,13 +92,13 @@ impl Stage {
         }
     }
 
-    // How many U+FFFD have stood for bytes.
-    pub(super) fn replaced(&self) -> u64
+    // Returns how many U+FFFD have replaced bytes.
+    pub(super) fn replacement_count(&self) -> u64
         ensures { result ≡ replaced_in self.now }
     {
         match self {
             Stage::Sniffing(_first) => 0,
-            Stage::Decoding(decoder, _source) => decoder.replaced(),
+            Stage::Decoding(decoder, _source) => decoder.replacement_count(),
         }
     }
 }

@@ -1,4 +1,4 @@
--- What is handed out of pages: blocks of their trees, texts, links.
+-- What the calls for whole pages return: blocks, texts, links.
 use Rattle.std.specs.Prelude.{◌≡◌, ℕ, ◌/◌, ◌%◌, ◌==◌, Bool, false, if◌then◌else◌, List, [], ◌∷◌, ◌++◌, Option, None, Some}
 use Rattle.std.specs.List.{flat_map}
 use Rattle.std.specs.Str.Lossy.{utf8_lossy}
@@ -15,7 +15,7 @@ use Rattle.h5_page.specs.Links.{LinkText, links_of}
 use Rattle.h5_page.specs.Text.{text_of}
 use Rattle.h5_page.specs.declared.text_writer.TextOpts.{TextOpts}
 
--- options: the first bit says that scripts run, the second that a page is the `srcdoc` of an `iframe`
+-- options: the first bit means that scripting is on, the second that the page is the `srcdoc` of an `iframe`
 abbrev pub is_scripting : ℕ → Bool
 is_scripting options = options % 2 == 1
 
@@ -61,7 +61,7 @@ pub record IsBlockOfFragment (options : ℕ) (page : List ℕ) (name : QualName)
   pub holds : held columns ≡ fragment_columns arena
   pub packed : block ≡ block_of columns
 
--- the text of a page whose lines are at most so wide, or as long as they are where that is 0
+-- the text of a page in lines of at most this width; 0 doesn't wrap them
 abbrev pub text_opts : (width : ℕ) → TextOpts
 text_opts width = record { width = if width == 0 then None else Some width; has_numbers = false }
 
@@ -70,7 +70,7 @@ pub record IsTextOfPage (page : List ℕ) (width : ℕ) (text : List ℕ) : Type
   pub is_tree : IsTree 0 page arena
   pub text_is : text ≡ text_of (text_opts width) (walk_of (forest_seen arena) 0 (ChildrenOnly None))
 
--- its links: of each where it leads, a NUL, its text, a NUL
+-- its links: the target of each, a NUL, its text, a NUL
 abbrev pub bytes_of_link : LinkText → List ℕ
 bytes_of_link link = link.href ++ 0 ∷ link.text ++ 0 ∷ []
 

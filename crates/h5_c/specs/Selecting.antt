@@ -1,4 +1,4 @@
--- What a call that is handed the text of a selector answers.
+-- The result of a call with the text of a selector.
 use Rattle.std.specs.Prelude.{◌≡◌, ◌⊎◌, ℕ, List, [], Some, map}
 use Rattle.std.specs.Option.{option_map_or}
 use Rattle.html_tree_builder.specs.ArenaModel.{place}
@@ -13,11 +13,11 @@ use Rattle.h5_flat.specs.Unpacked.{id_of}
 use Rattle.h5_flat.specs.declared.unpack.Unpacked.{Unpacked}
 use Rattle.h5_c.specs.Status.{HandsOutSuch}
 
--- the elements below the node of a number that one of some selectors matches, in tree order; below a text stand none
+-- the elements below the node with a number that one of these selectors matches, in tree order; a text has none below it
 abbrev pub selected_below : Unpacked → (number : ℕ) → List Formula → List ℕ
 selected_below tree n list = option_map_or (λ p. selected tree.arena p list) (place_of tree n) []
 
--- words that are their numbers, in the tree of a block
+-- words that are the numbers of elements in the tree of a block
 pub record AreSelected (block : List ℕ) (number : ℕ) (list : List Formula) (bytes : List ℕ) : Type 0 where
   pub tree : Unpacked
   pub is_tree : IsTreeOf block tree
@@ -27,13 +27,13 @@ pub record AreSelected (block : List ℕ) (number : ℕ) (list : List Formula) (
   pub are_numbers : map (id_of tree) numbers ≡ map Some found
   pub bytes_are : bytes ≡ bytes_of_words numbers
 
--- the same of selectors that ask what a text asks
+-- as above, for the selectors of a text
 pub record AreAsked (block : List ℕ) (number : ℕ) (selector : List Asked) (bytes : List ℕ) : Type 0 where
   pub list : List Formula
   pub asks : map asked list ≡ selector
   pub are_selected : AreSelected block number list bytes
 
--- the elements are handed out, or the block has no tree; or what is wrong with the selector; or memory is refused
+-- the elements are returned, or the block has no tree; or a message about the selector is returned; or an allocation fails
 abbrev pub Answers : (block : List ℕ) → (number : ℕ) → Outcome (List Asked) → (status count : ℕ) → Type 0
 Answers block number (Found selector) status count = (status ≡ 3) ⊎ HandsOutSuch (AreAsked block number selector) status count
 Answers block number Absent status count = (status ≡ 1) ⊎ (status ≡ 5)

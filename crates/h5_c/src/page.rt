@@ -2,7 +2,7 @@
 ghost use Rattle.std.specs.Prelude.{◌≡◌, ◌++◌, IfOk, OnOk};
 ghost use Rattle.std.specs.Str.Lossy.{utf8_lossy};
 ghost use Rattle.html_tree_builder.specs.Cleaned.{IsCleaned};
-ghost use Rattle.html_tree_builder.specs.TextPolicy.{text_rules};
+ghost use Rattle.html_tree_builder.specs.DefaultPolicy.{default_rules};
 ghost use Rattle.h5_page.specs.Links.{link_text, link_texts};
 ghost use Rattle.h5_c.specs.Pages.{AreLinksOfPage, IsTextOfPage, bytes_of_link, bytes_of_links, text_opts};
 ghost use Rattle.h5_c.specs.Status.{HandsOutSuch};
@@ -10,7 +10,7 @@ ghost use Rattle.h5_c.specs.Status.{HandsOutSuch};
 use super::parse::tree_of;
 use super::status::give;
 use h5_page::{Link, TextOpts, links_of, text_with};
-use html_tree_builder::clean::{TextPolicy, clean};
+use html_tree_builder::clean::{DefaultPolicy, clean};
 use std::alloc::{AllocError, Global};
 
 // The layout for lines of this width; 0 doesn't wrap them.
@@ -62,10 +62,10 @@ fn link_bytes(alloc: Global, page: &[u8]) -> Result<Vec<u8>, AllocError>
 }
 
 fn cleaned(alloc: Global, html: &[u8]) -> Result<Vec<u8>, AllocError>
-    ensures { IfOk result (λ left. IsCleaned text_rules (utf8_lossy html.now) left.items) }
+    ensures { IfOk result (λ left. IsCleaned default_rules (utf8_lossy html.now) left.items) }
 {
     let html = String::from_utf8_lossy(alloc, html)?;
-    let left = clean(alloc, html.as_str(), &TextPolicy)?;
+    let left = clean(alloc, html.as_str(), &DefaultPolicy)?;
     Ok(left.into_bytes())
 }
 
@@ -104,7 +104,7 @@ pub extern "C" fn hengaruto_clean(
     cleaned_html: &mut *mut u8,
     length: &mut usize,
 ) -> u32
-    ensures { HandsOutSuch (IsCleaned text_rules (utf8_lossy html.now)) result length.new }
+    ensures { HandsOutSuch (IsCleaned default_rules (utf8_lossy html.now)) result length.new }
 {
     give(cleaned(alloc, html), cleaned_html, length)
 }

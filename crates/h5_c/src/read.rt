@@ -5,7 +5,7 @@ ghost use Rattle.h5_flat.specs.Block as b;
 ghost use Rattle.h5_flat.specs.Html as h;
 ghost use Rattle.h5_flat.specs.Sound.{is_sound};
 
-use super::status::{NO_NODE, NO_TREE, OK, give};
+use super::status::{BAD_BLOCK, NO_NODE, OK, give};
 use h5_flat::{NOTHING, Span, View, html_of};
 use std::alloc::Global;
 
@@ -25,7 +25,7 @@ pub extern "C" fn hengaruto_html(
         → HandsOut (h.html_of block.now node (not (outer == 0))) result length.new }
 {
     let Some(view) = View::of(block) else {
-        return NO_TREE;
+        return BAD_BLOCK;
     };
     if node >= view.node_count() {
         return NO_NODE;
@@ -40,7 +40,7 @@ pub extern "C" fn hengaruto_check(block: &[u8]) -> u32
 {
     match View::of(block) {
         Some(view) if view.is_sound() => OK,
-        _ => NO_TREE,
+        _ => BAD_BLOCK,
     }
 }
 
@@ -103,7 +103,7 @@ pub extern "C" fn hengaruto_first_child(block: &[u8], node: u32) -> u32
 
 /// The next sibling of a node, which has a greater number.
 #[unsafe(no_mangle)]
-pub extern "C" fn hengaruto_next(block: &[u8], node: u32) -> u32
+pub extern "C" fn hengaruto_next_sibling(block: &[u8], node: u32) -> u32
     ensures read { result ≡ (if b.is_block block.now then b.next_in block.now node else b.nothing) }
     ensures behind { (node < result) ⊎ (result ≡ 4294967295) }
 {
@@ -115,7 +115,7 @@ pub extern "C" fn hengaruto_next(block: &[u8], node: u32) -> u32
 
 /// The first node after the descendants of a node: a greater number.
 #[unsafe(no_mangle)]
-pub extern "C" fn hengaruto_end(block: &[u8], node: u32) -> u32
+pub extern "C" fn hengaruto_subtree_end(block: &[u8], node: u32) -> u32
     ensures read { result ≡ (if b.is_block block.now then b.end_in block.now node else b.nothing) }
     ensures behind { (node < result) ⊎ (result ≡ 4294967295) }
 {
@@ -127,7 +127,7 @@ pub extern "C" fn hengaruto_end(block: &[u8], node: u32) -> u32
 
 /// The fragment that holds the contents of a template.
 #[unsafe(no_mangle)]
-pub extern "C" fn hengaruto_contents(block: &[u8], node: u32) -> u32
+pub extern "C" fn hengaruto_template_contents(block: &[u8], node: u32) -> u32
     ensures { result ≡ (if b.is_block block.now then b.contents_in block.now node else b.nothing) }
 {
     match View::of(block) {
@@ -197,7 +197,7 @@ pub extern "C" fn hengaruto_name_text(
 {
     match View::of(block) {
         Some(view) => put(view.name_text(name), at, count),
-        None => NO_TREE,
+        None => BAD_BLOCK,
     }
 }
 
@@ -210,13 +210,13 @@ pub extern "C" fn hengaruto_text(block: &[u8], node: u32, at: &mut usize, count:
 {
     match View::of(block) {
         Some(view) => put(view.text(node), at, count),
-        None => NO_TREE,
+        None => BAD_BLOCK,
     }
 }
 
 /// The number of rows of a node.
 #[unsafe(no_mangle)]
-pub extern "C" fn hengaruto_row_count(block: &[u8], node: u32) -> u32
+pub extern "C" fn hengaruto_attribute_count(block: &[u8], node: u32) -> u32
     ensures { result ≡ (if b.is_block block.now then b.row_count_in block.now node else 0) }
 {
     match View::of(block) {
@@ -227,7 +227,7 @@ pub extern "C" fn hengaruto_row_count(block: &[u8], node: u32) -> u32
 
 /// A row of a node: the number of its name, and the place of its value.
 #[unsafe(no_mangle)]
-pub extern "C" fn hengaruto_row(
+pub extern "C" fn hengaruto_attribute_at(
     block: &[u8],
     node: u32,
     index: u32,
@@ -240,7 +240,7 @@ pub extern "C" fn hengaruto_row(
     ensures none { b.is_block block.now ≡ false → result ≡ 3 }
 {
     let Some(view) = View::of(block) else {
-        return NO_TREE;
+        return BAD_BLOCK;
     };
     match view.row(node, index) {
         Some(row) => {

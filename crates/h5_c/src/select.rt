@@ -6,10 +6,10 @@ ghost use Rattle.html_tree_builder.specs.ArenaModel.{place};
 ghost use Rattle.h5_c.specs.Selecting.{Answers, AreSelected, selected_below};
 ghost use Rattle.h5_flat.specs.Block as b;
 
-use super::status::{BAD_ARGUMENT, BAD_SELECTOR, MEMORY, NO_NODE, NO_TREE, bytes_of, give};
+use super::status::{BAD_ARGUMENT, BAD_BLOCK, BAD_SELECTOR, NO_MEMORY, NO_NODE, bytes_of, give};
 use h5_flat::{Unpacked, View, arena_of};
 use html_tree_builder::NodeId;
-use html_tree_builder::select::{Selector, SelectorFault};
+use html_tree_builder::select::{Selector, SelectorError};
 use std::alloc::{AllocError, Global};
 use std::fmt::Write;
 
@@ -51,7 +51,7 @@ fn select(
 }
 
 // The message about an invalid selector.
-fn message_of(alloc: Global, fault: SelectorFault) -> Result<Vec<u8>, AllocError> {
+fn message_of(alloc: Global, fault: SelectorError) -> Result<Vec<u8>, AllocError> {
     let mut message = String::new(alloc);
     match write!(message, "{fault}") {
         Ok(()) => Ok(message.into_bytes()),
@@ -59,7 +59,7 @@ fn message_of(alloc: Global, fault: SelectorFault) -> Result<Vec<u8>, AllocError
     }
 }
 
-/// The elements below a node that a selector matches, in tree order, or a message that says what is wrong with the selector. Returns `NO_TREE`
+/// The elements below a node that a selector matches, in tree order, or a message that says what is wrong with the selector. Returns `BAD_BLOCK`
 /// if no tree was packed into the block.
 #[unsafe(no_mangle)]
 pub extern "C" fn hengaruto_select(
@@ -77,7 +77,7 @@ pub extern "C" fn hengaruto_select(
         → Answers block.now node (selectors_of (chars selector.now)) result length.new }
 {
     let Some(view) = View::of(block) else {
-        return NO_TREE;
+        return BAD_BLOCK;
     };
     if node >= view.node_count() {
         return NO_NODE;
@@ -88,12 +88,12 @@ pub extern "C" fn hengaruto_select(
     match Selector::parse(alloc, text) {
         Ok(selector) => match select(alloc, &view, node, &selector) {
             Ok(Some(bytes)) => give(Ok(bytes), found, length),
-            Ok(None) => NO_TREE,
-            Err(AllocError) => MEMORY,
+            Ok(None) => BAD_BLOCK,
+            Err(AllocError) => NO_MEMORY,
         },
-        Err(SelectorFault::Memory) => MEMORY,
+        Err(SelectorError::Memory) => NO_MEMORY,
         Err(fault) => match give(message_of(alloc, fault), found, length) {
-            MEMORY => MEMORY,
+            NO_MEMORY => NO_MEMORY,
             _ => BAD_SELECTOR,
         },
     }

@@ -9,13 +9,13 @@ use std::mem::forget;
 pub(crate) const OK: u32 = 0;
 
 /// An allocation failed, or a tree is too large for a block.
-pub(crate) const MEMORY: u32 = 1;
+pub(crate) const NO_MEMORY: u32 = 1;
 
 /// No such node, row or name.
 pub(crate) const NO_NODE: u32 = 2;
 
 /// The bytes aren't a block, or not one that a tree was packed into.
-pub(crate) const NO_TREE: u32 = 3;
+pub(crate) const BAD_BLOCK: u32 = 3;
 
 /// A name or a selector that isn't UTF-8, or a namespace that has no elements.
 pub(crate) const BAD_ARGUMENT: u32 = 4;
@@ -35,11 +35,11 @@ pub(crate) fn give(made: Result<Vec<u8>, AllocError>, out: &mut *mut u8, length:
     ensures { MatchResult made (λ bytes. HandsOut bytes.items result length.new) (λ _. result ≡ 1) }
 {
     let Ok(bytes) = made else {
-        return MEMORY;
+        return NO_MEMORY;
     };
     let count = bytes.len();
     let Ok(mut bytes) = with_nul(bytes) else {
-        return MEMORY;
+        return NO_MEMORY;
     };
     *length = count;
     *out = bytes.as_mut_ptr();

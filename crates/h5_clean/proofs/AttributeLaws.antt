@@ -14,16 +14,16 @@ use Rattle.h5_names.specs.declared.qualified.QualName.{QualName}
 use Rattle.h5_interface.specs.Changes.{has_attribute}
 use Rattle.h5_tables.specs.TagSets.{is_one_of}
 use Rattle.h5_plain.specs.Plain.{ArePlain}
-use Rattle.h5_clean.specs.Policies.{ArePrefixed, Rules, as_left, attributes_left, bare, id_names, is_name, left_behind, prefix_of, rel_of, sets, stays, value_left}
+use Rattle.h5_clean.specs.Policies.{ArePrefixed, MayStay, Rules, acting_names, as_left, attributes_left, bare, id_list_names, id_names, is_name, is_refused, left_behind, may_act, may_stay, named_behind, prefix_of, refused_names, rel_of, sets, stays, value_left}
 use Rattle.h5_round_trip.specs.Readable.{AreNameBytes, AreReadable, IsName, IsReadable, is_name_byte}
 use Rattle.h5_clean.specs.Texts.{readable}
-use Rattle.h5_clean.proofs.PrefixLaws.{value_begins, value_reads, value_same}
+use Rattle.h5_clean.proofs.PrefixLaws.{value_begins, value_named, value_reads, value_same}
 use Rattle.h5_clean.proofs.TextLaws.{readable_reads, reads_utf8}
 
 -- ---- one attribute more
 
 -- it stays by these tests
-pub stays_by : (r : Rules) (e : List ℕ) (before : List AttributeText) (a : AttributeText) → is_same_text a.name.ns [] ≡ true → is_name a.name.local ≡ true → is_utf8 a.value ≡ true
+pub stays_by : (r : Rules) (e : List ℕ) (before : List AttributeText) (a : AttributeText) → is_same_text a.name.ns [] ≡ true → may_stay r a.name.local ≡ true → is_utf8 (value_left r a.name.local a.value) ≡ true
     → r.keeps e a.name.local (value_left r a.name.local a.value) ≡ true → sets r e a.name.local ≡ false → has_attribute (bare a.name.local) before ≡ false → stays r e before a ≡ true
 stays_by r e before a space named utf8 keeps unset none =
     and_from _ _ space (and_from _ _ named (and_from _ _ utf8 (and_from _ _ keeps (and_from _ _ (ap not unset) (ap not none)))))
@@ -59,11 +59,12 @@ is_name_so (x ∷ xs) h = name_bytes (x ∷ xs) h
 
 -- ---- attributes as they are left
 
--- one that stays as it is, where none before it has its name
+-- one that stays as it is, if none before it has its name
 record Kept (r : Rules) (e : List ℕ) (a : AttributeText) : Type 0 where
   bare_name : a.name ≡ bare a.name.local
-  named : is_name a.name.local ≡ true
+  may : may_stay r a.name.local ≡ true
   reads : IsReadable a.value
+  behind : named_behind (prefix_of r.prefix) a.name.local a.value ≡ a.value
   begins : is_one_of id_names a.name.local ≡ true → starts_with nat_eq a.value (prefix_of r.prefix) ≡ true
   keeps : r.keeps e a.name.local a.value ≡ true
   unset : sets r e a.name.local ≡ false
@@ -93,16 +94,17 @@ plain_more (b ∷ before) a p q w n =
 one_more : (r : Rules) (e : List ℕ) (before : List AttributeText) (a : AttributeText) → Left r e before → stays r e before a ≡ true → Left r e (before ++ as_left r a ∷ [])
 one_more r e before a l h =
     let space = and_parts (is_same_text a.name.ns []) _ h in
-    let name = and_parts (is_name a.name.local) _ space.1 in
-    let utf8 = and_parts (is_utf8 a.value) _ name.1 in
+    let name = and_parts (may_stay r a.name.local) _ space.1 in
+    let utf8 = and_parts (is_utf8 (value_left r a.name.local a.value)) _ name.1 in
     let keeps = and_parts (r.keeps e a.name.local (value_left r a.name.local a.value)) _ utf8.1 in
     let unset = and_parts (not (sets r e a.name.local)) _ keeps.1 in
     record {
       kept = kept_more r e before (as_left r a) l.kept
           (record {
             bare_name = refl;
-            named = name.0;
+            may = name.0;
             reads = value_reads r a.name.local a.value utf8.0;
+            behind = value_named r a.name.local a.value;
             begins = value_begins r a.name.local a.value;
             keeps = keeps.0;
             unset = not-true _ unset.0;
@@ -131,7 +133,7 @@ no_rel r e value (b ∷ before) h s k =
     by true t = absurd (false≢true (sym k.0.unset ∙ and_from _ _ h (and_from _ _ t (ap is_some s))))
     by false t = and_right _ _ (and_right _ _ t)
 
--- what holds without it, and with it, holds of all that is left
+-- what holds without it, and with it, holds for all that is left
 ending : (r : Rules) (e : List ℕ) (front : List AttributeText) (P : List AttributeText → Type 0) → P front
     → ((value : List ℕ) → is_same_text e (codes "a") ≡ true → r.rel ≡ Some value → is_utf8 value ≡ true → P (front ++ rel value ∷ []))
     → P (front ++ (if is_same_text e (codes "a") then rel_of r.rel else []))
@@ -158,7 +160,7 @@ left_plain r e attrs =
 
 readable_with : (r : Rules) (e : List ℕ) (before more : List AttributeText) → AreKept r e before → AreReadable more → AreReadable (before ++ more)
 readable_with r e [] more k m = m
-readable_with r e (a ∷ before) more k m = (is_name_so a.name.local k.0.named, (k.0.reads, readable_with r e before more k.1 m))
+readable_with r e (a ∷ before) more k m = (is_name_so a.name.local (and_parts (is_name a.name.local) _ k.0.may).0, (k.0.reads, readable_with r e before more k.1 m))
 
 pub left_readable : (r : Rules) (e : List ℕ) (attrs : List AttributeText) → AreReadable (attributes_left r e attrs)
 left_readable r e attrs =
@@ -167,21 +169,48 @@ left_readable r e attrs =
     (subst AreReadable (append-nil (left_behind r e [] attrs)) (readable_with r e (left_behind r e [] attrs) [] l.kept tt))
     (λ value h s u. readable_with r e (left_behind r e [] attrs) (rel value ∷ []) l.kept (is_name_so (codes "rel") refl, (readable_reads value u, tt)))
 
--- what is set is no name of a thing
+-- the attribute that is set has no id, refers to none, and may stay
 rel_is_none : is_one_of id_names (codes "rel") ≡ false
 unfolding id_names
 rel_is_none = refl
 
+rel_is_as_it_is : (p value : List ℕ) → named_behind p (codes "rel") value ≡ value
+unfolding id_names id_list_names
+rel_is_as_it_is p value = refl
+
+rel_may_act : (p : List ℕ) → may_act p (codes "rel") ≡ true
+unfolding acting_names
+rel_may_act [] = refl
+rel_may_act (b ∷ p) = refl
+
+rel_is_let : is_refused (codes "rel") ≡ false
+unfolding refused_names
+rel_is_let = refl
+
+rel_may_stay : (r : Rules) → may_stay r (codes "rel") ≡ true
+rel_may_stay r = and_from _ _ refl (and_from _ _ (ap not rel_is_let) (rel_may_act (prefix_of r.prefix)))
+
 prefixed_with : (r : Rules) (e : List ℕ) (before more : List AttributeText) → AreKept r e before → ArePrefixed r more → ArePrefixed r (before ++ more)
 prefixed_with r e [] more k m = m
-prefixed_with r e (a ∷ before) more k m = (k.0.begins, prefixed_with r e before more k.1 m)
+prefixed_with r e (a ∷ before) more k m = (k.0.begins, (k.0.behind, prefixed_with r e before more k.1 m))
 
 pub left_prefixed : (r : Rules) (e : List ℕ) (attrs : List AttributeText) → ArePrefixed r (attributes_left r e attrs)
 left_prefixed r e attrs =
     let l = front r e attrs in
     ending r e (left_behind r e [] attrs) (ArePrefixed r)
     (subst (ArePrefixed r) (append-nil (left_behind r e [] attrs)) (prefixed_with r e (left_behind r e [] attrs) [] l.kept tt))
-    (λ value h s u. prefixed_with r e (left_behind r e [] attrs) (rel value ∷ []) l.kept ((λ i. absurd (false≢true (sym rel_is_none ∙ i))), tt))
+    (λ value h s u. prefixed_with r e (left_behind r e [] attrs) (rel value ∷ []) l.kept ((λ i. absurd (false≢true (sym rel_is_none ∙ i))), (rel_is_as_it_is (prefix_of r.prefix) (readable value), tt)))
+
+may_with : (r : Rules) (e : List ℕ) (before more : List AttributeText) → AreKept r e before → MayStay r more → MayStay r (before ++ more)
+may_with r e [] more k m = m
+may_with r e (a ∷ before) more k m = (k.0.may, may_with r e before more k.1 m)
+
+pub left_may : (r : Rules) (e : List ℕ) (attrs : List AttributeText) → MayStay r (attributes_left r e attrs)
+left_may r e attrs =
+    let l = front r e attrs in
+    ending r e (left_behind r e [] attrs) (MayStay r)
+    (subst (MayStay r) (append-nil (left_behind r e [] attrs)) (may_with r e (left_behind r e [] attrs) [] l.kept tt))
+    (λ value h s u. may_with r e (left_behind r e [] attrs) (rel value ∷ []) l.kept (rel_may_stay r, tt))
 
 -- ---- what was left is left again
 
@@ -190,7 +219,7 @@ left_append r e before [] more = refl
 left_append r e before (a ∷ attrs) more = left_append r e (if stays r e before a then before ++ as_left r a ∷ [] else before) attrs more
 
 kept_value : (r : Rules) (e : List ℕ) (a : AttributeText) → Kept r e a → value_left r a.name.local a.value ≡ a.value
-kept_value r e a k = value_same r a.name.local a.value k.reads k.begins
+kept_value r e a k = value_same r a.name.local a.value k.reads k.behind
 
 as_it_is : (r : Rules) (e : List ℕ) (a : AttributeText) → Kept r e a → as_left r a ≡ a
 as_it_is r e a k = ap₂ (λ (n : QualName) (v : List ℕ). record { name = n; value = v }) (sym k.bare_name) (kept_value r e a k)
@@ -203,7 +232,7 @@ none_before (b ∷ before) a attrs p =
 
 stays_again : (r : Rules) (e : List ℕ) (before : List AttributeText) (a : AttributeText) → Kept r e a → has_attribute a.name before ≡ false → stays r e before a ≡ true
 stays_again r e before a k none =
-    stays_by r e before a (ap (λ (n : QualName). is_same_text n.ns []) k.bare_name) k.named (reads_utf8 a.value k.reads)
+    stays_by r e before a (ap (λ (n : QualName). is_same_text n.ns []) k.bare_name) k.may (ap is_utf8 (kept_value r e a k) ∙ reads_utf8 a.value k.reads)
     (ap (r.keeps e a.name.local) (kept_value r e a k) ∙ k.keeps) k.unset (ap (λ n. has_attribute n before) (sym k.bare_name) ∙ none)
 
 all_again : (r : Rules) (e : List ℕ) (before attrs : List AttributeText) → AreKept r e attrs → ArePlain (before ++ attrs) → left_behind r e before attrs ≡ before ++ attrs
@@ -215,11 +244,11 @@ all_again r e before (a ∷ attrs) k p =
     ∙ all_again r e (before ++ a ∷ []) attrs k.1 (subst ArePlain (sym (append_assoc before (a ∷ []) attrs)) p)
     ∙ append_assoc before (a ∷ []) attrs
 
--- the `rel` that is set doesn't stay: it is set anew
+-- the `rel` that is set doesn't stay: it is set again
 rel_goes : (r : Rules) (e value : List ℕ) (before : List AttributeText) → is_same_text e (codes "a") ≡ true → r.rel ≡ Some value → left_behind r e before (rel value ∷ []) ≡ before
 rel_goes r e value before h s =
     let goes : stays r e before (rel value) ≡ false =
-    and_right (is_utf8 (readable value)) _ (and_right (r.keeps e (codes "rel") (value_left r (codes "rel") (readable value))) _ (and_left _ _ (ap not (and_from _ _ h (ap is_some s))))) in
+    and_right (may_stay r (codes "rel")) _ (and_right (is_utf8 (value_left r (codes "rel") (readable value))) _ (and_right (r.keeps e (codes "rel") (value_left r (codes "rel") (readable value))) _ (and_left _ _ (ap not (and_from _ _ h (ap is_some s)))))) in
     cond-false (stays r e before (rel value)) (before ++ as_left r (rel value) ∷ []) before goes
 
 pub left_again : (r : Rules) (e : List ℕ) (attrs : List AttributeText) → attributes_left r e (attributes_left r e attrs) ≡ attributes_left r e attrs

@@ -109,7 +109,7 @@ put_written (b ∷ t) (TextThen u rest) tail h =
     ap (λ l. l ++ written_before rest tail) (escape_append (b ∷ t) u h) ∙ append_assoc (escape false (b ∷ t)) (escape false u) (written_before rest tail)
 put_written (b ∷ t) (ElementThen name attrs inner rest) tail h = refl
 
--- so it is where it loses its front
+-- also at a position where a text loses its start
 module _ (change : List ℕ → List ℕ) (none : change [] ≡ []) (append : (t u : List ℕ) → IsUtf8 t → change (t ++ u) ≡ (if is_nothing (change t) then change u else change t ++ u)) where
   abbrev keeps : Bool → Nodes → Nodes
   keeps c ns = if c then with_first change ns else ns
@@ -158,7 +158,7 @@ text_written_as front.Marks t ns tail h k =
     same true = refl
     same false = refl
 
--- also where it is told which newlines are written twice
+-- also if the newlines are known that are written twice
 put_as_written : (t : List ℕ) (ns : Nodes) → as_written (put_text t ns) ≡ put_text t (as_written ns)
 put_as_written [] ns = refl
 put_as_written (b ∷ t) End = refl
@@ -171,7 +171,7 @@ text_written_if b t ns tail h k = ap (λ m. written_before (with_front b m) tail
 
 -- ---- what stands open, and how
 
--- no void element, and the last is none whose text is written as it stands
+-- no void element, and the last isn't one whose text is written unescaped
 record IsOpen (o : Opener) (os : List Opener) : Type 0 where
   shown : are_hidden (o ∷ os) ≡ false
   escaped : o.is_raw ≡ false
@@ -473,7 +473,7 @@ left_written r (CommentThen text rest) es b o os calls more tail open_ behind = 
 left_written r (DoctypeThen name rest) es b o os calls more tail open_ behind = left_written r rest es b o os calls more tail open_ behind
 left_written r (InstructionThen target content rest) es b o os calls more tail open_ behind = left_written r rest es b o os calls more tail open_ behind
 
--- the U+FEFF at the front goes from what is written, too
+-- the U+FEFF at the start is also removed from what is written
 unmarked_written : (ns : Nodes) → with_first without_marks (as_written ns) ≡ as_written (with_first without_marks ns)
 unmarked_written End = refl
 unmarked_written (TextThen t rest) = by (without_marks t)

@@ -26,7 +26,7 @@ use Rattle.h5_clean.specs.Policies.{Rules}
 use Rattle.h5_clean.specs.Source.{Done, Source, calls_before, source_of}
 use Rattle.h5_clean.proofs.CallLaws.{tree_written}
 use Rattle.h5_clean.proofs.MarkLaws.{text_unmarked}
-use Rattle.h5_clean.proofs.PassLaws.{cleaned_let, cleaned_plain, cleaned_read, cleaned_same, cleaned_unmarked, cleaned_within}
+use Rattle.h5_clean.proofs.PassLaws.{cleaned_around, cleaned_let, cleaned_plain, cleaned_read, cleaned_same, cleaned_unmarked, cleaned_within}
 use Rattle.h5_clean.proofs.SourceLaws.{nodes_told, one_tree, tree_of, tree_told}
 
 -- ---- what a walk writes is what is left
@@ -39,7 +39,7 @@ writes_walk r f n before after h =
     let told = tree_told f (shown_children f n) in
     record { source = s; told = told; written = subst (Appends before after) (ap (text_of_each after_call text_of (first_state r)) (sym told) ∙ tree_written r s) h }
 
--- where there is no root nothing is written
+-- if there is no root nothing is written
 pub writes_none : (r : Rules) (t : Option (List ℕ)) → WritesCleaned r [] t t
 writes_none r t = record { source = Done; told = refl; written = nothing t }
   where
@@ -164,6 +164,6 @@ module _ (around : (f : Forest) → IsForest f → (n : ℕ) (d : Node) → f.no
     pub stays : (r : Rules) (html out again : List ℕ) → IsCleaned r html out → IsCleaned r out again → again ≡ out
     stays r html out again h k =
         nothing_taken r out again (cleaned r h.source)
-        (record { plain = h.text.plain; readable = h.text.readable; allowed = h.allowed; within = h.within; unmarked = cleaned_unmarked r h.source })
+        (record { plain = cleaned_around r h.source; readable = h.text.readable; allowed = h.allowed; within = h.within; unmarked = cleaned_unmarked r h.source })
         (record { arena = k.is_tree.arena; builds = k.is_tree.builds; stands = comes_back r html out k.is_tree.arena h k.is_tree.builds }) k
         ∙ sym h.text.written

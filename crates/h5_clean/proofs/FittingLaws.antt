@@ -1,4 +1,4 @@
--- Lists of nodes that fit where they stand: those that are plain and can be read, and of which the rules let all through.
+-- Lists of nodes that fit at their place: they are plain, can be read, and the rules allow them completely.
 use Rattle.std.proofs.Common.{◌≡◌, ◌≢◌, ◌&&◌, ◌<◌, ◌-◌, ℕ, Bool, true, false, not, List, [], ◌∷◌, codes, nat_lt, refl, sym, ap, subst, ◌∙◌, arith}
 use Rattle.std.proofs.lemmas.Bool.{ltb-true, lt-ltb}
 use Rattle.h5_names.specs.AttributeText.{AttributeText}
@@ -22,7 +22,7 @@ abbrev pub is_filled : List ℕ → Bool
 is_filled [] = false
 is_filled (b ∷ t) = true
 
--- a text at a place, behind no other
+-- a text at a place, not after another
 pub record TextFits (after_text : Bool) (s : Spot) (t : List ℕ) : Type 0 where
   pub first : after_text ≡ false
   pub filled : is_filled t ≡ true

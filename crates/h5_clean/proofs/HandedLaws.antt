@@ -1,4 +1,4 @@
--- What a call of a cleaner does, by the call that it hands on.
+-- The effect of a call of a cleaner, by the call that it passes on.
 use Rattle.std.proofs.Common.{◌≡◌, ◌∷◌, Bool, true, false, List, [], ℕ, Option, Some, None, Result, Ok, Err, ap, subst, sym, if◌then◌else◌}
 use Rattle.std.specs.Io.KnownBytes.{Appends}
 use Rattle.std.specs.Option.{option_map_or}

@@ -12,7 +12,7 @@ use Rattle.h5_serialize.proofs.Escapes.{appends_both, escape_append}
 use Rattle.h5_plain.specs.Plain.{doubled}
 use Rattle.h5_clean.proofs.HandedLaws.{Texts, Writes, unless_map, whatever_broke}
 
--- what is answered to a text, and how it stands behind one, is the same for each text
+-- the reply to a text, and the state after it, are the same for each text
 answer_alike : (m : Standing) (x y : List ℕ) → answer_to m (TextOf x) ≡ answer_to m (TextOf y)
 answer_alike Broken x y = refl
 answer_alike (Working s c (o ∷ os)) x y = refl
@@ -48,7 +48,7 @@ refused_alike x y m n t u Failed h = record {
   broken = tt;
 }
 
--- behind a text that was taken, another is taken as both would have been
+-- after a text that was taken, another is taken as both would have been
 record Joins (m : Standing) (x y : List ℕ) : Type 0 where
   answer : answer_to (standing_after m (TextOf x)) (TextOf y) ≡ answer_to m (TextOf (x ++ y))
   after : standing_after (standing_after m (TextOf x)) (TextOf y) ≡ standing_after m (TextOf (x ++ y))

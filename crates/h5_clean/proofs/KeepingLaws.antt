@@ -3,7 +3,7 @@ use Rattle.std.proofs.Common.{◌≡◌, Bool, true, false, List, [], ◌∷◌,
 use Rattle.std.proofs.lemmas.Slice.Eq.{bytes_eq-Decides}
 use Rattle.h5_names.specs.AttributeText.{is_same_text}
 use Rattle.h5_tables.specs.TagSets.{is_one_of}
-use Rattle.h5_clean.specs.TextPolicy.{Keeping, keeps_by}
+use Rattle.h5_clean.specs.DefaultPolicy.{Keeping, keeps_by}
 use Rattle.h5_clean.proofs.NameLaws.{AreOthers}
 
 pub isnt_kept : (element attribute : List ℕ) (ks : List Keeping) → AreOthers element (map (λ k. k.element) ks) → keeps_by ks element attribute ≡ false

@@ -74,7 +74,7 @@ all_division = (refl, (refl, (refl, tt)))
 
 all_barrier : HoldsOfAll (λ n. kind_of n ≡ kind.Barrier) barrier_names
 unfolding set_rows lone_rows phrase_names inline_names open_block_names barrier_names mark_names cell_names heading_names term_names part_names
-all_barrier = (refl, (refl, (refl, (refl, (refl, (refl, (refl, (refl, (refl, (refl, (refl, (refl, (refl, (refl, (refl, (refl, (refl, (refl, (refl, (refl, (refl, tt)))))))))))))))))))))
+all_barrier = (refl, (refl, (refl, (refl, (refl, (refl, (refl, (refl, (refl, (refl, (refl, (refl, (refl, (refl, (refl, (refl, (refl, (refl, (refl, (refl, tt))))))))))))))))))))
 
 all_break : HoldsOfAll (λ n. kind_of n ≡ kind.Break) mark_names
 unfolding set_rows lone_rows phrase_names inline_names open_block_names barrier_names mark_names cell_names heading_names term_names part_names

@@ -1,4 +1,5 @@
 mod AttributeLaws
+mod BoxLaws
 mod CallLaws
 mod CleanedLaws
 mod FittingLaws

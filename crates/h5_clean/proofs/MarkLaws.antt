@@ -1,4 +1,4 @@
--- The text of a fragment begins with U+FEFF only where its first text does.
+-- The text of a fragment begins with U+FEFF only if its first text does.
 use Rattle.std.proofs.Common.{◌≡◌, ◌⊎◌, ◌∙◌, ◌&&◌, ◌==◌, ◌+◌, ◌/◌, ◌%◌, ◌<◌, ◌≤◌, ℕ, Bool, true, false, cond, List, [], ◌∷◌, ◌++◌, IsUtf8, length, nat_lt, codes, if◌then◌else◌, ap, arith, inl, inr, refl, sym, append_assoc}
 use Rattle.std.specs.Char.{encode_utf8}
 use Rattle.std.specs.List.{flat_map}
@@ -94,7 +94,7 @@ text_marked b t more (c ∷ cs, (s, e)) m =
     let first = escape_is_mark c (flat_map (escape_char false) cs ++ more) m.0 (sym written ∙ m.1) in
     (encode_utf8_all cs, sym e ∙ ap (λ l. l ++ encode_utf8_all cs) first)
 
--- nothing is left at its front
+-- nothing is left at its start
 marks_shorter : (t : List ℕ) → length (without_marks t) ≤ length t
 marks_shorter [] = omega arith
 marks_shorter (a ∷ []) = omega arith
@@ -112,7 +112,7 @@ unmarked_stays t e m =
     let long : length (without_marks m.0) ≡ length m.0 + 3 = ap length same ∙ omega arith in
     omega (arith, marks_shorter m.0, long)
 
--- behind a text no text follows
+-- no text follows a text
 NotText : Nodes → Type 0
 NotText (TextThen text rest) = ⊥
 NotText _ = Unit {0}

@@ -8,10 +8,11 @@ use Rattle.h5_rules.specs.formatting.FormattingNames.{html_name}
 use Rattle.h5_rules.proofs.BlankLaws.{all_blank-append}
 use Rattle.h5_rules.proofs.BoolLaws.{and_both}
 use Rattle.h5_plain.specs.Plain.{ElementThen, End, Flow, IsPlain, Nodes, TextThen, nothing_open}
+use Rattle.h5_plain.proofs.LessLaws.{plain_alone}
 use Rattle.h5_round_trip.specs.Readable.{CanBeRead, IsReadable}
 use Rattle.h5_clean.specs.Kinds.{kind_of}
 use Rattle.h5_clean.specs.Pass.{AllLet, IsWithin, cleaned, first_place, is_dropped, is_let, left_before, put_text, text_then, with_first}
-use Rattle.h5_clean.specs.Places.{fits, fits_at, inside, nowhere}
+use Rattle.h5_clean.specs.Places.{around, fits, fits_at, inside, nowhere}
 use Rattle.h5_clean.specs.Policies.{Rules, attributes_left}
 use Rattle.h5_clean.specs.Source as source
 use Rattle.h5_clean.specs.Source.{CommentThen, DoctypeThen, Done, InstructionThen, Source, source_of}
@@ -50,7 +51,7 @@ stands_joined spot.InColumns t u h k = blank_joined t u h k
 stands_joined spot.InSection t u h k = blank_joined t u h k
 stands_joined spot.InRow t u h k = blank_joined t u h k
 
--- what follows a text fits at the front too
+-- nodes that fit after a text also fit at the start
 front_fits : (r : Rules) (x : Place) (ns : Nodes) → IsFitting r true x ns → IsFitting r false x ns
 front_fits r x End f = f
 front_fits r x (TextThen t rest) f = absurd (let e : ◌≡◌ {A = Bool} true false = f.0.first in cc)
@@ -196,8 +197,12 @@ module _ (r : Rules) where
   cleaned_fits s =
       first_fits r (first_place r) without_marks (left_before r (first_place r) s End) (λ t h. (refl, reads_without_marks t h)) (left_fits (first_place r) s End tt)
 
+  pub cleaned_around : (s : Source) → IsPlain true (Flow false (around (first_place r))) (cleaned r s)
+  cleaned_around s = fitting_plain r false (first_place r) (cleaned r s) (cleaned_fits s)
+
+  -- so it is if nothing is open
   pub cleaned_plain : (s : Source) → IsPlain true (Flow false nothing_open) (cleaned r s)
-  cleaned_plain s = fitting_plain r false (first_place r) (cleaned r s) (cleaned_fits s)
+  cleaned_plain s = plain_alone (cleaned r s) (cleaned_around s)
 
   pub cleaned_read : (s : Source) → CanBeRead (cleaned r s)
   cleaned_read s = fitting_read r false (first_place r) (cleaned r s) (cleaned_fits s)
@@ -211,7 +216,7 @@ module _ (r : Rules) where
   pub cleaned_unmarked : (s : Source) → with_first without_marks (cleaned r s) ≡ cleaned r s
   cleaned_unmarked s = first_again r (first_place r) without_marks (left_before r (first_place r) s End) marks_again (left_fits (first_place r) s End tt)
 
-  pub cleaned_same : (ns : Nodes) → IsPlain true (Flow false nothing_open) ns → CanBeRead ns → AllLet r ns → IsWithin r.depth ns
+  pub cleaned_same : (ns : Nodes) → IsPlain true (Flow false (around (first_place r))) ns → CanBeRead ns → AllLet r ns → IsWithin r.depth ns
       → with_first without_marks ns ≡ ns → cleaned r (source_of ns) ≡ ns
   cleaned_same ns p c l d m =
       ap (with_first without_marks) (all_left false (first_place r) ns (plain_fitting r false (first_place r) ns (λ e. absurd (cc)) p c l d)) ∙ m

@@ -1,50 +1,210 @@
 -- What is left of a value.
-use Rattle.std.proofs.Common.{◌≡◌, ℕ, true, cond, List, [], ◌++◌, Option, None, Some, refl, ap, ◌∙◌}
-use Rattle.std.proofs.lemmas.Bool.{cond_both, cond-true}
+use Rattle.std.proofs.Common.{◌≡◌, ℕ, ◌==◌, ◌&&◌, Bool, true, false, not, cond, List, [], ◌∷◌, ◌++◌, Option, None, Some, codes, drop, length, refl, sym, ap, subst, ◌∙◌}
+use Rattle.std.proofs.lemmas.Bool.{and_parts, cond_both, cond-true, false≢true, not-true, or_parts}
 use Rattle.std.proofs.lemmas.Bool.Decides.{Decides-eqb}
 use Rattle.std.proofs.lemmas.Slice.Eq.{starts_is}
-use Rattle.std.proofs.lemmas.Str.{IsUtf8-nil}
-use Rattle.std.specs.List.{starts_with}
+use Rattle.std.proofs.lemmas.Str.{IsUtf8-from_is_utf8}
+use Rattle.std.specs.Char.{is_ascii_whitespace}
+use Rattle.std.specs.List.{list_all, starts_with}
 use Rattle.std.specs.Prelude.{nat_eq}
 use Rattle.std.specs.Str.{is_utf8}
+use Rattle.h5_names.specs.AttributeText.{is_same_text}
 use Rattle.h5_tables.specs.TagSets.{is_one_of}
-use Rattle.h5_round_trip.specs.Readable.{IsReadable}
-use Rattle.h5_clean.specs.Policies.{Rules, id_names, prefix_of, prefixed, value_left}
+use Rattle.h5_plain.specs.Plain.{NoNul}
+use Rattle.h5_round_trip.specs.Readable.{IsReadable, NoCr}
+use Rattle.h5_clean.specs.Policies.{Rules, fragment_prefixed, id_list_names, id_names, is_prefix_byte, named_behind, prefix_of, prefixed, value_left, words_prefixed}
 use Rattle.h5_clean.specs.Texts.{readable}
-use Rattle.h5_clean.proofs.TextLaws.{readable_reads, readable_same, reads_joined}
+use Rattle.h5_clean.proofs.TextLaws.{cr_joined, no_cr, no_nul, nul_joined, readable_same}
 
--- ---- a text behind a prefix
+-- ---- beginning with a prefix
+
+begins_with : (p t : List ℕ) → starts_with nat_eq (p ++ t) p ≡ true
+begins_with p t = (starts_is Decides-eqb (p ++ t) p (starts_with nat_eq (p ++ t) p) refl).1 t refl
+
+begins_as : (p t : List ℕ) → starts_with nat_eq t p ≡ true → t ≡ p ++ drop (length p) t
+begins_as p t e = (starts_is Decides-eqb t p (starts_with nat_eq t p) refl).0 e
 
 prefixed_begins : (p t : List ℕ) → starts_with nat_eq (prefixed p t) p ≡ true
-prefixed_begins p t =
-    cond_both (starts_with nat_eq t p) t (p ++ t) (λ l. starts_with nat_eq l p ≡ true) (λ e. e)
-    (λ e. (starts_is Decides-eqb (p ++ t) p (starts_with nat_eq (p ++ t) p) refl).1 t refl)
+prefixed_begins p t = cond_both (starts_with nat_eq t p) t (p ++ t) (λ l. starts_with nat_eq l p ≡ true) (λ e. e) (λ e. begins_with p t)
 
-prefixed_reads : (p t : List ℕ) → IsReadable p → IsReadable t → IsReadable (prefixed p t)
-prefixed_reads p t q r = cond_both (starts_with nat_eq t p) t (p ++ t) IsReadable (λ e. r) (λ e. reads_joined p t q r)
+prefixed_same : (p t : List ℕ) → starts_with nat_eq t p ≡ true → prefixed p t ≡ t
+prefixed_same p t e = cond-true (starts_with nat_eq t p) t (p ++ t) e
 
-prefix_reads : (o : Option (List ℕ)) → IsReadable (prefix_of o)
-prefix_reads None = record { utf8 = IsUtf8-nil; no_nul = tt; no_cr = tt }
-prefix_reads (Some p) =
-    cond_both (is_utf8 p) (readable p) [] IsReadable (readable_reads p) (λ e. record { utf8 = IsUtf8-nil; no_nul = tt; no_cr = tt })
+-- ---- words
 
--- ---- a value
+no_blank : (b : ℕ) → is_prefix_byte b ≡ true → is_ascii_whitespace b ≡ false
+no_blank b h = (or_parts (is_ascii_whitespace b) (b == 0) (not-true _ h)).0
 
-pub value_reads : (r : Rules) (local value : List ℕ) → is_utf8 value ≡ true → IsReadable (value_left r local value)
+-- inside of a word what stands in a prefix stays
+goes_on : (p u t : List ℕ) → list_all is_prefix_byte u ≡ true → words_prefixed p false (u ++ t) ≡ u ++ words_prefixed p false t
+goes_on p [] t h = refl
+goes_on p (b ∷ u) t h =
+    let parts = and_parts (is_prefix_byte b) _ h in
+    ap (λ x. cond x (b ∷ words_prefixed p true (u ++ t)) (b ∷ words_prefixed p false (u ++ t))) (no_blank b parts.0)
+    ∙ ap (λ l. b ∷ l) (goes_on p u t parts.1)
+
+-- where a text begins with the prefix, it is as inside of a word
+settled : (p t : List ℕ) → starts_with nat_eq t p ≡ true → words_prefixed p true t ≡ words_prefixed p false t
+settled p [] e = refl
+settled p (b ∷ t) e =
+    ap (λ x. cond (is_ascii_whitespace b) (b ∷ words_prefixed p true t) (cond (not x) (p ++ b ∷ words_prefixed p false t) (b ∷ words_prefixed p false t))) e
+
+module _ (p : List ℕ) (proper : list_all is_prefix_byte p ≡ true) where
+  begins_still : (t : List ℕ) → starts_with nat_eq t p ≡ true → starts_with nat_eq (words_prefixed p false t) p ≡ true
+  begins_still t e =
+      let rest = drop (length p) t in
+      ap (λ l. starts_with nat_eq l p) (ap (words_prefixed p false) (begins_as p t e) ∙ goes_on p p rest proper) ∙ begins_with p (words_prefixed p false rest)
+
+  words_again : (begins : Bool) (t : List ℕ) → words_prefixed p begins (words_prefixed p begins t) ≡ words_prefixed p begins t
+  words_again begins [] = refl
+  words_again begins (b ∷ t) = by (λ s. words_again s t) (is_ascii_whitespace b) refl begins (starts_with nat_eq (b ∷ t) p) refl
+    where
+      inner : List ℕ
+      inner = words_prefixed p false t
+
+      word : words_prefixed p false inner ≡ inner → is_ascii_whitespace b ≡ false → words_prefixed p false (b ∷ inner) ≡ b ∷ inner
+      word again w = ap (λ x. cond x (b ∷ words_prefixed p true inner) (b ∷ words_prefixed p false inner)) w ∙ ap (λ l. b ∷ l) again
+
+      as_word : is_ascii_whitespace b ≡ false → words_prefixed p false (b ∷ t) ≡ b ∷ inner
+      as_word w = ap (λ x. cond x (b ∷ words_prefixed p true t) (b ∷ inner)) w
+
+      by : ((s : Bool) → words_prefixed p s (words_prefixed p s t) ≡ words_prefixed p s t) → (blank : Bool) → is_ascii_whitespace b ≡ blank → (s : Bool) → (starts : Bool) → starts_with nat_eq (b ∷ t) p ≡ starts
+          → words_prefixed p s (cond blank (b ∷ words_prefixed p true t) (cond (s && not starts) (p ++ b ∷ inner) (b ∷ inner)))
+          ≡ cond blank (b ∷ words_prefixed p true t) (cond (s && not starts) (p ++ b ∷ inner) (b ∷ inner))
+      by again true w s starts e =
+          ap (λ x. cond x (b ∷ words_prefixed p true (words_prefixed p true t)) (cond (s && not (starts_with nat_eq (b ∷ words_prefixed p true t) p)) (p ++ b ∷ words_prefixed p false (words_prefixed p true t)) (b ∷ words_prefixed p false (words_prefixed p true t)))) w
+          ∙ ap (λ l. b ∷ l) (again true)
+      by again false w false starts e = word (again false) w
+      by again false w true true e =
+          settled p (b ∷ inner) (subst (λ l. starts_with nat_eq l p ≡ true) (as_word w) (begins_still (b ∷ t) e)) ∙ word (again false) w
+      by again false w true false e = settled p (p ++ b ∷ inner) (begins_with p (b ∷ inner)) ∙ goes_on p p (b ∷ inner) proper ∙ ap (λ l. p ++ l) (word (again false) w)
+
+-- ---- after '#'
+
+fragment_same : (p : List ℕ) (b : ℕ) (t : List ℕ) → starts_with nat_eq t p ≡ true → fragment_prefixed p (b ∷ t) ≡ b ∷ t
+fragment_same p b [] e = refl
+fragment_same p b (c ∷ t) e = cond_both (b == 35) (b ∷ prefixed p (c ∷ t)) (b ∷ c ∷ t) (λ l. l ≡ b ∷ c ∷ t) (λ s. ap (λ l. b ∷ l) (prefixed_same p (c ∷ t) e)) (λ s. refl)
+
+fragment_again : (p t : List ℕ) → fragment_prefixed p (fragment_prefixed p t) ≡ fragment_prefixed p t
+fragment_again p [] = refl
+fragment_again p (b ∷ []) = refl
+fragment_again p (b ∷ c ∷ t) = by (b == 35) refl
+  where
+    by : (sign : Bool) → (b == 35) ≡ sign → fragment_prefixed p (cond sign (b ∷ prefixed p (c ∷ t)) (b ∷ c ∷ t)) ≡ cond sign (b ∷ prefixed p (c ∷ t)) (b ∷ c ∷ t)
+    by true e = fragment_same p b (prefixed p (c ∷ t)) (prefixed_begins p (c ∷ t))
+    by false e = ap (λ x. cond x (b ∷ prefixed p (c ∷ t)) (b ∷ c ∷ t)) e
+
+-- ---- a prefixed value
+
+abbrev by_kind : (one several behind : Bool) (p t : List ℕ) → List ℕ
+by_kind one several behind p t = cond one (prefixed p t) (cond several (words_prefixed p true t) (cond behind (fragment_prefixed p t) t))
+
+named_again : (p : List ℕ) → list_all is_prefix_byte p ≡ true → (local t : List ℕ) → named_behind p local (named_behind p local t) ≡ named_behind p local t
+named_again p proper local t = by (is_one_of id_names local) (is_one_of id_list_names local) (is_same_text local (codes "href"))
+  where
+    by : (x y z : Bool) → by_kind x y z p (by_kind x y z p t) ≡ by_kind x y z p t
+    by true y z = prefixed_same p (prefixed p t) (prefixed_begins p t)
+    by false true z = words_again p proper true t
+    by false false true = fragment_again p t
+    by false false false = refl
+
+-- the prefix of rules has no blanks
+pub proper_prefix : (o : Option (List ℕ)) → list_all is_prefix_byte (prefix_of o) ≡ true
+proper_prefix None = refl
+proper_prefix (Some p) = cond_both (list_all is_prefix_byte p) p [] (λ l. list_all is_prefix_byte l ≡ true) (λ e. e) (λ e. refl)
+
+-- with none a value is as it was
+words_alone : (begins : Bool) (t : List ℕ) → words_prefixed [] begins t ≡ t
+words_alone begins [] = refl
+words_alone begins (b ∷ t) =
+    cond_both (is_ascii_whitespace b) (b ∷ words_prefixed [] true t) (cond (begins && not true) (b ∷ words_prefixed [] false t) (b ∷ words_prefixed [] false t)) (λ l. l ≡ b ∷ t)
+    (λ e. ap (λ l. b ∷ l) (words_alone true t))
+    (λ e. cond_both (begins && not true) (b ∷ words_prefixed [] false t) (b ∷ words_prefixed [] false t) (λ l. l ≡ b ∷ t) (λ s. ap (λ l. b ∷ l) (words_alone false t)) (λ s. ap (λ l. b ∷ l) (words_alone false t)))
+
+fragment_alone : (t : List ℕ) → fragment_prefixed [] t ≡ t
+fragment_alone [] = refl
+fragment_alone (b ∷ t) = fragment_same [] b t (begins_with [] t)
+
+pub named_alone : (local t : List ℕ) → named_behind [] local t ≡ t
+named_alone local t = by (is_one_of id_names local) (is_one_of id_list_names local) (is_same_text local (codes "href"))
+  where
+    by : (x y z : Bool) → by_kind x y z [] t ≡ t
+    by true y z = prefixed_same [] t (begins_with [] t)
+    by false true z = words_alone true t
+    by false false true = fragment_alone t
+    by false false false = refl
+
+-- ---- neither NUL nor CR
+
+record Clear (t : List ℕ) : Type 0 where
+  nul : NoNul t
+  cr : NoCr t
+
+clear_front : {b : ℕ} {t : List ℕ} → Clear (b ∷ t) → (u : List ℕ) → Clear u → Clear (b ∷ u)
+clear_front c u d = record { nul = (c.nul.0, d.nul); cr = (c.cr.0, d.cr) }
+
+clear_rest : {b : ℕ} {t : List ℕ} → Clear (b ∷ t) → Clear t
+clear_rest c = record { nul = c.nul.1; cr = c.cr.1 }
+
+clear_joined : (t u : List ℕ) → Clear t → Clear u → Clear (t ++ u)
+clear_joined t u c d = record { nul = nul_joined t u c.nul d.nul; cr = cr_joined t u c.cr d.cr }
+
+clear_prefix : (p : List ℕ) → list_all is_prefix_byte p ≡ true → Clear p
+clear_prefix [] h = record { nul = tt; cr = tt }
+clear_prefix (b ∷ p) h =
+    let parts = and_parts (is_prefix_byte b) _ h in
+    let rest = clear_prefix p parts.1 in
+    record {
+      nul = ((λ e. false≢true (sym (ap is_prefix_byte e) ∙ parts.0)), rest.nul);
+      cr = ((λ e. false≢true (sym (ap is_prefix_byte e) ∙ parts.0)), rest.cr);
+    }
+
+clear_prefixed : (p t : List ℕ) → Clear p → Clear t → Clear (prefixed p t)
+clear_prefixed p t q c = cond_both (starts_with nat_eq t p) t (p ++ t) Clear (λ e. c) (λ e. clear_joined p t q c)
+
+clear_words : (p : List ℕ) → Clear p → (begins : Bool) (t : List ℕ) → Clear t → Clear (words_prefixed p begins t)
+clear_words p q begins [] c = c
+clear_words p q begins (b ∷ t) c =
+    let after : (s : Bool) → Clear (b ∷ words_prefixed p s t) = λ s. clear_front c (words_prefixed p s t) (clear_words p q s t (clear_rest c)) in
+    let inner = b ∷ words_prefixed p false t in
+    cond_both (is_ascii_whitespace b) (b ∷ words_prefixed p true t) (cond (begins && not (starts_with nat_eq (b ∷ t) p)) (p ++ inner) inner) Clear
+    (λ e. after true)
+    (λ e. cond_both (begins && not (starts_with nat_eq (b ∷ t) p)) (p ++ inner) inner Clear (λ s. clear_joined p inner q (after false)) (λ s. after false))
+
+clear_fragment : (p t : List ℕ) → Clear p → Clear t → Clear (fragment_prefixed p t)
+clear_fragment p [] q c = c
+clear_fragment p (b ∷ []) q c = c
+clear_fragment p (b ∷ u ∷ t) q c =
+    cond_both (b == 35) (b ∷ prefixed p (u ∷ t)) (b ∷ u ∷ t) Clear (λ e. clear_front c (prefixed p (u ∷ t)) (clear_prefixed p (u ∷ t) q (clear_rest c))) (λ e. c)
+
+clear_named : (p local t : List ℕ) → Clear p → Clear t → Clear (named_behind p local t)
+clear_named p local t q c = by (is_one_of id_names local) (is_one_of id_list_names local) (is_same_text local (codes "href"))
+  where
+    by : (x y z : Bool) → Clear (by_kind x y z p t)
+    by true y z = clear_prefixed p t q c
+    by false true z = clear_words p q true t c
+    by false false true = clear_fragment p t q c
+    by false false false = c
+
+-- ---- what is left of a value
+
+pub value_reads : (r : Rules) (local value : List ℕ) → is_utf8 (value_left r local value) ≡ true → IsReadable (value_left r local value)
 value_reads r local value u =
-    cond_both (is_one_of id_names local) (prefixed (prefix_of r.prefix) (readable value)) (readable value) IsReadable
-    (λ e. prefixed_reads (prefix_of r.prefix) (readable value) (prefix_reads r.prefix) (readable_reads value u)) (λ e. readable_reads value u)
+    let clear = clear_named (prefix_of r.prefix) local (readable value) (clear_prefix (prefix_of r.prefix) (proper_prefix r.prefix))
+    (record { nul = no_nul value; cr = no_cr value }) in
+    record { utf8 = IsUtf8-from_is_utf8 _ u; no_nul = clear.nul; no_cr = clear.cr }
 
 pub value_begins : (r : Rules) (local value : List ℕ) → is_one_of id_names local ≡ true
     → starts_with nat_eq (value_left r local value) (prefix_of r.prefix) ≡ true
 value_begins r local value e =
-    ap (λ b. starts_with nat_eq (cond b (prefixed (prefix_of r.prefix) (readable value)) (readable value)) (prefix_of r.prefix)) e
-    ∙ prefixed_begins (prefix_of r.prefix) (readable value)
+    let p = prefix_of r.prefix in
+    let t = readable value in
+    ap (λ l. starts_with nat_eq l p) (cond-true (is_one_of id_names local) (prefixed p t) (cond (is_one_of id_list_names local) (words_prefixed p true t) (cond (is_same_text local (codes "href")) (fragment_prefixed p t) t)) e)
+    ∙ prefixed_begins p t
 
--- one that can be read, and begins with the prefix if it has to, stays
-pub value_same : (r : Rules) (local value : List ℕ) → IsReadable value
-    → (is_one_of id_names local ≡ true → starts_with nat_eq value (prefix_of r.prefix) ≡ true) → value_left r local value ≡ value
-value_same r local value reads begins =
-    ap (λ v. cond (is_one_of id_names local) (prefixed (prefix_of r.prefix) v) v) (readable_same value reads)
-    ∙ cond_both (is_one_of id_names local) (prefixed (prefix_of r.prefix) value) value (λ v. v ≡ value)
-    (λ e. cond-true (starts_with nat_eq value (prefix_of r.prefix)) value (prefix_of r.prefix ++ value) (begins e)) (λ e. refl)
+pub value_named : (r : Rules) (local value : List ℕ) → named_behind (prefix_of r.prefix) local (value_left r local value) ≡ value_left r local value
+value_named r local value = named_again (prefix_of r.prefix) (proper_prefix r.prefix) local (readable value)
+
+-- a value that can be read, and is prefixed if it has to be, stays
+pub value_same : (r : Rules) (local value : List ℕ) → IsReadable value → named_behind (prefix_of r.prefix) local value ≡ value → value_left r local value ≡ value
+value_same r local value reads named = ap (named_behind (prefix_of r.prefix) local) (readable_same value reads) ∙ named

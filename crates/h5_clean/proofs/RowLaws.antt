@@ -1,4 +1,4 @@
--- What holds of each name that has a kind.
+-- What holds for each name that has a kind.
 use Rattle.std.proofs.Common.{◌≡◌, ◌⊎◌, ◌∙◌, ◌&&◌, ◌||◌, ◌++◌, ◌∷◌, not, Bool, true, false, List, [], ℕ, ap, refl, subst, sym, inl, inr, codes, if◌then◌else◌}
 use Rattle.std.specs.List.{list_all}
 use Rattle.std.proofs.lemmas.Bool.{false≢true}

@@ -8,7 +8,7 @@ use Rattle.std.specs.Char.{is_ascii_alphabetic, is_ascii_digit, to_ascii_lowerca
 use Rattle.h5_names.specs.AttributeText.{is_same_text}
 use Rattle.h5_clean.proofs.ListLaws.{any_of_map}
 use Rattle.h5_clean.specs.AllowLists.{leads_well}
-use Rattle.h5_clean.specs.TextPolicy.{has_scheme_of, image_schemes, is_scheme_byte, is_skipped, link_schemes, scheme_behind, scheme_of_visible}
+use Rattle.h5_clean.specs.DefaultPolicy.{has_scheme_of, image_schemes, is_scheme_byte, is_skipped, link_schemes, scheme_behind, scheme_of_visible}
 
 -- bytes of a scheme up to ':'
 abbrev pub has_end : List ℕ → Bool
@@ -57,7 +57,7 @@ pub no_spelling : (name url : List ℕ) → length url < 1 → spells name url �
 no_spelling name [] h = refl
 no_spelling name (b ∷ t) h = absurd (omega arith)
 
--- texts with one front
+-- texts with a common prefix
 same_behind : (front x y : List ℕ) → is_same_text (front ++ x) (front ++ y) ≡ is_same_text x y
 same_behind [] x y = refl
 same_behind (b ∷ front) x y = by (b == b) (eq-eqb b b refl) (same_behind front x y)
@@ -66,7 +66,7 @@ same_behind (b ∷ front) x y = by (b == b) (eq-eqb b b refl) (same_behind front
     by true e h = h
     by false e h = absurd (false≢true e)
 
--- a text that none begins with what was read is no scheme
+-- a text isn't a scheme if it doesn't begin with what was read
 others : (text read url : List ℕ) → ((s : List ℕ) → is_same_text text (read ++ s) ≡ false) → option_eq is_same_text (Some text) (scheme_behind read url) ≡ false
 others text read [] h = refl
 others text read (b ∷ t) h =

@@ -1,4 +1,4 @@
--- Trees and the calls that tell of them.
+-- Trees and their calls.
 use Rattle.std.proofs.Common.{◌≡◌, ◌∙◌, ℕ, zero, suc, List, [], ◌∷◌, ◌++◌, Option, None, Some, append_assoc, ap, refl, subst, sym}
 use Rattle.std.specs.List.{flat_map}
 use Rattle.std.specs.Option.{option_map_or}
@@ -13,7 +13,7 @@ use Rattle.h5_plain.specs.Rebuilding.{Stands}
 use Rattle.h5_round_trip.proofs.WrittenLaws.{around_kind, none_stands}
 use Rattle.h5_clean.specs.Source.{CommentThen, DoctypeThen, Done, ElementThen, InstructionThen, Source, TextThen, calls_before, source_of}
 
--- ---- the tree that a walk tells of
+-- ---- the tree of a walk
 
 -- what a node is, by what is below it, before others
 around : Kind → List AttributeText → (Source → Source) → Source → Source
@@ -33,7 +33,7 @@ within : ℕ → Forest → ℕ → Source → Source
 within zero f n more = more
 within (suc levels) f n more = option_map_or (λ (d : Node). around d.kind d.attrs (all_children (within levels f) (shown_children f n)) more) (f.node n) more
 
--- it is told by these calls
+-- its calls are these
 abbrev IsTold : (Source → Source) → List Call → Type 0
 IsTold tree calls = (more : Source) (others : List Call) → calls_before (tree more) others ≡ calls ++ calls_before more others
 
@@ -78,7 +78,7 @@ pub tree_told : (f : Forest) (cs : List Child) → calls_before (tree_of f cs) [
 unfolding tree_of
 tree_told f cs = children_told (within f.bound f) (calls_of f) (λ n. within_told f.bound f n) cs Done [] ∙ append_none (calls_of_children f cs)
 
--- ---- calls tell of one tree
+-- ---- calls determine the tree
 
 abbrev Ends : List Call → Type 0
 Ends [] = Unit {0}
@@ -150,7 +150,7 @@ told_once (InstructionThen p t a) (InstructionThen q u b) xs ys k l e =
 pub one_tree : (s t : Source) → calls_before s [] ≡ calls_before t [] → s ≡ t
 one_tree s t e = (told_once s t [] [] tt tt e).0
 
--- ---- a list of nodes that stands is told so
+-- ---- the calls of a list of nodes
 
 module _ (f : Forest) (calls_around_is : (n : ℕ) (d : Node) → f.node n ≡ Some d → calls_of f n ≡ calls_around d.kind d.attrs (calls_of_children f (shown_children f n))) where
   pub nodes_told : (cs : List Child) (ns : Nodes) (others : List Call) → Stands f cs ns → calls_of_children f cs ++ others ≡ calls_before (source_of ns) others

@@ -83,11 +83,11 @@ reads_utf8 t r = is_utf8-from_IsUtf8 t r.utf8
 
 -- ---- texts joined
 
-nul_joined : (t u : List ℕ) → NoNul t → NoNul u → NoNul (t ++ u)
+pub nul_joined : (t u : List ℕ) → NoNul t → NoNul u → NoNul (t ++ u)
 nul_joined [] u n m = m
 nul_joined (b ∷ t) u n m = (n.0, nul_joined t u n.1 m)
 
-cr_joined : (t u : List ℕ) → NoCr t → NoCr u → NoCr (t ++ u)
+pub cr_joined : (t u : List ℕ) → NoCr t → NoCr u → NoCr (t ++ u)
 cr_joined [] u n m = m
 cr_joined (b ∷ t) u n m = (n.0, cr_joined t u n.1 m)
 
@@ -98,7 +98,7 @@ reads_joined t u r s = record {
   no_cr = cr_joined t u r.no_cr s.no_cr;
 }
 
--- ---- a text without what stood at its front
+-- ---- a text without its start
 
 abbrev pub is_mark : (a b c : ℕ) → Bool
 is_mark a b c = (a == 0xef) && ((b == 0xbb) && (c == 0xbf))

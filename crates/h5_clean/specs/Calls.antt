@@ -1,4 +1,4 @@
--- What a cleaner hands on for a call, and what stands between two calls.
+-- The call that a cleaner passes on for a call, and its state between two calls.
 use Rattle.std.specs.Prelude.{ℕ, Bool, true, false, List, [], ◌∷◌, Option, Some, None, Result, Ok, if◌then◌else◌}
 use Rattle.std.specs.Option.{option_map_or}
 use Rattle.h5_names.specs.declared.qualified.QualName.{QualName}
@@ -19,11 +19,11 @@ use Rattle.h5_clean.specs.declared.kind.Kind.TheVariants as kind
 use Rattle.h5_clean.specs.declared.elements.OpenElement.{OpenElement}
 use Rattle.h5_clean.specs.declared.place.Place.{Place}
 
--- a serializer with the options that hold where nothing else is said
+-- a serializer with the default options
 abbrev pub first_standing : Standing
 first_standing = new_standing (record { scripting_enabled = true; traversal_scope = ChildrenOnly None; create_missing_parent = false })
 
--- the elements of the tree that are open, innermost first; where the next text stands; and how the serializer of HTML stands
+-- the open elements of the tree, innermost first; the position of the next text; and the state of the serializer
 pub record State : Type 0 where
   pub rules : Rules
   pub elements : List OpenElement
@@ -33,7 +33,7 @@ pub record State : Type 0 where
 abbrev pub first_state : Rules → State
 first_state r = record { rules = r; elements = []; front = front.Marks; standing = first_standing }
 
--- where the next node stands
+-- the place of the next node
 abbrev pub place_among : Rules → List OpenElement → Place
 place_among r [] = first_place r
 place_among r (o ∷ os) = o.place
@@ -41,18 +41,18 @@ place_among r (o ∷ os) = o.place
 abbrev pub place_of : State → Place
 place_of s = place_among s.rules s.elements
 
--- an element that begins here
+-- an element that begins at a place
 abbrev pub opened : Rules → Place → QualName → OpenElement
 opened r x name =
     if is_let r x name then record { is_written = true; place = inside (kind_of name.local) x }
     else record { is_written = false; place = if is_dropped r name then nowhere x else x }
 
--- what a text loses there: at the very front U+FEFF
+-- a text without what it loses at its position: U+FEFF at the start of the fragment
 abbrev pub without_front : Front → List ℕ → List ℕ
 without_front front.Marks text = without_marks text
 without_front _ text = text
 
--- what becomes of it: behind the start tag of a `pre` a newline at its front is written twice
+-- the text as it is passed on: at the start of a `pre` a leading newline is written twice
 abbrev pub behind_front : Front → List ℕ → List ℕ
 behind_front front.Newlines text = doubled text
 behind_front f text = without_front f text
@@ -85,7 +85,7 @@ abbrev pub without_first : List OpenElement → List OpenElement
 without_first [] = []
 without_first (o ∷ os) = os
 
--- the call that is handed on for a call
+-- the call that is passed on for a call
 abbrev pub handed : State → Call → Option Call
 handed s (StartOf name attrs) = if is_let s.rules (place_of s) name then Some (StartOf name (attributes_left s.rules name.local attrs)) else None
 handed s (EndOf name) = if ends_written s.elements then Some (EndOf name) else None

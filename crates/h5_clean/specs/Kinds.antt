@@ -1,11 +1,11 @@
--- The kind of an element's name. A name of no kind is never let through.
+-- The kind of an element's name. An element whose name has no kind is never allowed.
 use Rattle.std.specs.Prelude.{ℕ, Bool, true, false, List, [], ◌∷◌, ◌++◌, codes, if◌then◌else◌}
 use Rattle.h5_tables.specs.TagSets.{cell_names, heading_names, is_one_of}
 use Rattle.h5_plain.specs.Plain.{barrier_names, inline_names, mark_names, open_block_names, part_names, phrase_names, term_names}
 use Rattle.h5_clean.specs.declared.kind.Kind.{Kind}
 use Rattle.h5_clean.specs.declared.kind.Kind.TheVariants as kind
 
--- the long sets in two parts
+-- the long sets, each as two lists
 unfoldable pub early_phrase_names : List (List ℕ)
 early_phrase_names = codes "abbr" ∷ codes "bdi" ∷ codes "bdo" ∷ codes "cite" ∷ codes "data" ∷ codes "del" ∷ codes "dfn" ∷ codes "ins" ∷ codes "kbd" ∷ codes "label" ∷ []
 
@@ -16,9 +16,9 @@ unfoldable pub early_barrier_names : List (List ℕ)
 early_barrier_names = codes "article" ∷ codes "aside" ∷ codes "blockquote" ∷ codes "center" ∷ codes "details" ∷ codes "dir" ∷ codes "dl" ∷ codes "fieldset" ∷ codes "figcaption" ∷ codes "figure" ∷ []
 
 unfoldable pub late_barrier_names : List (List ℕ)
-late_barrier_names = codes "footer" ∷ codes "header" ∷ codes "hgroup" ∷ codes "main" ∷ codes "menu" ∷ codes "nav" ∷ codes "ol" ∷ codes "search" ∷ codes "section" ∷ codes "summary" ∷ codes "ul" ∷ []
+late_barrier_names = codes "footer" ∷ codes "header" ∷ codes "hgroup" ∷ codes "main" ∷ codes "menu" ∷ codes "nav" ∷ codes "ol" ∷ codes "section" ∷ codes "summary" ∷ codes "ul" ∷ []
 
--- names, and the kind that they have
+-- names and their kind
 pub record Row : Type 0 where
   pub names : List (List ℕ)
   pub kind : Kind
@@ -29,7 +29,7 @@ row names kind = record { names = names; kind = kind }
 abbrev pub alone : List ℕ → Kind → Row
 alone name kind = row (name ∷ []) kind
 
--- sets of names, and names alone
+-- sets of names, and single names
 unfoldable pub set_rows : List Row
 set_rows =
     row phrase_names kind.Phrase ∷ row inline_names kind.Formatted ∷ row open_block_names kind.Division ∷ row barrier_names kind.Barrier ∷

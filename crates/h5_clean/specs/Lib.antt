@@ -2,7 +2,7 @@ pub mod Cleaned
 pub mod Kinds
 pub mod Places
 pub mod Source
-pub mod TextPolicy
+pub mod DefaultPolicy
 pub mod Texts
 pub mod Policies
 pub mod Pass

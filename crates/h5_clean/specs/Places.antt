@@ -1,4 +1,4 @@
--- Where nodes may stand: what is open there, and how much deeper elements may go.
+-- Places for nodes: what is open there, and how much deeper elements may be nested.
 use Rattle.std.specs.Prelude.{◌-◌, ◌&&◌, Bool, true, false, not, nat_lt}
 use Rattle.h5_plain.specs.Plain.{Around, Cells, Columns, Flow, Part, Rows, Sections, Sort}
 use Rattle.h5_clean.specs.declared.kind.Kind.{Kind}
@@ -7,7 +7,7 @@ use Rattle.h5_clean.specs.declared.place.Place.{Place}
 use Rattle.h5_clean.specs.declared.place.Spot.{Spot}
 use Rattle.h5_clean.specs.declared.place.Spot.TheVariants as spot
 
--- an element of this kind may stand in flow
+-- an element of this kind fits in flow
 abbrev pub fits_in_flow : Kind → Place → Bool
 fits_in_flow kind.Division x = not x.in_p
 fits_in_flow kind.Barrier x = not x.in_p
@@ -24,8 +24,8 @@ fits_in_flow kind.Link x = not x.in_link
 fits_in_flow kind.Table x = not x.in_p
 fits_in_flow _ x = false
 
--- in a table stand captions, groups of columns and sections, in a section rows, in a row cells, in a group of columns columns;
--- nowhere nothing
+-- captions, column groups and sections fit in a table, rows in a section, cells in a row, columns in a column group,
+-- and nothing nowhere
 abbrev pub fits_at : Spot → Kind → Place → Bool
 fits_at spot.InFlow k x = fits_in_flow k x
 fits_at spot.InTable kind.Caption x = true
@@ -36,7 +36,7 @@ fits_at spot.InSection kind.TableRow x = true
 fits_at spot.InRow kind.Cell x = true
 fits_at _ k x = false
 
--- there, if it isn't too deep
+-- an element of this kind fits at a place, and isn't too deep
 abbrev pub fits : Kind → Place → Bool
 fits k x = nat_lt 0 x.room && fits_at x.spot k x
 
@@ -44,22 +44,22 @@ fits k x = nat_lt 0 x.room && fits_at x.spot k x
 abbrev pub directly : Spot → Place → Place
 directly s x = record x { spot = s; room = x.room - 1 }
 
--- where nothing of what is around is seen
+-- in flow, where nothing counts as open
 abbrev pub alone : Place → Place
 alone x = record { spot = spot.InFlow; in_p = false; in_heading = false; in_item = false; in_description = false; in_link = false; room = x.room - 1 }
 
--- inside of an element through which an item is seen, and of one that hides it
+-- inside an element that doesn't end the search for a list item, and inside one that ends it
 abbrev pub within : Place → Place
 within x = record (directly spot.InFlow x) { in_heading = false }
 
 abbrev pub behind : Place → Place
 behind x = record (within x) { in_item = false; in_description = false }
 
--- where nothing may stand
+-- a place for nothing
 abbrev pub nowhere : Place → Place
 nowhere x = directly spot.Nowhere x
 
--- where that stands what such an element holds
+-- the place of the content of an element of this kind
 abbrev pub inside : Kind → Place → Place
 inside kind.Division x = within x
 inside kind.Barrier x = behind x
@@ -82,7 +82,7 @@ inside kind.Break x = nowhere x
 inside kind.Column x = nowhere x
 inside kind.Unknown x = nowhere x
 
--- what is open at a place, and what a list of nodes there is for
+-- what is open at a place, and the sort of a list of nodes there
 abbrev pub around : Place → Around
 around x = record { in_p = x.in_p; in_heading = x.in_heading; in_item = x.in_item; in_description = x.in_description; in_link = x.in_link }
 

@@ -1,5 +1,6 @@
--- What a policy says of elements and attributes, and what is left of attributes.
-use Rattle.std.specs.Prelude.{◌≡◌, ℕ, nat_eq, ◌&&◌, Bool, true, false, not, List, [], ◌∷◌, ◌++◌, Option, Some, None, codes, is_some, if◌then◌else◌}
+-- What a policy says about elements and attributes, and what is left of attributes.
+use Rattle.std.specs.Prelude.{◌≡◌, ℕ, ◌==◌, nat_eq, ◌&&◌, ◌||◌, Bool, true, false, not, List, [], ◌∷◌, ◌++◌, Option, Some, None, codes, is_some, if◌then◌else◌}
+use Rattle.std.specs.Char.{is_ascii_whitespace}
 use Rattle.std.specs.List.{list_all, starts_with}
 use Rattle.std.specs.Str.{is_utf8}
 use Rattle.h5_names.specs.AttributeText.{AttributeText, is_same_text}
@@ -7,20 +8,22 @@ use Rattle.h5_names.specs.declared.qualified.QualName.{QualName}
 use Rattle.h5_interface.specs.Changes.{has_attribute}
 use Rattle.h5_tables.specs.TagSets.{is_one_of}
 use Rattle.h5_round_trip.specs.Readable.{is_name_byte}
+use Rattle.h5_clean.specs.declared.place.Around.{Around}
 use Rattle.h5_clean.specs.Texts.{readable}
 
--- which elements it names, by their local names; which go with all that they hold; which attributes an element keeps, by the
--- element's name, the attribute's and its value as it is left; what the attribute `rel` of an `a` is set to, if it is set; what the
--- value of an `id` or a `name` begins with, if that is set; and how deep elements go
+-- the elements that it allows, by local name; those that it drops with their content; the attributes that an element
+-- keeps, by the element's name, the attribute's, and the value that would be left; the `rel` of each `a`, if it is set;
+-- the prefix of ids, if it is set; what may be open around the text; and the maximal depth
 pub record Rules : Type 0 where
   pub names : List ℕ → Bool
   pub drops : List ℕ → Bool
   pub keeps : List ℕ → List ℕ → List ℕ → Bool
   pub rel : Option (List ℕ)
   pub prefix : Option (List ℕ)
+  pub around : Around
   pub depth : ℕ
 
--- a name that is read as it was written: bytes of names, one at least
+-- a name that is read back as it was written: one or more bytes of names
 abbrev pub is_name : List ℕ → Bool
 is_name [] = false
 is_name (b ∷ t) = list_all is_name_byte (b ∷ t)
@@ -29,43 +32,105 @@ is_name (b ∷ t) = list_all is_name_byte (b ∷ t)
 abbrev pub bare : List ℕ → QualName
 bare local = record { prefix = None; ns = []; local = local }
 
--- the attribute that the rules set
+-- the rules set this attribute
 abbrev pub sets : Rules → (element local : List ℕ) → Bool
 sets r element local = is_same_text element (codes "a") && (is_same_text local (codes "rel") && is_some r.rel)
 
--- the attributes that name a thing in the page
-unfoldable pub id_names : List (List ℕ)
-id_names = codes "id" ∷ codes "name" ∷ []
+-- ---- attributes that no rules allow
 
--- what a prefix that is set comes to: as a text is left, if it is one; else nothing
+-- attributes that hold a page, a style, a secret, or a list of URLs, that turn an element into another, or that use a
+-- map of the page
+unfoldable pub refused_names : List (List ℕ)
+refused_names =
+    codes "srcdoc" ∷ codes "style" ∷ codes "nonce" ∷ codes "is" ∷ codes "slot" ∷ codes "srcset" ∷ codes "imagesrcset" ∷
+    codes "http-equiv" ∷ codes "xlink:href" ∷ codes "ping" ∷ codes "attributionsrc" ∷ codes "archive" ∷ codes "usemap" ∷ []
+
+-- a refused attribute: one of these, or one that begins with `on`, such as each that holds a script
+abbrev pub is_refused : List ℕ → Bool
+is_refused local = starts_with nat_eq local (codes "on") || is_one_of refused_names local
+
+-- attributes by which an element acts on another one of the page; they are allowed only with a prefix
+unfoldable pub acting_names : List (List ℕ)
+acting_names = codes "for" ∷ codes "form" ∷ codes "popovertarget" ∷ codes "commandfor" ∷ codes "interestfor" ∷ []
+
+abbrev pub may_act : (prefix local : List ℕ) → Bool
+may_act [] local = not (is_one_of acting_names local)
+may_act (b ∷ prefix) local = true
+
+-- ---- ids
+
+-- attributes that have an id, or refer to one
+unfoldable pub id_names : List (List ℕ)
+id_names =
+    codes "id" ∷ codes "name" ∷ codes "for" ∷ codes "form" ∷ codes "list" ∷ codes "popovertarget" ∷ codes "commandfor" ∷
+    codes "interestfor" ∷ codes "aria-activedescendant" ∷ []
+
+-- attributes that refer to several ids
+unfoldable pub id_list_names : List (List ℕ)
+id_list_names =
+    codes "headers" ∷ codes "itemref" ∷ codes "aria-labelledby" ∷ codes "aria-describedby" ∷ codes "aria-controls" ∷
+    codes "aria-owns" ∷ codes "aria-details" ∷ codes "aria-flowto" ∷ codes "aria-errormessage" ∷ []
+
+-- a byte of a prefix: neither ASCII whitespace nor NUL
+abbrev pub is_prefix_byte : ℕ → Bool
+is_prefix_byte b = not (is_ascii_whitespace b || (b == 0))
+
+-- the prefix that is used; one with other bytes is ignored
 abbrev pub prefix_of : Option (List ℕ) → List ℕ
 prefix_of None = []
-prefix_of (Some prefix) = if is_utf8 prefix then readable prefix else []
+prefix_of (Some prefix) = if list_all is_prefix_byte prefix then prefix else []
 
--- a text behind a prefix, unless it begins with it
+-- a text, prefixed unless it already begins with the prefix
 abbrev pub prefixed : (prefix text : List ℕ) → List ℕ
 prefixed prefix text = if starts_with nat_eq text prefix then text else prefix ++ text
 
--- what is left of an attribute's value: of an `id` or a `name` it stands behind the prefix
-abbrev pub value_left : Rules → (local value : List ℕ) → List ℕ
-value_left r local value = if is_one_of id_names local then prefixed (prefix_of r.prefix) (readable value) else readable value
+-- a text with each word prefixed like that
+abbrev pub words_prefixed : (prefix : List ℕ) → (begins : Bool) → List ℕ → List ℕ
+words_prefixed prefix begins [] = []
+words_prefixed prefix begins (b ∷ t) =
+    if is_ascii_whitespace b then b ∷ words_prefixed prefix true t
+    else (if begins && not (starts_with nat_eq (b ∷ t) prefix) then prefix ++ b ∷ words_prefixed prefix false t
+    else b ∷ words_prefixed prefix false t)
 
--- an attribute stays if it has no namespace, a name that can be read and a value of characters, the rules keep it and don't set it, and
--- none before it has its name
+-- a link with the remainder after a leading '#' prefixed, if the remainder isn't empty
+abbrev pub fragment_prefixed : (prefix text : List ℕ) → List ℕ
+fragment_prefixed prefix (b ∷ c ∷ t) = if b == 35 then b ∷ prefixed prefix (c ∷ t) else b ∷ c ∷ t
+fragment_prefixed prefix t = t
+
+-- the value of an attribute, prefixed if the attribute has an id or refers to some
+abbrev pub named_behind : (prefix local text : List ℕ) → List ℕ
+named_behind prefix local text =
+    if is_one_of id_names local then prefixed prefix text
+    else (if is_one_of id_list_names local then words_prefixed prefix true text
+    else (if is_same_text local (codes "href") then fragment_prefixed prefix text
+    else text))
+
+-- ---- what is left
+
+-- what is left of an attribute's value
+abbrev pub value_left : Rules → (local value : List ℕ) → List ℕ
+value_left r local value = named_behind (prefix_of r.prefix) local (readable value)
+
+-- an attribute may stay if it isn't refused, its name can be read, and it acts on no element outside the text
+abbrev pub may_stay : Rules → List ℕ → Bool
+may_stay r local = is_name local && (not (is_refused local) && may_act (prefix_of r.prefix) local)
+
+-- an attribute that stays: it has no namespace, its value is UTF-8, the rules keep it and don't set it, and no
+-- attribute before it has its name
 abbrev pub stays : Rules → (element : List ℕ) → (before : List AttributeText) → AttributeText → Bool
 stays r element before a =
-    is_same_text a.name.ns [] && (is_name a.name.local && (is_utf8 a.value
+    is_same_text a.name.ns [] && (may_stay r a.name.local && (is_utf8 (value_left r a.name.local a.value)
     && (r.keeps element a.name.local (value_left r a.name.local a.value) && (not (sets r element a.name.local) && not (has_attribute (bare a.name.local) before)))))
 
 abbrev pub as_left : Rules → AttributeText → AttributeText
 as_left r a = record { name = bare a.name.local; value = value_left r a.name.local a.value }
 
--- those that stay, behind others
+-- the attributes that stay, after others
 abbrev pub left_behind : Rules → (element : List ℕ) → (before : List AttributeText) → List AttributeText → List AttributeText
 left_behind r element before [] = before
 left_behind r element before (a ∷ attrs) = left_behind r element (if stays r element before a then before ++ as_left r a ∷ [] else before) attrs
 
--- the `rel` that is set
+-- the `rel` that the rules set
 abbrev pub rel_of : Option (List ℕ) → List AttributeText
 rel_of None = []
 rel_of (Some value) = if is_utf8 value then record { name = bare (codes "rel"); value = readable value } ∷ [] else []
@@ -74,7 +139,15 @@ rel_of (Some value) = if is_utf8 value then record { name = bare (codes "rel"); 
 abbrev pub attributes_left : Rules → (element : List ℕ) → List AttributeText → List AttributeText
 attributes_left r element attrs = left_behind r element [] attrs ++ (if is_same_text element (codes "a") then rel_of r.rel else [])
 
--- of each that names a thing in the page the value begins with the prefix
+-- each value that has or refers to an id begins with the prefix; so does each word of those that refer to several, and
+-- the remainder after a leading '#'
 abbrev pub ArePrefixed : Rules → List AttributeText → Type 0
 ArePrefixed r [] = Unit {0}
-ArePrefixed r (a ∷ attrs) = (is_one_of id_names a.name.local ≡ true → starts_with nat_eq a.value (prefix_of r.prefix) ≡ true) × ArePrefixed r attrs
+ArePrefixed r (a ∷ attrs) =
+    (is_one_of id_names a.name.local ≡ true → starts_with nat_eq a.value (prefix_of r.prefix) ≡ true)
+    × ((named_behind (prefix_of r.prefix) a.name.local a.value ≡ a.value) × ArePrefixed r attrs)
+
+-- each attribute may stay
+abbrev pub MayStay : Rules → List AttributeText → Type 0
+MayStay r [] = Unit {0}
+MayStay r (a ∷ attrs) = (may_stay r a.name.local ≡ true) × MayStay r attrs

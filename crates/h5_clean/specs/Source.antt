@@ -1,4 +1,4 @@
--- A tree as it is told by calls, call after call (HTML standard, section 13.3, "Serializing HTML fragments").
+-- A tree as a sequence of calls (HTML standard, section 13.3, "Serializing HTML fragments").
 use Rattle.std.specs.Prelude.{ℕ, List, ◌∷◌}
 use Rattle.h5_names.specs.AttributeText.{AttributeText}
 use Rattle.h5_names.specs.declared.qualified.QualName.{QualName}
@@ -6,7 +6,7 @@ use Rattle.h5_rules.specs.formatting.FormattingNames.{html_name}
 use Rattle.h5_serialize.specs.Call.{Call, CommentOf, DoctypeOf, EndOf, InstructionOf, StartOf, TextOf}
 use Rattle.h5_plain.specs.Plain.{ElementThen as PlainElementThen, End, Nodes, TextThen as PlainTextThen}
 
--- texts, elements with what they hold, and comments, doctypes and instructions
+-- texts, elements with their content, comments, doctypes and instructions
 pub data Source : Type 0 where
   Done : Source
   TextThen : (text : List ℕ) → (rest : Source) → Source
@@ -15,7 +15,7 @@ pub data Source : Type 0 where
   DoctypeThen : (name : List ℕ) → (rest : Source) → Source
   InstructionThen : (target content : List ℕ) → (rest : Source) → Source
 
--- its calls, before others
+-- its calls, followed by others
 abbrev pub calls_before : Source → List Call → List Call
 calls_before Done calls = calls
 calls_before (TextThen text rest) calls = TextOf text ∷ calls_before rest calls

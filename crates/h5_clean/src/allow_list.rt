@@ -1,16 +1,20 @@
 //! A policy that is a table.
 ghost use Rattle.std.specs.Prelude.{◌≡◌, ◌∷◌, ◌++◌, [], None, Some, OnOk, OnErr, true, false};
 ghost use Rattle.h5_tables.specs.TagSets.{is_one_of};
-ghost use Rattle.h5_clean.specs.AllowLists.{holds_url, is_listed, keeps_listed, leads_well, table_rules, url_names};
-ghost use Rattle.h5_clean.specs.TextPolicy.{keeping, scheme_of};
+ghost use Rattle.h5_clean.specs.AllowLists.{holds_url, is_listed, keeps_listed, leads_well, more_url_names, table_rules, url_names};
+ghost use Rattle.h5_clean.specs.DefaultPolicy.{keeping, scheme_of};
 
 use super::name_list::{AttributeList, NameList, any_keeps};
+use super::place::Around;
 use super::policy::Policy;
 use super::urls::leads_well;
 use std::alloc::{AllocError, Global};
 use std::marker::Model;
 
-/// A policy that is a table: what isn't listed isn't let through. An entry that stands twice counts once.
+/// A policy that is a table: what isn't listed isn't allowed. An entry that is added twice counts once.
+///
+/// A name or value is stored as it is given. Each call that adds or sets a name or value fails with `AllocError` if an
+/// allocation fails; the list is then unchanged.
 #[derive(Debug)]
 pub struct AllowList {
     alloc: Global,
@@ -23,6 +27,7 @@ pub struct AllowList {
     relative: bool,
     rel: Option<String>,
     prefix: Option<String>,
+    around: Around,
     depth: usize,
 }
 
@@ -39,6 +44,7 @@ impl Drop for AllowList {
             relative: _relative,
             rel: _rel,
             prefix: _prefix,
+            around: _around,
             depth: _depth,
         } = self;
     }
@@ -61,20 +67,44 @@ impl Model for AllowList {
       relative = list.relative;
       rel = option_map string_bytes list.rel;
       prefix = option_map string_bytes list.prefix;
+      around = list.around;
       depth = list.depth;
     } };
 }
 
-// Whether an attribute always holds a URL.
+// The attribute always holds a URL.
 #[tactic(auto, unfolding(crate::specs::AllowLists::url_names))]
 fn is_url_name(attribute: &str) -> bool
     ensures { result ≡ is_one_of url_names attribute.now }
 {
-    matches!(attribute, "href" | "src" | "cite")
+    matches!(
+        attribute,
+        "href"
+            | "src"
+            | "cite"
+            | "action"
+            | "background"
+            | "classid"
+            | "codebase"
+            | "data"
+            | "dynsrc"
+            | "formaction"
+    )
+}
+
+#[tactic(auto, unfolding(crate::specs::AllowLists::more_url_names))]
+fn is_another_url_name(attribute: &str) -> bool
+    ensures { result ≡ is_one_of more_url_names attribute.now }
+{
+    matches!(
+        attribute,
+        "icon" | "itemid" | "itemtype" | "longdesc" | "lowsrc" | "manifest" | "poster" | "profile"
+    )
 }
 
 impl AllowList {
-    /// Lists nothing, lets URLs be relative, sets no `rel` and no prefix, and lets elements be nested 256 deep.
+    /// Returns a table that lists nothing, allows relative URLs, sets neither `rel` nor a prefix, allows list items
+    /// open around the text (`Around::items`), and elements nested 256 deep.
     pub fn new(alloc: Global) -> AllowList
         ensures { result ≡ record {
           elements = [];
@@ -86,6 +116,7 @@ impl AllowList {
           relative = true;
           rel = None;
           prefix = None;
+          around = record { in_p = false; in_heading = false; in_item = true; in_description = true; in_link = false };
           depth = 256;
         } }
     {
@@ -100,11 +131,12 @@ impl AllowList {
             relative: true,
             rel: None,
             prefix: None,
+            around: Around::items(),
             depth: 256,
         }
     }
 
-    /// Lets elements of this name through, if it has a kind. Where memory is refused nothing changes.
+    /// Allows elements of this name, if the name has a kind. Fails with `AllocError` if an allocation fails.
     pub fn add_element(&mut self, name: &str) -> Result<(), AllocError>
         ensures ok { OnOk result (self.new ≡ record self.old { elements = self.old.elements ++ name.now ∷ [] }) }
         ensures err { OnErr result (self.new ≡ self.old) }
@@ -112,15 +144,15 @@ impl AllowList {
         self.elements.push(self.alloc, name)
     }
 
-    /// Lets elements of this name go with all that they hold. Where memory is refused nothing changes.
-    pub fn add_dropped(&mut self, name: &str) -> Result<(), AllocError>
+    /// Drops elements of this name with their content. Fails with `AllocError` if an allocation fails.
+    pub fn drop_element(&mut self, name: &str) -> Result<(), AllocError>
         ensures ok { OnOk result (self.new ≡ record self.old { dropped = self.old.dropped ++ name.now ∷ [] }) }
         ensures err { OnErr result (self.new ≡ self.old) }
     {
         self.dropped.push(self.alloc, name)
     }
 
-    /// Lets any element keep attributes of this name. Where memory is refused nothing changes.
+    /// Allows attributes of this name for any element. Fails with `AllocError` if an allocation fails.
     pub fn add_attribute(&mut self, name: &str) -> Result<(), AllocError>
         ensures ok { OnOk result (self.new ≡ record self.old { attributes = self.old.attributes ++ name.now ∷ [] }) }
         ensures err { OnErr result (self.new ≡ self.old) }
@@ -128,8 +160,8 @@ impl AllowList {
         self.attributes.push(self.alloc, name)
     }
 
-    /// Lets the elements of one name keep attributes of another. Where memory is refused nothing changes.
-    pub fn add_attribute_of(&mut self, element: &str, name: &str) -> Result<(), AllocError>
+    /// Allows attributes of a name for the elements of another. Fails with `AllocError` if an allocation fails.
+    pub fn add_attribute_for(&mut self, element: &str, name: &str) -> Result<(), AllocError>
         ensures ok { OnOk result (self.new ≡ record self.old {
           attributes_of = self.old.attributes_of ++ keeping element.now (name.now ∷ []) ∷ [];
         }) }
@@ -140,16 +172,17 @@ impl AllowList {
         Ok(())
     }
 
-    /// Has attributes of this name hold a URL, as `href`, `src` and `cite` always do: what they lead to is asked. Where memory is refused
-    /// nothing changes.
-    pub fn add_url(&mut self, name: &str) -> Result<(), AllocError>
+    /// Treats attributes of this name as URLs, so that their schemes are checked; `href`, `src`, `cite`, `poster` and
+    /// other attributes of HTML always are. Fails with `AllocError` if an allocation fails.
+    pub fn add_url_attribute(&mut self, name: &str) -> Result<(), AllocError>
         ensures ok { OnOk result (self.new ≡ record self.old { urls = self.old.urls ++ name.now ∷ [] }) }
         ensures err { OnErr result (self.new ≡ self.old) }
     {
         self.urls.push(self.alloc, name)
     }
 
-    /// Lets URLs have this scheme, which is written in lower case and without its ':'. Where memory is refused nothing changes.
+    /// Allows this scheme for URLs. It must be given in lower case, without ':'. Fails with `AllocError` if an
+    /// allocation fails.
     pub fn add_scheme(&mut self, name: &str) -> Result<(), AllocError>
         ensures ok { OnOk result (self.new ≡ record self.old { schemes = self.old.schemes ++ name.now ∷ [] }) }
         ensures err { OnErr result (self.new ≡ self.old) }
@@ -157,14 +190,14 @@ impl AllowList {
         self.schemes.push(self.alloc, name)
     }
 
-    /// Lets no URL be relative.
-    pub fn refuse_relative(&mut self)
+    /// Allows no relative URLs.
+    pub fn deny_relative(&mut self)
         ensures { self.new ≡ record self.old { relative = false } }
     {
         self.relative = false;
     }
 
-    /// Sets the attribute `rel` of each `a` to this. Where memory is refused nothing changes.
+    /// Sets the attribute `rel` of each `a` to this value. Fails with `AllocError` if an allocation fails.
     pub fn set_rel(&mut self, rel: &str) -> Result<(), AllocError>
         ensures ok { OnOk result (self.new ≡ record self.old { rel = Some rel.now }) }
         ensures err { OnErr result (self.new ≡ self.old) }
@@ -174,9 +207,10 @@ impl AllowList {
         Ok(())
     }
 
-    /// Has the value of each `id` and each `name` that is kept begin with this: it is put before those that don't. Where memory is refused
-    /// nothing changes.
-    pub fn set_prefix(&mut self, prefix: &str) -> Result<(), AllocError>
+    /// Sets a prefix for ids: for the values of each `id` and `name` that is kept, and for the references to them. It
+    /// is put before a value that doesn't begin with it. A prefix with ASCII whitespace or NUL is ignored. Fails with
+    /// `AllocError` if an allocation fails.
+    pub fn set_id_prefix(&mut self, prefix: &str) -> Result<(), AllocError>
         ensures ok { OnOk result (self.new ≡ record self.old { prefix = Some prefix.now }) }
         ensures err { OnErr result (self.new ≡ self.old) }
     {
@@ -185,14 +219,21 @@ impl AllowList {
         Ok(())
     }
 
-    /// Lets elements be nested so deep.
+    /// Sets what may be open around the text at the place that it is put into.
+    pub fn set_around(&mut self, around: Around)
+        ensures { self.new ≡ record self.old { around = around } }
+    {
+        self.around = around;
+    }
+
+    /// Sets the maximal depth of elements. Browsers nest no element deeper than 512, including those around the text.
     pub fn set_depth(&mut self, depth: usize)
         ensures { self.new ≡ record self.old { depth = depth } }
     {
         self.depth = depth;
     }
 
-    // Whether an attribute is listed, for any element or for this one.
+    // The attribute is listed, for any element or for this one.
     fn lists(&self, element: &str, attribute: &str) -> bool
         ensures { result ≡ is_listed self.now element.now attribute.now }
     {
@@ -200,14 +241,14 @@ impl AllowList {
             || any_keeps(self.attributes_of.as_slice(), element, attribute)
     }
 
-    // Whether an attribute holds a URL.
+    // The attribute holds a URL.
     fn holds_url(&self, attribute: &str) -> bool
         ensures { result ≡ holds_url self.now attribute.now }
     {
-        is_url_name(attribute) || self.urls.has(attribute)
+        is_url_name(attribute) || is_another_url_name(attribute) || self.urls.has(attribute)
     }
 
-    // Whether a URL is relative, where it may be, or has a scheme that is listed.
+    // The URL is relative, if that is allowed, or has a listed scheme.
     fn may_lead_to(&self, value: &str) -> bool
         ensures { result ≡ leads_well self.now.relative self.now.schemes (scheme_of value.now) }
     {
@@ -218,22 +259,18 @@ impl AllowList {
 impl Policy for AllowList {
     ghost rules = { table_rules };
 
-    // Whether the name is listed.
-    fn names(&self, element: &str) -> bool {
+    fn allows(&self, element: &str) -> bool {
         self.elements.has(element)
     }
 
-    // Whether the name is listed among those.
     fn drops(&self, element: &str) -> bool {
         self.dropped.has(element)
     }
 
-    // Whether the attribute is listed, and its URL may be kept if it has one.
-    fn keeps(&self, element: &str, attribute: &str, value: &str) -> bool {
+    fn keeps_attribute(&self, element: &str, attribute: &str, value: &str) -> bool {
         self.lists(element, attribute) && (!self.holds_url(attribute) || self.may_lead_to(value))
     }
 
-    // What was set, if it was.
     fn rel(&self) -> Option<&str> {
         match &self.rel {
             Some(rel) => Some(rel.as_str()),
@@ -241,7 +278,6 @@ impl Policy for AllowList {
         }
     }
 
-    // What was set, if it was.
     fn prefix(&self) -> Option<&str> {
         match &self.prefix {
             Some(prefix) => Some(prefix.as_str()),
@@ -249,7 +285,10 @@ impl Policy for AllowList {
         }
     }
 
-    // What was set, or 256.
+    fn around(&self) -> Around {
+        self.around
+    }
+
     fn depth(&self) -> usize {
         self.depth
     }

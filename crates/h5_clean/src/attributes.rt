@@ -1,21 +1,21 @@
 //! The attributes that are left.
-ghost use Rattle.std.specs.Prelude.{◌≡◌, ◌∷◌, ◌++◌, [], List, Some, map, IfOk, OnOk, option_copied, string_bytes};
+ghost use Rattle.std.specs.Prelude.{◌≡◌, ◌∷◌, ◌++◌, ◌&&◌, [], List, Some, map, not, true, IfOk, OnOk, option_copied, string_bytes};
 ghost use Rattle.std.specs.List.{list_all, list_any};
 ghost use Rattle.std.specs.Iterator.{Drains, IsFinite};
 ghost use Rattle.h5_names.specs.AttributeText.{attribute_text, attribute_texts, is_same_name};
 ghost use Rattle.h5_interface.specs.Changes.{has_attribute};
 ghost use Rattle.h5_tables.specs.TagSets.{is_one_of};
 ghost use Rattle.h5_round_trip.specs.Readable.{is_name_byte};
-ghost use Rattle.h5_clean.specs.Policies.{as_left, attributes_left, bare, id_names, is_name, left_behind, prefix_of, prefixed, rel_of, sets, stays, value_left};
+ghost use Rattle.h5_clean.specs.Policies.{acting_names, as_left, attributes_left, bare, fragment_prefixed, id_list_names, id_names, is_name, is_prefix_byte, is_refused, left_behind, may_act, may_stay, named_behind, prefix_of, prefixed, refused_names, rel_of, sets, stays, value_left, words_prefixed};
 ghost use Rattle.h5_clean.specs.Texts.{readable};
 
 use super::policy::Policy;
-use super::texts::readable;
+use super::texts::{readable, text_of_bytes};
 use h5_names::{Attribute, LocalName, Namespace, QualName};
 use h5_serialize::AttrRef;
 use std::alloc::{AllocError, Global};
 
-// Whether a byte may stand in a name, so that the name is read as it was written.
+// A byte of a name that is read back as it was written.
 fn is_name_byte(b: u8) -> bool
     ensures { result ≡ is_name_byte b }
 {
@@ -30,14 +30,14 @@ fn are_name_bytes(text: &str) -> bool
     text.as_bytes().iter().all(|b| is_name_byte(*b))
 }
 
-// Whether a name is read as it was written.
+// The name is read back as it was written.
 fn is_name(name: &str) -> bool
     ensures { result ≡ is_name name.now }
 {
     !name.is_empty() && are_name_bytes(name)
 }
 
-// Whether a name is this one, without prefix and namespace.
+// The name is this one, without prefix and namespace.
 fn is_bare(name: &QualName, local: &LocalName) -> bool
     ensures { result ≡ is_same_name name.now (bare local.now) }
 {
@@ -50,56 +50,207 @@ fn any_is_bare(attrs: &[Attribute], local: &LocalName) -> bool
     attrs.iter().any(|attr| is_bare(&attr.name, local))
 }
 
-// Whether one of these has this name.
+// One of the attributes has this name.
 fn has_name(attrs: &[Attribute], local: &LocalName) -> bool
     ensures { result ≡ has_attribute (bare local.now) (attribute_texts attrs.now) }
 {
     any_is_bare(attrs, local)
 }
 
-// Whether the policy sets this attribute.
+// The policy sets this attribute.
 fn sets<P: Policy>(policy: &P, element: &str, local: &str) -> bool
     ensures { result ≡ sets (P.rules policy.now) element.now local.now }
 {
     element == "a" && local == "rel" && policy.rel().is_some()
 }
 
-// Whether an attribute names a thing in the page.
+// The attribute holds a page, a style, a secret, or a list of URLs, or turns an element into another, or uses a map of
+// the page.
+#[tactic(auto, unfolding(crate::specs::Policies::refused_names))]
+fn is_refused_name(local: &str) -> bool
+    ensures { result ≡ is_one_of refused_names local.now }
+{
+    matches!(
+        local,
+        "srcdoc"
+            | "style"
+            | "nonce"
+            | "is"
+            | "slot"
+            | "srcset"
+            | "imagesrcset"
+            | "http-equiv"
+            | "xlink:href"
+            | "ping"
+            | "attributionsrc"
+            | "archive"
+            | "usemap"
+    )
+}
+
+/// Returns true if an attribute of this name is never allowed, regardless of the policy: event handlers, styles and
+/// others.
+pub fn is_refused(local: &str) -> bool
+    ensures { result ≡ is_refused local.now }
+{
+    local.starts_with("on") || is_refused_name(local)
+}
+
+// By this attribute an element acts on another one of the page.
+#[tactic(auto, unfolding(crate::specs::Policies::acting_names))]
+fn is_acting_name(local: &str) -> bool
+    ensures { result ≡ is_one_of acting_names local.now }
+{
+    matches!(
+        local,
+        "for" | "form" | "popovertarget" | "commandfor" | "interestfor"
+    )
+}
+
+/// Returns true if an attribute of this name is allowed with this prefix of ids. An attribute by which an element acts
+/// on another one, such as `for`, is never allowed without a prefix: it could act on an element of the page around the
+/// text.
+pub fn may_act(prefix: &str, local: &str) -> bool
+    ensures { result ≡ may_act prefix.now local.now }
+{
+    !prefix.is_empty() || !is_acting_name(local)
+}
+
+fn may_stay(prefix: &str, local: &str) -> bool
+    ensures { result ≡ is_name local.now && (not (is_refused local.now) && may_act prefix.now local.now) }
+{
+    is_name(local) && !is_refused(local) && may_act(prefix, local)
+}
+
+// The attribute has an id, or refers to one.
 #[tactic(auto, unfolding(crate::specs::Policies::id_names))]
 fn is_id_name(local: &str) -> bool
     ensures { result ≡ is_one_of id_names local.now }
 {
-    matches!(local, "id" | "name")
+    matches!(
+        local,
+        "id" | "name"
+            | "for"
+            | "form"
+            | "list"
+            | "popovertarget"
+            | "commandfor"
+            | "interestfor"
+            | "aria-activedescendant"
+    )
 }
 
-// A value behind a prefix, unless it begins with it.
-fn prefixed(alloc: Global, prefix: &str, value: &str) -> Result<String, AllocError>
-    ensures { IfOk result (λ made. string_bytes made ≡ prefixed (prefix_of (Some prefix.now)) (readable value.now)) }
+// The attribute refers to several ids.
+#[tactic(auto, unfolding(crate::specs::Policies::id_list_names))]
+fn is_id_list_name(local: &str) -> bool
+    ensures { result ≡ is_one_of id_list_names local.now }
 {
-    let value = readable(alloc, value)?;
-    let mut made = readable(alloc, prefix)?;
-    if value.as_str().starts_with(made.as_str()) {
-        return Ok(value);
+    matches!(
+        local,
+        "headers"
+            | "itemref"
+            | "aria-labelledby"
+            | "aria-describedby"
+            | "aria-controls"
+            | "aria-owns"
+            | "aria-details"
+            | "aria-flowto"
+            | "aria-errormessage"
+    )
+}
+
+fn is_prefix_byte(byte: u8) -> bool
+    ensures { result ≡ is_prefix_byte byte }
+{
+    !(byte.is_ascii_whitespace() || byte == 0)
+}
+
+/// Returns true if a prefix has neither ASCII whitespace nor NUL, so that it can be put before a word.
+pub fn is_prefix(prefix: &str) -> bool
+    ensures { result ≡ list_all is_prefix_byte prefix.now }
+{
+    prefix.as_bytes().iter().all(|byte| is_prefix_byte(*byte))
+}
+
+// The prefix of a policy, or an empty text.
+fn prefix_of<P: Policy>(policy: &P) -> &str
+    ensures { result.now ≡ prefix_of (P.rules policy.now).prefix }
+{
+    match policy.prefix() {
+        Some(prefix) if is_prefix(prefix) => prefix,
+        _ => "",
     }
-    made.push_str(value.as_str())?;
+}
+
+// The text, prefixed unless it already begins with the prefix.
+fn prefixed(alloc: Global, prefix: &str, text: &str) -> Result<String, AllocError>
+    ensures { IfOk result (λ made. string_bytes made ≡ prefixed prefix.now text.now) }
+{
+    if text.starts_with(prefix) {
+        return String::from_str(alloc, text);
+    }
+    let mut made = String::from_str(alloc, prefix)?;
+    made.push_str(text)?;
     Ok(made)
 }
 
-// What is left of an attribute's value.
-fn value_left<P: Policy>(
-    alloc: Global,
-    policy: &P,
-    local: &str,
-    value: &str,
-) -> Result<String, AllocError>
-    ensures { IfOk result (λ made. string_bytes made ≡ value_left (P.rules policy.now) local.now value.now) }
+// The text with each word prefixed, unless it already begins with the prefix.
+fn words_prefixed(alloc: Global, prefix: &[u8], mut rest: &[u8]) -> Result<Vec<u8>, AllocError>
+    ensures { IfOk result (λ made. made.items ≡ words_prefixed prefix.now true rest.entry.now) }
 {
-    if is_id_name(local)
-        && let Some(prefix) = policy.prefix()
-    {
-        return prefixed(alloc, prefix, value);
+    let mut made = Vec::new(alloc);
+    let mut begins = true;
+    while let [first, behind @ ..] = rest {
+        let is_blank = first.is_ascii_whitespace();
+        if begins && !is_blank && !rest.starts_with(prefix) {
+            made.extend_from_slice(prefix)?;
+        }
+        made.push(*first)?;
+        begins = is_blank;
+        rest = behind;
     }
-    readable(alloc, value)
+    Ok(made)
+}
+
+// The text with the remainder after a leading '#' prefixed, if the remainder isn't empty.
+fn fragment_prefixed(alloc: Global, prefix: &str, text: &str) -> Result<String, AllocError>
+    ensures { IfOk result (λ made. string_bytes made ≡ fragment_prefixed prefix.now text.now) }
+{
+    match text.strip_prefix('#') {
+        Some(id) if !id.is_empty() => {
+            let mut made = String::from_str(alloc, "#")?;
+            let id = prefixed(alloc, prefix, id)?;
+            made.push_str(id.as_str())?;
+            Ok(made)
+        }
+        _ => String::from_str(alloc, text),
+    }
+}
+
+// The value, prefixed if the attribute has an id or refers to some.
+fn named_behind(alloc: Global, prefix: &str, local: &str, text: &str) -> Result<String, AllocError>
+    ensures { IfOk result (λ made. string_bytes made ≡ named_behind prefix.now local.now text.now) }
+{
+    if is_id_name(local) {
+        prefixed(alloc, prefix, text)
+    } else if is_id_list_name(local) {
+        text_of_bytes(words_prefixed(alloc, prefix.as_bytes(), text.as_bytes())?)
+    } else if local == "href" {
+        fragment_prefixed(alloc, prefix, text)
+    } else {
+        String::from_str(alloc, text)
+    }
+}
+
+// What is left of an attribute's value.
+fn value_left(alloc: Global, prefix: &str, local: &str, value: &str) -> Result<String, AllocError>
+    ensures { IfOk result (λ made. string_bytes made ≡ named_behind prefix.now local.now (readable value.now)) }
+{
+    let text = readable(alloc, value)?;
+    if prefix.is_empty() {
+        return Ok(text);
+    }
+    named_behind(alloc, prefix, local, text.as_str())
 }
 
 // Adds an attribute, if it stays.
@@ -115,11 +266,12 @@ fn keep<P: Policy, T: AttrRef>(
 {
     let name = attr.name();
     let local = name.local.as_str();
-    if name.ns != Namespace::none() || !is_name(local) {
+    let prefix = prefix_of(policy);
+    if name.ns != Namespace::none() || !may_stay(prefix, local) {
         return Ok(());
     }
-    let value = value_left(alloc, policy, local, attr.value())?;
-    if policy.keeps(element, local, value.as_str())
+    let value = value_left(alloc, prefix, local, attr.value())?;
+    if policy.keeps_attribute(element, local, value.as_str())
         && !sets(policy, element, local)
         && !has_name(left.as_slice(), &name.local)
     {
@@ -155,7 +307,7 @@ fn set_rel<P: Policy>(
     }
 }
 
-/// What the policy leaves of an element's attributes.
+/// Returns what the policy leaves of an element's attributes. Fails with `AllocError` if an allocation fails.
 pub fn attributes_left<P: Policy, T: AttrRef, I: Iterator<Item = T> + Drop>(
     alloc: Global,
     policy: &P,

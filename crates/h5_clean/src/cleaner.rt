@@ -1,4 +1,4 @@
-//! A serializer that hands on what is let through to the one that writes HTML.
+//! A serializer that passes what is allowed on to the one that writes HTML.
 ghost use Rattle.std.specs.Prelude.{◌≡◌, ◌&&◌, ℕ, [], List, None, IfOk, IsOkUnless, false, true, if◌then◌else◌};
 ghost use Rattle.std.specs.Str.{is_utf8};
 ghost use Rattle.h5_serialize.specs.Call.{TextOf};
@@ -23,17 +23,17 @@ use h5_serialize::{AttrRef, HtmlSerializer, SerializeFault, SerializeOpts, Seria
 use std::alloc::Global;
 use std::io::Write;
 
-/// Where the next text stands.
+/// The position of the next text.
 #[derive(Clone, Copy, Debug, PartialEq, Eq)]
 pub enum Front {
     Nothing,
-    /// Behind the start tag of a `pre`, of which a reader takes a newline: one at the front of the text is written twice.
+    /// At the start of a `pre`, where a tree builder drops a newline: a leading one is written twice.
     Newlines,
-    /// At the very front, of which a reader takes a U+FEFF: the text loses it.
+    /// At the start of the fragment, where a tokenizer drops a U+FEFF: the text loses it.
     Marks,
 }
 
-// A text without what it loses there.
+// The text without what it loses there.
 fn without_front(front: Front, text: &str) -> &str
     ensures { result.now ≡ without_front front text.now }
 {
@@ -43,7 +43,7 @@ fn without_front(front: Front, text: &str) -> &str
     }
 }
 
-// Writes a text with a newline at its front twice.
+// Writes a text with a leading newline doubled.
 fn write_doubled<Wr: Write + Drop>(
     html: &mut HtmlSerializer<Wr>,
     text: &str,
@@ -57,7 +57,7 @@ fn write_doubled<Wr: Write + Drop>(
     html.write_text(text)
 }
 
-// Where the first text in an element of this kind stands.
+// The position of the first text in an element of this kind.
 fn front_inside(kind: Kind) -> Front
     ensures { result ≡ front_inside kind }
 {
@@ -67,7 +67,7 @@ fn front_inside(kind: Kind) -> Front
     }
 }
 
-/// Writes what is left of a tree, as it is told.
+/// Writes what is left of a tree, call by call.
 #[derive(Drop)]
 pub struct Cleaner<'a, P: Policy, Wr: Write + Drop> {
     html: HtmlSerializer<Wr>,
@@ -78,7 +78,8 @@ pub struct Cleaner<'a, P: Policy, Wr: Write + Drop> {
 }
 
 impl<'a, P: Policy, Wr: Write + Drop> Cleaner<'a, P, Wr> {
-    /// Nothing is written yet. The fault is `Memory`, where memory is refused; the writer is dropped then.
+    /// Returns a cleaner that has written nothing. Fails with `Memory` if an allocation fails; the writer is then
+    /// dropped.
     pub fn new(
         alloc: Global,
         policy: &'a P,
@@ -98,36 +99,36 @@ impl<'a, P: Policy, Wr: Write + Drop> Cleaner<'a, P, Wr> {
         })
     }
 
-    /// Its writer.
+    /// Returns the writer.
     pub fn into_writer(self) -> Wr
         ensures { self.entry.html.contents ≡ Wr.contents result }
     {
         self.html.writer
     }
 
-    // Where the next node stands.
+    // The place of the next node.
     fn place(&self) -> Place
         ensures { result ≡ place_among (P.rules self.now.policy.now) self.now.elements }
     {
         match self.elements.last() {
             Some(open) => open.place,
-            None => Place::in_flow(self.policy.depth()),
+            None => Place::first(self.policy.around(), self.policy.depth()),
         }
     }
 
-    // Whether an element of this name is let through here.
+    // An element of this name is allowed here.
     fn lets(&self, name: &QualName, place: Place, kind: Kind) -> bool
         ensures { result ≡ (is_html name.now && ((P.rules self.now.policy.now).names name.now.local && fits kind place)) }
     {
-        name.ns.is_html() && self.policy.names(name.local.as_str()) && place.fits(kind)
+        name.ns.is_html() && self.policy.allows(name.local.as_str()) && place.fits(kind)
     }
 
-    // Where that stands what an element holds that isn't let through.
+    // The place of the content of an element that isn't allowed.
     fn place_without(&self, name: &QualName, place: Place) -> Place
         ensures { result ≡ (if is_dropped (P.rules self.now.policy.now) name.now then nowhere place else place) }
     {
         let local = name.local.as_str();
-        if !name.ns.is_html() || (self.policy.drops(local) && !self.policy.names(local)) {
+        if !name.ns.is_html() || (self.policy.drops(local) && !self.policy.allows(local)) {
             return place.nowhere();
         }
         place
@@ -135,7 +136,7 @@ impl<'a, P: Policy, Wr: Write + Drop> Cleaner<'a, P, Wr> {
 }
 
 impl<'a, P: Policy, Wr: Write + Drop> Cleaner<'a, P, Wr> {
-    // Writes what may stand here of a text that can be read: what is left of one.
+    // Writes what is allowed here of a text, given what is left of the text.
     fn write_readable(&mut self, text: &str) -> Result<(), SerializeFault>
         ensures { (whole : List ℕ) → is_utf8 whole ≡ true → readable whole ≡ text.now →
             Makes answer_of after_call text_of (λ before called call fault after written. Unit {0}) (TextOf whole)

@@ -1,4 +1,4 @@
-//! A text, cleaned.
+//! Cleans a text.
 ghost use Rattle.std.specs.Prelude.{◌≡◌, ℕ, List, [], None, true, IfOk, string_bytes};
 ghost use Rattle.std.specs.Io.KnownBytes.{Appends};
 ghost use Rattle.h5_serialize.specs.declared.options.TraversalScope.TheVariants.{ChildrenOnly};
@@ -15,6 +15,7 @@ ghost use Rattle.h5_clean.specs.Cleaned.{Builds, BuildsFragment, IsClean, IsClea
 use super::cleaner::Cleaner;
 use super::laws::{a_clean_text_stays, a_cleaned_text_stays};
 use super::policy::Policy;
+use super::texts::text_of_bytes;
 use h5_arena::{Arena, NodeRef};
 use h5_driver::ParseOpts;
 use h5_driver::standard::{Parser, parse_fragment};
@@ -24,7 +25,7 @@ use h5_serialize::{Serialize, SerializeFault, TraversalScope};
 use std::alloc::{AllocError, Global};
 use std::io::Write;
 
-// A parser that hasn't failed, and a serializer over memory, meet no other fault.
+// The only error of a parser that hasn't failed, and of a serializer over memory, is a failed allocation.
 fn refused<F: Drop>(_fault: F) -> AllocError {
     AllocError
 }
@@ -51,8 +52,9 @@ fn tree_of(alloc: Global, html: &str) -> Result<Arena, AllocError>
     Ok(arena)
 }
 
-/// Writes what a policy leaves of what stands below a node, and gives the writer back. It may be written where what `clean` gives
-/// may be written. The fault is `Memory`, where memory is refused, or `Write`, where the writer failed; either way the writer is let go.
+/// Writes what a policy leaves of the tree below a node, and returns the writer. The result may be used where that of
+/// `clean` may be used. Fails with `Memory` if an allocation fails, and with `Write` if the writer fails; in both cases
+/// the writer is dropped.
 pub fn clean_tree<P: Policy, Wr: Write + Drop>(
     alloc: Global,
     node: &NodeRef<'_>,
@@ -68,7 +70,7 @@ pub fn clean_tree<P: Policy, Wr: Write + Drop>(
     Ok(cleaner.into_writer())
 }
 
-// The same of what stands below the root of a fragment, if it has one.
+// As `clean_tree`, for the root of a fragment, if there is one.
 fn clean_fragment<P: Policy, Wr: Write + Drop>(
     alloc: Global,
     arena: &Arena,
@@ -84,8 +86,8 @@ fn clean_fragment<P: Policy, Wr: Write + Drop>(
     }
 }
 
-/// Writes what a policy leaves of a text, and gives the writer back: `clean`, for large texts. The fault is `Memory`, where memory is
-/// refused, or `Write`, where the writer failed; either way the writer is let go.
+/// Writes what a policy leaves of a text, as `clean` returns it, and returns the writer. Fails with `Memory` if an
+/// allocation fails, and with `Write` if the writer fails; in both cases the writer is dropped.
 pub fn clean_into<P: Policy, Wr: Write + Drop>(
     alloc: Global,
     html: &str,
@@ -97,13 +99,6 @@ pub fn clean_into<P: Policy, Wr: Write + Drop>(
     let arena = tree_of(alloc, html)?;
     let given = clean_fragment(alloc, &arena, policy, writer)?;
     Ok(given)
-}
-
-// Bytes as a text. What a cleaner has written is one.
-fn text_of_bytes(bytes: Vec<u8>) -> Result<String, AllocError>
-    ensures { IfOk result (λ text. string_bytes text ≡ bytes.items) }
-{
-    String::from_utf8(bytes).map_err(refused)
 }
 
 // What is left of a text, as bytes.
@@ -123,11 +118,17 @@ fn clean_text<P: Policy>(alloc: Global, html: &str, policy: &P) -> Result<String
     Ok(out)
 }
 
-/// What a policy leaves of a text, which is read as inside of a `div`. An `AllocError` where memory is refused.
+/// Returns what a policy leaves of a text, which is parsed as a fragment in a `div`. Fails with `AllocError` if an
+/// allocation fails.
 ///
-/// It may be written into a page served as UTF-8 wherever blocks may stand, but not inside of a script, a style, an attribute or a
-/// comment. Whatever parser reads it there builds what the policy let through: `laws::what_is_left_comes_back`. A text that was cleaned
-/// stays, and so does one that is read as a fragment of which nothing is to be taken, but for how it is written.
+/// Parsed as a fragment, by a new parser with default options, in an HTML element by which the mode is "in body", such
+/// as a `div` or an `li`, the result becomes exactly the allowed tree (`laws::what_is_left_comes_back`). Pasted into a
+/// page served as UTF-8, at a place that is a box (`IsBox`) in which no more is open than the policy's `around` says,
+/// it adds exactly that tree (`laws::what_is_left_stays_in_its_box`). It must not be pasted into a script, a style, an
+/// attribute or a comment.
+///
+/// A result is returned unchanged if it is cleaned again by the same rules. If the text is parsed as a fragment that
+/// the policy allows completely, the result is the text of that fragment (`written_fragment`).
 pub fn clean<P: Policy>(alloc: Global, html: &str, policy: &P) -> Result<String, AllocError>
     ensures cleaned { IfOk result (λ out. IsCleaned (P.rules policy.now) html.now (string_bytes out)) }
     ensures again { IfOk result (λ out. (before : List ℕ) → IsCleaned (P.rules policy.now) before html.now → string_bytes out ≡ html.now) }

@@ -1,4 +1,4 @@
-//! The elements of the tree that are open.
+//! The open elements of the tree.
 ghost use Rattle.std.specs.Prelude.{◌≡◌, ◌∷◌, [], OnOk, OnErr};
 ghost use Rattle.h5_clean.specs.Calls.{first_of, without_first};
 
@@ -6,14 +6,14 @@ use super::place::Place;
 use std::alloc::{AllocError, Global};
 use std::marker::Model;
 
-/// An element of the tree that is open: whether its tags are written, and where that stands what it holds.
+/// An open element of the tree: if its tags are written, and the place of its content.
 #[derive(Clone, Copy, Debug)]
 pub struct OpenElement {
     pub is_written: bool,
     pub place: Place,
 }
 
-/// Those that are open.
+/// The open elements.
 #[derive(Debug, Drop)]
 pub struct OpenElements {
     // The innermost one last.
@@ -31,7 +31,7 @@ impl Model for OpenElements {
 }
 
 impl OpenElements {
-    /// None.
+    /// Returns an empty list.
     pub fn new(alloc: Global) -> OpenElements
         ensures { result ≡ [] }
     {
@@ -40,14 +40,14 @@ impl OpenElements {
         }
     }
 
-    /// The innermost one.
+    /// Returns the innermost element.
     pub fn last(&self) -> Option<OpenElement>
         ensures { result ≡ first_of self.now }
     {
         self.list.last().copied()
     }
 
-    /// One more, innermost. Where memory is refused nothing changes.
+    /// Adds an element as the innermost. Fails with `AllocError` if an allocation fails; then nothing changes.
     pub fn push(&mut self, element: OpenElement) -> Result<(), AllocError>
         ensures ok { OnOk result (self.new ≡ element ∷ self.old) }
         ensures err { OnErr result (self.new ≡ self.old) }
@@ -56,7 +56,7 @@ impl OpenElements {
         Ok(())
     }
 
-    /// The innermost one ends.
+    /// Removes the innermost element.
     pub fn pop(&mut self)
         ensures { self.new ≡ without_first self.old }
     {

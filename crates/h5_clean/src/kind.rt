@@ -4,12 +4,12 @@ ghost use Rattle.h5_tables.specs.TagSets.{cell_names, heading_names, is_one_of};
 ghost use Rattle.h5_plain.specs.Plain.{barrier_names, inline_names, mark_names, open_block_names, part_names, phrase_names, term_names};
 ghost use Rattle.h5_clean.specs.Kinds.{early_barrier_names, early_phrase_names, kind_in, kind_of, late_barrier_names, late_phrase_names, lone_rows};
 
-/// What the rules of "in body" and of tables ask of an element (HTML standard, section 13.2.6.4).
+/// What the rules of "in body" and of tables distinguish (HTML standard, section 13.2.6.4).
 #[derive(Clone, Copy, Debug, PartialEq, Eq)]
 pub enum Kind {
-    /// `address`, `dialog`, `div`: a block through which an item of a list is seen.
+    /// `address`, `dialog`, `div`: a block that doesn't end the search for a list item.
     Division,
-    /// `article`, `section`, `ul` and the like: a block that hides it.
+    /// `article`, `section`, `ul` and others: a block that ends it.
     Barrier,
     /// `pre`.
     Preformatted,
@@ -25,9 +25,9 @@ pub enum Kind {
     Ruled,
     /// `br`, `img`, `wbr`.
     Break,
-    /// `b`, `em` and the other formatting elements but `a` and `nobr`.
+    /// `b`, `em` and the other formatting elements, except `a` and `nobr`.
     Formatted,
-    /// `span`, `abbr` and other elements without a rule.
+    /// `span`, `abbr` and other elements without a rule by their name.
     Phrase,
     /// `a`.
     Link,
@@ -49,7 +49,7 @@ pub enum Kind {
     Unknown,
 }
 
-// The names of phrases, in two halves, and then in one.
+// The names of phrases: two parts, and then all.
 #[tactic(auto, unfolding(crate::specs::Kinds::early_phrase_names))]
 fn is_early_phrase(name: &str) -> bool
     ensures { result ≡ is_one_of early_phrase_names name.now }
@@ -113,7 +113,7 @@ fn is_division(name: &str) -> bool
     matches!(name, "address" | "dialog" | "div")
 }
 
-// Those of blocks that hide an item, likewise.
+// The names of blocks that end the search for a list item: two parts, and then all.
 #[tactic(auto, unfolding(crate::specs::Kinds::early_barrier_names))]
 fn is_early_barrier(name: &str) -> bool
     ensures { result ≡ is_one_of early_barrier_names name.now }
@@ -146,7 +146,6 @@ fn is_late_barrier(name: &str) -> bool
             | "menu"
             | "nav"
             | "ol"
-            | "search"
             | "section"
             | "summary"
             | "ul"
@@ -194,7 +193,7 @@ fn is_part(name: &str) -> bool
     matches!(name, "tbody" | "tfoot" | "thead")
 }
 
-// The kind of a name that no set above has.
+// The kind of a name that isn't in a set above.
 #[tactic(auto, unfolding(crate::specs::Kinds::lone_rows))]
 fn kind_alone(name: &str) -> Kind
     ensures { result ≡ kind_in lone_rows name.now }
@@ -214,7 +213,7 @@ fn kind_alone(name: &str) -> Kind
     }
 }
 
-/// The kind of a name.
+/// Returns the kind of a name.
 #[tactic(auto, unfolding(crate::specs::Kinds::set_rows))]
 pub fn kind_of(name: &str) -> Kind
     ensures { result ≡ kind_of name.now }

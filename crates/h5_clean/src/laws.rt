@@ -1,11 +1,17 @@
-//! The laws of cleaning, each the contract of a function that does nothing.
-ghost use Rattle.std.specs.Prelude.{◌≡◌, ℕ, Bool, false, true, List, []};
+//! The laws of cleaning, each the contract of a function that does nothing. "What is left" is what a policy's rules
+//! allow of a text or of a tree.
+ghost use Rattle.std.specs.Prelude.{◌≡◌, ◌≢◌, ◌++◌, ℕ, Bool, false, true, List, []};
 ghost use Rattle.std.specs.Str.{is_utf8};
 ghost use Rattle.h5_names.specs.AttributeText.{AttributeText};
 ghost use Rattle.h5_names.specs.declared.qualified.QualName.{QualName};
 ghost use Rattle.h5_interface.specs.Seen.{Seen};
 ghost use Rattle.h5_interface.specs.SinkChoices.{SinkChoices};
+ghost use Rattle.h5_states.specs.Reading.{ReaderPlace};
+ghost use Rattle.h5_rules.specs.Run.{View};
+ghost use Rattle.h5_rules.specs.Sound.{Fitting};
 ghost use Rattle.h5_plain.specs.Rebuilding.{HoldsDocument};
+ghost use Rattle.h5_plain.specs.Staying.{IsBox};
+ghost use Rattle.h5_round_trip.specs.Inside.{IsInData, StaysRead, text_before};
 ghost use Rattle.h5_driver.specs.Options.{default_options};
 ghost use Rattle.h5_driver.specs.PlainFragments.{FragmentStands, IsBodyContext};
 ghost use Rattle.h5_driver.specs.StandardTexts.{ParsesFragment};
@@ -17,22 +23,26 @@ ghost use Rattle.h5_plain.specs.Plain.{ArePlain, Flow, IsPlain, Nodes, nothing_o
 ghost use Rattle.h5_round_trip.specs.Readable.{AreReadable, CanBeRead, IsReadable};
 ghost use Rattle.h5_round_trip.specs.Written.{written_fragment};
 ghost use Rattle.h5_clean.specs.Calls.{after_call, first_state, text_of};
-ghost use Rattle.h5_clean.specs.Pass.{AllLet, IsWithin, cleaned, with_first};
-ghost use Rattle.h5_clean.specs.Policies.{ArePrefixed, Rules, attributes_left};
+ghost use Rattle.h5_clean.specs.Pass.{AllLet, IsWithin, cleaned, first_place, with_first};
+ghost use Rattle.h5_clean.specs.Places.{around};
+ghost use Rattle.h5_clean.specs.Policies.{ArePrefixed, MayStay, Rules, attributes_left};
 ghost use Rattle.h5_clean.specs.Source.{Source, calls_before, source_of};
 ghost use Rattle.h5_clean.specs.Texts.{readable, without_marks};
 
 use h5_arena::laws::calls_stand_around_those_of_children;
 use h5_driver::Reader;
 use h5_driver::laws::{fragments_come_back, fragments_come_back_over};
+use h5_round_trip::laws::standard::texts_stay_in_their_box;
 
-/// What is left of a text is read as it was written, and all is left of a text that is read so.
+/// If a text is UTF-8, what is left of it is read back as it was written. If a text is read back like that, all of it
+/// is left.
 pub fn what_is_left_of_a_text_can_be_read()
     ensures left { (text : List ℕ) → is_utf8 text ≡ true → IsReadable (readable text) }
     ensures same { (text : List ℕ) → IsReadable text → readable text ≡ text }
 {}
 
-/// The attributes that are left have no namespace, each name once, and are read as they were written; and all are left of them.
+/// The attributes that are left of an element have no namespace and distinct names, and are read back as they were
+/// written; all of them are left again.
 pub fn what_is_left_of_attributes_can_be_read()
     ensures plain { (rules : Rules) (element : List ℕ) (attrs : List AttributeText) → ArePlain (attributes_left rules element attrs) }
     ensures readable { (rules : Rules) (element : List ℕ) (attrs : List AttributeText) → AreReadable (attributes_left rules element attrs) }
@@ -40,27 +50,36 @@ pub fn what_is_left_of_attributes_can_be_read()
         attributes_left rules element (attributes_left rules element attrs) ≡ attributes_left rules element attrs }
 {}
 
-/// Of the attributes that are left, the value of each `id` and each `name` begins with the prefix, if one is set.
+/// No attribute that is left begins with `on`, is one of `refused_names`, such as `style` or `srcdoc`, or is one of
+/// `acting_names` without a prefix, regardless of the rules.
+pub fn what_is_left_of_attributes_may_stay()
+    ensures { (rules : Rules) (element : List ℕ) (attrs : List AttributeText) → MayStay rules (attributes_left rules element attrs) }
+{}
+
+/// If a prefix is set, each id in the attributes that are left begins with it: in `id` and `name`, and in those that
+/// refer to one or several ids.
 pub fn what_is_left_of_names_is_prefixed()
     ensures { (rules : Rules) (element : List ℕ) (attrs : List AttributeText) → ArePrefixed rules (attributes_left rules element attrs) }
 {}
 
-/// What is left of a tree is a plain fragment that can be read, of which the rules let all through.
+/// What is left of a tree is a plain fragment that can be read, that doesn't begin with U+FEFF, and that the rules
+/// allow completely.
 pub fn what_is_left_fits()
+    ensures around { (rules : Rules) (source : Source) → IsPlain true (Flow false (around (first_place rules))) (cleaned rules source) }
     ensures plain { (rules : Rules) (source : Source) → IsPlain true (Flow false nothing_open) (cleaned rules source) }
     ensures readable { (rules : Rules) (source : Source) → CanBeRead (cleaned rules source) }
     ensures allowed { (rules : Rules) (source : Source) → AllLet rules (cleaned rules source) × IsWithin rules.depth (cleaned rules source) }
     ensures unmarked { (rules : Rules) (source : Source) → with_first without_marks (cleaned rules source) ≡ cleaned rules source }
 {}
 
-/// Of a plain fragment that can be read, that doesn't begin with U+FEFF, and of which the rules let all through, all is left.
+/// If a plain fragment can be read, doesn't begin with U+FEFF, and the rules allow it completely, all of it is left.
 pub fn what_fits_is_left()
-    ensures { (rules : Rules) (nodes : Nodes) → IsPlain true (Flow false nothing_open) nodes → CanBeRead nodes
+    ensures { (rules : Rules) (nodes : Nodes) → IsPlain true (Flow false (around (first_place rules))) nodes → CanBeRead nodes
         → AllLet rules nodes → IsWithin rules.depth nodes → with_first without_marks nodes ≡ nodes
         → cleaned rules (source_of nodes) ≡ nodes }
 {}
 
-/// So to clean again what was left takes nothing more.
+/// Cleaning again what is left of a tree doesn't change it.
 pub fn cleaning_again_takes_nothing()
     ensures { (rules : Rules) (source : Source) → cleaned rules (source_of (cleaned rules source)) ≡ cleaned rules source }
 {
@@ -68,31 +87,32 @@ pub fn cleaning_again_takes_nothing()
     what_fits_is_left();
 }
 
-/// What a cleaner writes for the calls of a tree is the text of what is left of it.
+/// A cleaner writes, for the calls of a tree, the text of what is left of the tree.
 pub fn what_is_left_is_written()
     ensures { (rules : Rules) (source : Source) → text_of_each after_call text_of (first_state rules) (calls_before source [])
         ≡ written_fragment (cleaned rules source) }
 {}
 
-/// Calls tell of one tree.
+/// If two trees have the same calls, they are equal.
 pub fn calls_tell_of_one_tree()
     ensures { (one other : Source) → calls_before one [] ≡ calls_before other [] → one ≡ other }
 {}
 
-/// The text of a plain fragment whose first text doesn't begin with U+FEFF doesn't begin with it.
+/// If the first text of a plain fragment doesn't begin with U+FEFF, neither does the fragment's text.
 pub fn texts_of_fragments_are_unmarked()
     ensures { (nodes : Nodes) → IsPlain true (Flow false nothing_open) nodes → CanBeRead nodes → with_first without_marks nodes ≡ nodes
         → behind_mark true (written_fragment nodes) ≡ written_fragment nodes }
 {}
 
-/// What is left of a text is one text.
+/// What is left of a text, by given rules, is unique.
 pub fn what_is_left_of_a_text_is_one_text()
     ensures { (rules : Rules) (html x y : List ℕ) → IsCleaned rules html x → IsCleaned rules html y → x ≡ y }
 {}
 
-/// What is left of a text is read as what was let through. Whatever parser of fragments over the standard reader takes it, in the
-/// context of an element by which the mode is "in body", and in whatever pieces (`h5_driver::laws::pieces_then_finish`), builds exactly
-/// what the rules let through of the tree of the text.
+/// If `out` is what the rules leave of `html`, then any parser of fragments over the standard tokenizer, with default
+/// options, over a sink with only its document, in the context of an HTML element by which the mode is "in body",
+/// builds from `out` exactly what the rules allow of the tree of `html`. How `out` is split doesn't matter
+/// (`h5_driver::laws::pieces_then_finish`).
 pub fn what_is_left_comes_back()
     ensures { (rules : Rules) (html out : List ℕ) (cleaned_is : IsCleaned rules html out)
         (choices : SinkChoices) (seen told : Seen) (name : QualName) (attrs : List AttributeText) (allows_scripting : Bool) →
@@ -102,7 +122,7 @@ pub fn what_is_left_comes_back()
     fragments_come_back();
 }
 
-/// So it is over every reader, the plain one among them.
+/// As above, over any `Reader`, including the plain tokenizer.
 pub fn what_is_left_comes_back_over<R: Reader>()
     ensures { (rules : Rules) (html out : List ℕ) (cleaned_is : IsCleaned rules html out)
         (seen told : Seen) (name : QualName) (attrs : List AttributeText) (allows_scripting : Bool) →
@@ -113,7 +133,21 @@ pub fn what_is_left_comes_back_over<R: Reader>()
     fragments_come_back_over::<R>();
 }
 
-/// A cleaned text stays.
+/// If `out` is what the rules leave of `html`, the standard's tokenizer is in the data state, and the builder is in the
+/// middle of a page at an element in which no more is open than the rules say (`IsBox`), then `out` is read up to the
+/// remainder, which must not be empty, as the allowed tree. After it the open elements, the mode and the list of active
+/// formatting elements are unchanged, and the allowed tree follows that element's children.
+pub fn what_is_left_stays_in_its_box()
+    ensures { (choices : SinkChoices) (rules : Rules) (html out : List ℕ) (cleaned_is : IsCleaned rules html out)
+        (foreign : View → Bool) (place : ReaderPlace) (view : View) (box : IsBox (around (first_place rules)) view.world) (rest : List ℕ) →
+        IsInData place → Fitting view.world → view.ended ≡ false → view.failed ≡ false → rest ≢ []
+        → (text_before (cleaned rules cleaned_is.source) rest ≡ out ++ rest)
+        × StaysRead choices foreign place view (around (first_place rules)) box (cleaned rules cleaned_is.source) rest }
+{
+    texts_stay_in_their_box();
+}
+
+/// If a result is cleaned again by the same rules, it doesn't change.
 pub fn a_cleaned_text_stays()
     ensures { (rules : Rules) (html out again : List ℕ) → IsCleaned rules html out → IsCleaned rules out again → again ≡ out }
 {
@@ -121,7 +155,7 @@ pub fn a_cleaned_text_stays()
     fragments_come_back();
 }
 
-/// Of a text that is read as a fragment of which nothing is to be taken, all is left.
+/// If a text is parsed as a fragment that the rules allow completely, the result is the text of that fragment.
 pub fn a_clean_text_stays()
     ensures { (rules : Rules) (html out : List ℕ) (nodes : Nodes) → IsClean rules nodes → BuildsFragment html nodes
         → IsCleaned rules html out → out ≡ written_fragment nodes }

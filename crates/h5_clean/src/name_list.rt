@@ -4,19 +4,19 @@ ghost use Rattle.std.specs.List.{list_any};
 ghost use Rattle.h5_names.specs.AttributeText.{is_same_text};
 ghost use Rattle.h5_tables.specs.TagSets.{is_one_of};
 ghost use Rattle.h5_clean.specs.AllowLists.{is_listed_for};
-ghost use Rattle.h5_clean.specs.TextPolicy.{keeping};
+ghost use Rattle.h5_clean.specs.DefaultPolicy.{keeping};
 
 use std::alloc::{AllocError, Global};
 use std::marker::Model;
 
-// Whether a name is among these.
+// The name is one of these.
 fn is_among(names: &[String], name: &str) -> bool
     ensures { result ≡ list_any (λ other. is_same_text (string_bytes other) name.now) names.now }
 {
     names.iter().any(|other| other.as_str() == name)
 }
 
-/// Names, in the order in which they came.
+/// Names, in the order in which they were added.
 #[derive(Debug, Drop)]
 pub struct NameList {
     names: Vec<String>,
@@ -31,7 +31,7 @@ impl Model for NameList {
 }
 
 impl NameList {
-    /// None.
+    /// Returns an empty list.
     pub fn new(alloc: Global) -> NameList
         ensures { result ≡ [] }
     {
@@ -40,7 +40,7 @@ impl NameList {
         }
     }
 
-    /// One more, behind the others. Where memory is refused nothing changes.
+    /// Adds a name at the end. Fails with `AllocError` if an allocation fails; then nothing changes.
     pub fn push(&mut self, alloc: Global, name: &str) -> Result<(), AllocError>
         ensures ok { OnOk result (self.new ≡ self.old ++ name.now ∷ []) }
         ensures err { OnErr result (self.new ≡ self.old) }
@@ -50,14 +50,14 @@ impl NameList {
         Ok(())
     }
 
-    /// Whether a name is among them.
+    /// Returns true if the list has a name.
     pub fn has(&self, name: &str) -> bool
         ensures { result ≡ is_one_of self.now name.now }
     {
         is_among(self.names.as_slice(), name)
     }
 
-    /// All of them.
+    /// Returns all names.
     pub fn as_slice(&self) -> &[String]
         ensures { map string_bytes result.now ≡ self.now }
     {
@@ -65,7 +65,7 @@ impl NameList {
     }
 }
 
-/// The attributes that the elements of a name keep.
+/// Attributes that the elements of a name keep.
 #[derive(Debug, Drop)]
 pub struct AttributeList {
     element: String,
@@ -74,7 +74,7 @@ pub struct AttributeList {
 
 impl Model for AttributeList {
     ghost use Rattle.std.specs.Prelude.{string_bytes};
-    ghost use Rattle.h5_clean.specs.TextPolicy.{Keeping};
+    ghost use Rattle.h5_clean.specs.DefaultPolicy.{Keeping};
 
     ghost Value = { Keeping };
 
@@ -82,7 +82,7 @@ impl Model for AttributeList {
 }
 
 impl AttributeList {
-    /// One attribute of an element, or an `AllocError` where memory is refused.
+    /// Returns a list of one attribute of an element. Fails with `AllocError` if an allocation fails.
     pub fn of_one(alloc: Global, element: &str, name: &str) -> Result<AttributeList, AllocError>
         ensures { IfOk result (λ list. list ≡ keeping element.now (name.now ∷ [])) }
     {
@@ -94,7 +94,7 @@ impl AttributeList {
         Ok(list)
     }
 
-    /// Whether this element keeps this attribute by it.
+    /// Returns true if this element keeps this attribute by the list.
     pub fn keeps(&self, element: &str, attribute: &str) -> bool
         ensures { result ≡ is_listed_for element.now attribute.now self.now }
     {
@@ -102,7 +102,7 @@ impl AttributeList {
     }
 }
 
-/// Whether an element keeps an attribute by one of these.
+/// Returns true if an element keeps an attribute by one of the lists.
 pub fn any_keeps(lists: &[AttributeList], element: &str, attribute: &str) -> bool
     ensures { result ≡ list_any (is_listed_for element.now attribute.now) lists.now }
 {

@@ -1,14 +1,14 @@
-//! Where nodes may stand.
-ghost use Rattle.std.specs.Prelude.{◌≡◌, false};
+//! Places for nodes.
+ghost use Rattle.std.specs.Prelude.{◌≡◌, false, true};
 ghost use Rattle.h5_clean.specs.Places.{fits, fits_at, fits_in_flow, inside, nowhere};
 ghost use Rattle.h5_clean.specs.Places as places;
 
 use super::kind::Kind;
 
-/// In flow, directly in a table or a part of one, or where nothing may stand.
+/// In flow, directly in a table or a part of one, or where nothing is allowed.
 #[derive(Clone, Copy, Debug, PartialEq, Eq)]
 pub enum Spot {
-    /// In a body, a block, a cell, a phrase: wherever text may stand.
+    /// In a body, a block, a cell, a phrase: wherever any text is allowed.
     InFlow,
     /// In a `table`.
     InTable,
@@ -18,11 +18,11 @@ pub enum Spot {
     InSection,
     /// In a `tr`.
     InRow,
-    /// In what is dropped with all that it holds, and in an element that holds nothing.
+    /// In an element that is dropped with its content, and in one that has no content.
     Nowhere,
 }
 
-/// A spot, what is open there of what the rules of "in body" ask, and how many elements deeper it may go.
+/// A spot, what is open there as far as the rules of "in body" need it, and how much deeper elements may be nested.
 #[derive(Clone, Copy, Debug, PartialEq, Eq)]
 pub struct Place {
     pub spot: Spot,
@@ -30,27 +30,86 @@ pub struct Place {
     pub in_p: bool,
     /// The parent is a heading.
     pub in_heading: bool,
-    /// An `li` is open that no other element hides.
+    /// An `li` is open, and no other element ends the search for it.
     pub in_item: bool,
-    /// A `dd` or `dt` is open that no other element hides.
+    /// A `dd` or `dt` is open, and no other element ends the search for it.
     pub in_description: bool,
     /// An `a` is open.
     pub in_link: bool,
     pub room: usize,
 }
 
-impl Place {
-    /// In flow, where nothing is open.
-    pub fn in_flow(room: usize) -> Place
-        ensures { result ≡ record { spot = Spot.InFlow; in_p = false; in_heading = false; in_item = false; in_description = false; in_link = false; room = room } }
+/// What may be open around a text in the page that it is put into, as far as the rules of "in body" need it.
+#[derive(Clone, Copy, Debug, PartialEq, Eq)]
+pub struct Around {
+    /// A `p`.
+    pub in_p: bool,
+    /// A heading, as the parent.
+    pub in_heading: bool,
+    /// An `li`, and no other element ends the search for it.
+    pub in_item: bool,
+    /// A `dd` or `dt`, and no other element ends the search for it.
+    pub in_description: bool,
+    /// An `a`.
+    pub in_link: bool,
+}
+
+impl Around {
+    /// Nothing: the text is a fragment by itself, or is directly in an element that ends the search for list items.
+    pub fn nothing() -> Around
+        ensures { result ≡ record { in_p = false; in_heading = false; in_item = false; in_description = false; in_link = false } }
     {
-        Place {
-            spot: Spot::InFlow,
+        Around {
             in_p: false,
             in_heading: false,
             in_item: false,
             in_description: false,
             in_link: false,
+        }
+    }
+
+    /// A list item or a description, for example if comments are list items.
+    pub fn items() -> Around
+        ensures { result ≡ record { in_p = false; in_heading = false; in_item = true; in_description = true; in_link = false } }
+    {
+        let mut around = Around::nothing();
+        around.in_item = true;
+        around.in_description = true;
+        around
+    }
+
+    /// A list item or a description, and a link.
+    pub fn link() -> Around
+        ensures { result ≡ record { in_p = false; in_heading = false; in_item = true; in_description = true; in_link = true } }
+    {
+        let mut around = Around::items();
+        around.in_link = true;
+        around
+    }
+
+    /// All of them: the text is in a line of a `p`, a heading or a link, so it has no blocks.
+    pub fn line() -> Around
+        ensures { result ≡ record { in_p = true; in_heading = true; in_item = true; in_description = true; in_link = true } }
+    {
+        let mut around = Around::link();
+        around.in_p = true;
+        around.in_heading = true;
+        around
+    }
+}
+
+impl Place {
+    /// Returns the place in flow with this open around it, and room for this depth.
+    pub fn first(around: Around, room: usize) -> Place
+        ensures { result ≡ record { spot = Spot.InFlow; in_p = around.in_p; in_heading = around.in_heading; in_item = around.in_item; in_description = around.in_description; in_link = around.in_link; room = room } }
+    {
+        Place {
+            spot: Spot::InFlow,
+            in_p: around.in_p,
+            in_heading: around.in_heading,
+            in_item: around.in_item,
+            in_description: around.in_description,
+            in_link: around.in_link,
             room,
         }
     }
@@ -93,7 +152,7 @@ impl Place {
         }
     }
 
-    /// Whether an element of this kind may begin here.
+    /// Returns true if an element of this kind fits here.
     pub fn fits(&self, kind: Kind) -> bool
         ensures { result ≡ fits kind self.now }
     {
@@ -110,14 +169,14 @@ impl Place {
         place
     }
 
-    // Where nothing of what is around is seen.
+    // In flow, where nothing around counts as open.
     fn alone(&self) -> Place
         ensures { result ≡ places.alone self.now }
     {
-        Place::in_flow(self.room.saturating_sub(1))
+        Place::first(Around::nothing(), self.room.saturating_sub(1))
     }
 
-    // Inside of an element through which an item is seen.
+    // Inside an element that doesn't end the search for a list item.
     fn within(&self) -> Place
         ensures { result ≡ places.within self.now }
     {
@@ -126,7 +185,7 @@ impl Place {
         place
     }
 
-    // Inside of one that hides it.
+    // Inside an element that ends the search for a list item.
     fn behind(&self) -> Place
         ensures { result ≡ places.behind self.now }
     {
@@ -136,14 +195,14 @@ impl Place {
         place
     }
 
-    /// Where nothing may stand.
+    /// Returns a place where nothing is allowed.
     pub fn nowhere(&self) -> Place
         ensures { result ≡ nowhere self.now }
     {
         self.directly(Spot::Nowhere)
     }
 
-    /// Where that stands what an element of this kind holds.
+    /// Returns the place of the content of an element of this kind.
     pub fn inside(&self, kind: Kind) -> Place
         ensures { result ≡ inside kind self.now }
     {

@@ -1,38 +1,50 @@
-//! What is let through.
+//! The policy: what is allowed.
 ghost use Rattle.std.specs.Prelude.{◌≡◌, option_copied};
 
-/// Says which elements and attributes are let through. Each answer is a function of the policy and of what is asked.
+use super::place::Around;
+
+/// Decides which elements and attributes are allowed. Each result must be a function of the policy and of the
+/// arguments.
 ///
-/// A name of no kind is never let through, whatever a policy says of it, nor is an attribute of a namespace.
+/// Regardless of the policy, an element whose name has no kind is never allowed, nor is an attribute with a namespace,
+/// one whose name begins with `on`, or another one that `is_refused`. Without a prefix, `for` and other attributes by
+/// which an element acts on another one aren't allowed.
 pub trait Policy {
     ghost use Rattle.h5_clean.specs.Policies.{Rules};
 
-    // All that it says.
+    // All results.
     ghost rules: { Self → Rules };
 
-    /// Whether an element of HTML of this local name is let through, where it fits.
-    fn names(&self, element: &str) -> bool
+    /// Returns true if an HTML element of this local name is allowed, if it fits at its place.
+    fn allows(&self, element: &str) -> bool
         ensures { result ≡ (rules self.now).names element.now };
 
-    /// Whether an element that isn't let through goes with all that it holds. Where it doesn't, what it holds takes its place.
+    /// Returns true if an element that isn't allowed is dropped with its content. Otherwise its content replaces it.
     fn drops(&self, element: &str) -> bool
         ensures { result ≡ (rules self.now).drops element.now };
 
-    /// Whether an element keeps an attribute of this name and value. The value is the one that is left: where the attribute is an `id` or a
-    /// `name`, behind the prefix.
-    fn keeps(&self, element: &str, attribute: &str, value: &str) -> bool
+    /// Returns true if an element keeps an attribute of this name and value. The value is the one that would be left;
+    /// if the attribute has an id, or refers to some, it is prefixed.
+    fn keeps_attribute(&self, element: &str, attribute: &str, value: &str) -> bool
         ensures { result ≡ (rules self.now).keeps element.now attribute.now value.now };
 
-    /// What the attribute `rel` of each `a` is set to, if it is set.
+    /// Returns the value that the attribute `rel` of each `a` is set to, if it is set.
     fn rel(&self) -> Option<&str>
         ensures { option_copied result ≡ (rules self.now).rel };
 
-    /// What the value of each `id` and each `name` begins with, if that is set, so that they are none of the page's own. It is put before a
-    /// value that doesn't begin with it. A URL that leads to an `id` stays as it is.
+    /// Returns the prefix of ids, if there is one. If no id of the page begins with it, no id of the text is one of the
+    /// page. It is put before an id that doesn't begin with it: in each `id` and `name`, in attributes that refer to
+    /// ids, such as `for` and `headers`, and after a leading '#' in `href`. A prefix with ASCII whitespace or NUL is
+    /// ignored.
     fn prefix(&self) -> Option<&str>
         ensures { option_copied result ≡ (rules self.now).prefix };
 
-    /// How deep elements may be nested.
+    /// Returns what may be open around the text at the place that it is put into. At the top, an element that would
+    /// close it isn't allowed.
+    fn around(&self) -> Around
+        ensures { result ≡ (rules self.now).around };
+
+    /// Returns the maximal depth of elements.
     fn depth(&self) -> usize
         ensures { result ≡ (rules self.now).depth };
 }

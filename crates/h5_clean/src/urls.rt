@@ -4,16 +4,16 @@ ghost use Rattle.std.specs.List.{list_any};
 ghost use Rattle.std.specs.Option.{option_eq};
 ghost use Rattle.h5_names.specs.AttributeText.{is_same_text};
 ghost use Rattle.h5_clean.specs.AllowLists.{leads_well};
-ghost use Rattle.h5_clean.specs.TextPolicy.{behind_controls, has_scheme_of, image_schemes, is_scheme_byte, is_skipped, link_schemes, scheme_behind, scheme_of, scheme_of_visible};
+ghost use Rattle.h5_clean.specs.DefaultPolicy.{behind_controls, has_scheme_of, image_schemes, is_scheme_byte, is_skipped, link_schemes, scheme_behind, scheme_of, scheme_of_visible};
 
-// Whether a byte of a URL doesn't count: TAB, LF and CR.
+// A byte that is skipped in a URL: TAB, LF and CR.
 fn is_skipped(byte: u8) -> bool
     ensures { result ≡ is_skipped byte }
 {
     byte == b'\t' || byte == b'\n' || byte == b'\r'
 }
 
-// Whether a byte may stand in a scheme.
+// A byte of a scheme.
 fn is_scheme_byte(byte: u8) -> bool
     ensures { result ≡ is_scheme_byte byte }
 {
@@ -24,7 +24,7 @@ fn is_scheme_byte(byte: u8) -> bool
         || byte == b'.'
 }
 
-// What stands behind the controls and spaces at the front.
+// The URL without leading C0 controls and spaces.
 fn behind_controls(mut url: &[u8]) -> &[u8]
     ensures { result.now ≡ behind_controls url.entry.now }
 {
@@ -36,7 +36,7 @@ fn behind_controls(mut url: &[u8]) -> &[u8]
     url
 }
 
-// Whether bytes that may stand in a scheme lead to a ':'.
+// The bytes of a scheme are followed by ':'.
 fn has_end(mut url: &[u8]) -> bool
     ensures { (read : List ℕ) → result ≡ is_some (scheme_behind read url.entry.now) }
 {
@@ -54,7 +54,7 @@ fn has_end(mut url: &[u8]) -> bool
     false
 }
 
-// Whether a URL without controls at its front has a scheme.
+// A URL without leading C0 controls and spaces has a scheme.
 fn has_scheme(mut url: &[u8]) -> bool
     ensures { result ≡ is_some (scheme_of_visible url.entry.now) }
 {
@@ -67,7 +67,7 @@ fn has_scheme(mut url: &[u8]) -> bool
     false
 }
 
-// Whether the bytes up to ':' spell a name in lower case.
+// The bytes up to ':', in lower case, are this name.
 fn spells(mut url: &[u8], mut name: &[u8]) -> bool
     ensures { (read : List ℕ) → result ≡ option_eq is_same_text (Some (read ++ name.entry.now)) (scheme_behind read url.entry.now) }
 {
@@ -89,7 +89,7 @@ fn spells(mut url: &[u8], mut name: &[u8]) -> bool
     false
 }
 
-// Whether a URL without controls at its front is relative, or has the scheme `http` or `https`.
+// A URL without leading C0 controls and spaces is relative, or has the scheme `http` or `https`.
 fn is_web(url: &[u8]) -> bool
     ensures { result ≡ has_scheme_of image_schemes (scheme_of_visible url.now) }
 {
@@ -100,7 +100,7 @@ fn is_web(url: &[u8]) -> bool
     }
 }
 
-/// Whether a link may lead there: the URL is relative, or its scheme is `http`, `https` or `mailto`.
+/// Returns true if the URL of a link is allowed: it is relative, or its scheme is `http`, `https` or `mailto`.
 pub fn is_link(url: &str) -> bool
     ensures { result ≡ has_scheme_of link_schemes (scheme_of url.now) }
 {
@@ -108,21 +108,21 @@ pub fn is_link(url: &str) -> bool
     is_web(visible) || spells(visible, b"mailto")
 }
 
-/// Whether an image may be had there: the URL is relative, or its scheme is `http` or `https`.
+/// Returns true if the URL of an image is allowed: it is relative, or its scheme is `http` or `https`.
 pub fn is_image(url: &str) -> bool
     ensures { result ≡ has_scheme_of image_schemes (scheme_of url.now) }
 {
     is_web(behind_controls(url.as_bytes()))
 }
 
-// Whether the bytes up to ':' spell one of these names in lower case.
+// The bytes up to ':', in lower case, are one of these names.
 fn spells_one(url: &[u8], names: &[String]) -> bool
     ensures { result ≡ list_any (λ name. option_eq is_same_text (Some (string_bytes name)) (scheme_behind [] url.now)) names.now }
 {
     names.iter().any(|name| spells(url, name.as_bytes()))
 }
 
-/// Whether the URL has one of these schemes, or has none, where it may be relative.
+/// Returns true if the URL has one of these schemes, or has none and may be relative.
 pub fn leads_well(url: &str, relative: bool, schemes: &[String]) -> bool
     ensures { result ≡ leads_well relative (map string_bytes schemes.now) (scheme_of url.now) }
 {

@@ -1,11 +1,11 @@
--- A text that is written piece by piece.
+-- A text that is written in several steps.
 use Rattle.std.proofs.Common.{◌≡◌, ℕ, ◌+◌, ◌-◌, List, [], ◌∷◌, ◌++◌, Option, Some, None, length, take, drop, refl, sym, ap, ◌∙◌, subst, arith, append_assoc, append-nil, length-drop, take_all}
 use Rattle.std.proofs.Math.Seq.{take-add}
 use Rattle.std.proofs.lemmas.List.{take-append-drop, drop-drop}
 use Rattle.std.specs.Io.KnownBytes.{Appends, Keeps}
 use Rattle.h5_commands.specs.Outcome.{AppendsFront}
 
--- so many bytes were written, and the rest is left
+-- n bytes were written, and the remainder is left
 pub record Wrote (old new : Option (List ℕ)) (text rest : List ℕ) : Type 0 where
   pub count : ℕ
   pub left : rest ≡ drop count text
@@ -49,6 +49,6 @@ wrote_all a b text rest w e =
     let whole : take w.count text ≡ text = sym (append-nil (take w.count text)) ∙ ap (λ l. take w.count text ++ l) (sym (empty rest e) ∙ w.left) ∙ take-append-drop w.count text in
     subst (Appends a b) whole w.appends
 
--- what is left behind so many bytes
+-- the text that is left after n bytes
 pub left_same : (xs ys : List ℕ) (n : ℕ) → ys ≡ take (length xs - n) (drop n xs) → ys ≡ drop n xs
 left_same xs ys n e = e ∙ take_all (length xs - n) (drop n xs) (omega (arith, length-drop n xs))

@@ -1,4 +1,4 @@
--- Items of a text, taken in turn: what was taken, what waits, and what is left come to the run of all.
+-- Items of a text in turn: the processed ones, the waiting ones and the remaining ones result in the run of all.
 use Rattle.std.proofs.Common.{◌≡◌, ℕ, Bool, List, [], ◌∷◌, ◌++◌, refl, sym, ap, ◌∙◌, append_assoc, append-nil}
 use Rattle.h5_token.specs.Reply.{Reply}
 use Rattle.h5_token.specs.TokenText.{TokenText}
@@ -22,7 +22,7 @@ unfolding run
 told_more [] t v rs = refl
 told_more (x ∷ ts) t v rs = ap (λ z. reply_to arena_choices x v ∷ z) (told_more ts t (after_token arena_choices x v) rs)
 
--- the builder means `now` and gave these replies, these tokens wait, and these items are left
+-- the builder means `now` and gave these replies, these tokens wait, and these items remain
 pub record Left (items : List ItemText) (first now : View) (told : List Reply) (waiting : List TokenText) (left : List ItemText) : Type 0 where
   pub meaning : after_items left (after_all arena_choices waiting now) ≡ after_items items first
   pub replies : told ++ (replies arena_choices waiting now ++ replies_to_items left (after_all arena_choices waiting now)) ≡ replies_to_items items first
@@ -40,7 +40,7 @@ token_waits items left first now told waiting t line l = record {
       ∙ l.replies;
 }
 
--- what waits is taken, and the end is told
+-- the waiting tokens are processed, and the end is called
 pub end_is_told : (items left : List ItemText) (first now next : View) (told more : List Reply) (waiting : List TokenText) → Left items first now told waiting (TheEnd ∷ left) → next ≡ ended_view arena_choices (after_all arena_choices waiting now) → more ≡ told ++ replies arena_choices waiting now → Left items first next more [] left
 unfolding run
 end_is_told items left first now next told more waiting l e r = record {
@@ -51,7 +51,7 @@ end_is_told items left first now next told more waiting l e r = record {
       ∙ l.replies;
 }
 
--- the sink of a builder that means this is what was built
+-- the sink of a builder with this meaning is what was built
 pub sink_is_built : (sink : ArenaView) (state : State NodeId) (ended failed : Bool) (v : View) → record { world = world seen_of place sink state; ended = ended; failed = failed } ≡ v → IsBuilt v sink
 unfolding world
 sink_is_built sink state ended failed v h = record { forest = ap (λ (u : View). u.world.forest) h; quirks = ap (λ (u : View). u.world.seen_quirks) h }

@@ -1,4 +1,4 @@
--- A command prints one output of one input.
+-- A command has one output for an input.
 use Rattle.std.proofs.Common.{◌≡◌, ℕ, suc, true, List, [], ◌∷◌, ◌++◌, Some, None, Result, Ok, slice_get, refl, sym, ap, subst, ◌∙◌}
 use Rattle.h5_interface.specs.Forest.{Child, Forest}
 use Rattle.h5_arena.specs.ArenaModel.{ArenaView, arena_choices, forest_seen, new_arena, seen_of}
@@ -18,7 +18,7 @@ use Rattle.h5_commands.specs.Printed.{FragmentPrints, HtmlPrints, IsTreeOutput, 
 use Rattle.h5_commands.specs.Words.{CommandText, Fragment, Html, Tokens, Tree}
 use Rattle.h5_arena.proofs.CallConditions.{some_same}
 
--- a list is its length and what stands at each place
+-- a list is determined by its length and its entries
 lists_same : {A : Type 0} (xs ys : List A) → ((n : ℕ) → slice_get xs n ≡ slice_get ys n) → xs ≡ ys
 lists_same [] [] h = refl
 lists_same [] (y ∷ ys) h = absurd (cc (h 0))
@@ -48,7 +48,7 @@ output_same : (a b : ArenaView) (x y : List ℕ) → forest_seen a ≡ forest_se
 output_same a b x y e q t u =
     t.whole ∙ ap (λ z. z ++ quirks_line a.quirks) (tree_same a b t.tree u.tree (nodes_same a b e) t.is_tree u.is_tree) ∙ ap (λ m. u.tree ++ quirks_line m) q ∙ sym u.whole
 
--- what is built of items is printed in one way
+-- the output of items is unique
 items_print : (items : List ItemText) (x y : List ℕ) → ItemsPrint items x → ItemsPrint items y → x ≡ y
 items_print items x y p q =
     let v = ended_view arena_choices (after_items items first_view) in

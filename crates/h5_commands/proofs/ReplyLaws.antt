@@ -8,7 +8,7 @@ use Rattle.h5_tree_builder.specs.declared.replies.Reply.{Reply}
 use Rattle.h5_print.specs.Replies.{reply_line}
 use Rattle.h5_commands.specs.Printed.{reply_lines}
 
--- the line of an answer doesn't depend on the node that it names
+-- the line of a reply doesn't depend on the node that it names
 pub same_line : {H : Type 0} (node other : H → ℕ) (n : ℕ) (answer : TokenSinkResult H) → reply_line n (reply node answer) ≡ reply_line n (reply other answer)
 same_line node other n Continue = refl
 same_line node other n (Script handle) = refl
@@ -16,7 +16,7 @@ same_line node other n Plaintext = refl
 same_line node other n (RawData kind) = refl
 same_line node other n (EncodingIndicator encoding) = refl
 
--- these replies are left of all, and what was printed of the others stands
+-- these replies are left of all, and the others have been printed
 pub record LinesLeft {H : Type 0} (node : H → ℕ) (all left : List (Reply H)) (old now : List ℕ) : Type 0 where
   pub few : length left ≤ length all
   pub lines : now ++ reply_lines (suc (length all - length left)) (reply_texts node left) ≡ old ++ reply_lines 1 (reply_texts node all)

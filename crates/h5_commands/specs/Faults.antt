@@ -1,4 +1,4 @@
--- What is said of a fault, and its exit status.
+-- The message of an error, and its exit status.
 use Rattle.std.specs.Prelude.{◌≡◌, ◌⊎◌, ℕ, List, [], ◌∷◌, ◌++◌, codes, string_bytes}
 use Rattle.std.specs.Fmt.{decimal}
 use Rattle.std.specs.declared.io.ErrorKind.{ErrorKind}
@@ -22,7 +22,7 @@ status_of (BadLine message) = 2
 status_of Unwritable = 1
 status_of Memory = 1
 
--- the line of this number is bad, and that is said of it
+-- the line with this number is bad, and the message says so
 abbrev pub IsBadLine : ℕ → Fault → Type 0
 IsBadLine n Usage = ⊥
 IsBadLine n Unreadable = ⊥
@@ -31,16 +31,16 @@ IsBadLine n (BadLine message) = string_bytes message ≡ codes "h5: bad line " +
 IsBadLine n Unwritable = ⊥
 IsBadLine n Memory = ⊥
 
--- the fault that a failed read with an error of this kind is: want of memory exactly where the kind is that
+-- the error of a failed read, by the kind of its error: out of memory exactly if that is the kind
 abbrev pub read_fault : ErrorKind → Fault
 read_fault OutOfMemory = Memory
 read_fault _ = Unreadable
 
--- and the fault of words that can't be read: words that are no text are no command
+-- the error of arguments that can't be read: arguments that aren't text aren't a command
 abbrev pub words_fault : ErrorKind → Fault
 words_fault OutOfMemory = Memory
 words_fault _ = Usage
 
--- what a failed read is, of whatever kind
+-- the errors of a failed read, of any kind
 abbrev pub IsReadFault : Fault → Type 0
 IsReadFault fault = (fault ≡ Unreadable) ⊎ (fault ≡ Memory)

@@ -1,10 +1,10 @@
--- The words of a command.
+-- The arguments of a command.
 use Rattle.std.specs.Prelude.{ℕ, if◌then◌else◌, List, [], ◌∷◌, Option, Some, None, String, string_bytes, bytes_eq, codes}
 use Rattle.std.specs.declared.alloc.Global.{Global}
 use Rattle.h5_commands.specs.declared.words.Command.{Command}
 use Rattle.h5_commands.specs.declared.words.Command.TheVariants as command
 
--- a command, without where its words lie in memory
+-- a command, independent of where its arguments are in memory
 pub data CommandText : Type 0 where
   Tokens : CommandText
   Tree : CommandText
@@ -23,7 +23,7 @@ command_named word =
     else (if bytes_eq word (codes "tree") then Some Tree
     else (if bytes_eq word (codes "html") then Some Html else None))
 
--- one word names a command, and behind "tree" the name of a context may stand
+-- one argument is the name of a command, or "tree" is followed by the name of a context element
 abbrev pub command_of : List (String Global) → Option CommandText
 command_of [] = None
 command_of (w ∷ []) = command_named (string_bytes w)

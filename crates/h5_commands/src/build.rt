@@ -1,4 +1,4 @@
-//! What an input makes.
+//! The output of each command.
 ghost use Rattle.std.specs.Prelude.{◌≡◌, ◌++◌, [], true, Err, IfErr, IfOk, OnOk, string_bytes};
 ghost use Rattle.h5_arena.specs.ArenaModel.{arena_choices, new_arena, place, seen_of};
 ghost use Rattle.h5_driver.specs.Fragments.{first_in_new, opts_in_context};
@@ -27,14 +27,14 @@ use std::mem;
 
 type Builder = TreeBuilder<NodeId, Arena>;
 
-// The builder refused a list as a whole: memory was refused.
+// The error of a list of tokens is a failed allocation.
 fn fault_of_build(_fault: BuildFault) -> Fault
     ensures { result ≡ Fault.Memory }
 {
     Fault::Memory
 }
 
-// Hands tokens to the builder, and keeps its replies.
+// Passes tokens to the tree builder, and stores its replies.
 fn take_tokens(
     builder: &mut Builder,
     tokens: Vec<(Token, u64)>,
@@ -51,7 +51,7 @@ fn take_tokens(
     Ok(())
 }
 
-// Hands over the items in turn, and then the end.
+// Passes the items in turn, and then the end.
 fn take_items(
     alloc: Global,
     builder: &mut Builder,
@@ -80,7 +80,7 @@ fn take_items(
     Ok(replies)
 }
 
-// The line of the reply to the token of this number, where it has one.
+// Appends the line of the reply to the token with this number, if it has one.
 fn print_reply(out: &mut String, number: u64, reply: &Reply<NodeId>) -> Result<(), Fault>
     ensures line { OnOk result (string_bytes out.new
         ≡ string_bytes out.old ++ reply_line number (reply_text place reply.now)) }
@@ -98,7 +98,7 @@ fn print_reply(out: &mut String, number: u64, reply: &Reply<NodeId>) -> Result<(
     }
 }
 
-// The replies other than "go on", each with the number of its token, from 1.
+// Appends the lines of the replies other than "continue", each with the number of its token, from 1.
 fn print_replies(out: &mut String, replies: &[Reply<NodeId>]) -> Result<(), Fault>
     ensures lines { OnOk result (string_bytes out.new
         ≡ string_bytes out.old ++ reply_lines 1 (reply_texts place replies.now)) }
@@ -113,7 +113,7 @@ fn print_replies(out: &mut String, replies: &[Reply<NodeId>]) -> Result<(), Faul
     Ok(())
 }
 
-// What is printed of a tree: its text, and the quirks mode.
+// The text of a tree, and its quirks mode.
 fn print_arena(alloc: Global, arena: &Arena) -> Result<String, Fault>
     ensures tree { IfOk result (λ text. IsTreeOutput arena.now (string_bytes text)) }
     ensures memory { IfErr result (λ fault. fault ≡ Fault.Memory) }
@@ -123,8 +123,8 @@ fn print_arena(alloc: Global, arena: &Arena) -> Result<String, Fault>
     Ok(out)
 }
 
-/// What is printed of these items: the tree that they make, the quirks mode, and the replies other than "go
-/// on". The only fault is `Memory`.
+/// Returns the output of these items: the tree, the quirks mode, and the replies other than "continue". Fails with `Memory` if an
+/// allocation fails.
 pub fn build(alloc: Global, items: Vec<Item>) -> Result<Vec<u8>, Fault>
     ensures prints { IfOk result (λ output. ItemsPrint (item_texts items.items) output.items) }
     ensures memory { IfErr result (λ fault. fault ≡ Fault.Memory) }
@@ -137,7 +137,7 @@ pub fn build(alloc: Global, items: Vec<Item>) -> Result<Vec<u8>, Fault>
     Ok(out.into_bytes())
 }
 
-// The tree that a text makes.
+// The tree of a text.
 fn parse(alloc: Global, text: &str) -> Result<Arena, Fault>
     ensures parsed { IfOk result (λ arena. IsParsed text.now arena) }
     ensures memory { IfErr result (λ fault. fault ≡ Fault.Memory) }
@@ -146,7 +146,7 @@ fn parse(alloc: Global, text: &str) -> Result<Arena, Fault>
     parser.one(text).map_err(fault_of_build)
 }
 
-// A parser in an HTML element of this name, without attributes, where scripts are allowed.
+// A fragment parser with an HTML element of this name as context, without attributes, and with scripting.
 fn parser_in(alloc: Global, context: &str) -> Result<Parser<Arena>, Fault>
     ensures builder { IfOk result (λ parser. building seen_of place parser.tokenizer.sink ≡ first_in_new arena_choices (seen_of new_arena) (html_name context.now) [] default_options.tree_builder) }
     ensures reader { IfOk result (λ parser. parser.tokenizer.reader ≡ first (opts_in_context true (building seen_of place parser.tokenizer.sink).view.world default_options.tokenizer)) }
@@ -162,7 +162,7 @@ fn parser_in(alloc: Global, context: &str) -> Result<Parser<Arena>, Fault>
     Ok(parser)
 }
 
-// The tree that a text makes in an HTML element of this name, where scripts are allowed.
+// The tree of a text as a fragment, with an HTML element of this name as context, and with scripting.
 fn parse_in(alloc: Global, context: &str, text: &str) -> Result<Arena, Fault>
     ensures parsed { IfOk result (λ arena. IsParsedIn context.now text.now arena) }
     ensures memory { IfErr result (λ fault. fault ≡ Fault.Memory) }
@@ -172,7 +172,7 @@ fn parse_in(alloc: Global, context: &str, text: &str) -> Result<Arena, Fault>
     Ok(tree)
 }
 
-/// What is printed of the tree that a text makes: the tree, and the quirks mode. The only fault is `Memory`.
+/// Returns the output of a text: the tree, and the quirks mode. Fails with `Memory` if an allocation fails.
 pub fn tree_output(alloc: Global, text: String) -> Result<Vec<u8>, Fault>
     ensures prints { IfOk result (λ output. TreePrints (string_bytes text) output.items) }
     ensures memory { IfErr result (λ fault. fault ≡ Fault.Memory) }
@@ -182,8 +182,8 @@ pub fn tree_output(alloc: Global, text: String) -> Result<Vec<u8>, Fault>
     Ok(out.into_bytes())
 }
 
-/// What is printed of the tree that a text makes as a fragment, in an HTML element of this name, without attributes, where
-/// scripts are allowed: the tree, and the quirks mode. The only fault is `Memory`.
+/// Returns the output of a text as a fragment, with an HTML element of this name as context, without attributes, and with scripting: the
+/// tree, and the quirks mode. Fails with `Memory` if an allocation fails.
 pub fn fragment_output(alloc: Global, context: &str, text: String) -> Result<Vec<u8>, Fault>
     ensures prints { IfOk result (λ output. FragmentPrints context.now (string_bytes text) output.items) }
     ensures memory { IfErr result (λ fault. fault ≡ Fault.Memory) }
@@ -193,8 +193,7 @@ pub fn fragment_output(alloc: Global, context: &str, text: String) -> Result<Vec
     Ok(out.into_bytes())
 }
 
-// The HTML of a tree, in the room of these bytes, which are let go. It isn't written only where memory is refused: the writer is
-// memory, too.
+// The HTML of a tree, in the memory of these bytes, which are dropped. Fails only if an allocation fails, since the writer is also memory.
 fn write_html(alloc: Global, arena: &Arena, room: Vec<u8>) -> Result<Vec<u8>, Fault>
     ensures html { IfOk result (λ output. output.items ≡ html_of arena.now) }
     ensures memory { IfErr result (λ fault. fault ≡ Fault.Memory) }
@@ -215,8 +214,8 @@ fn write_html(alloc: Global, arena: &Arena, room: Vec<u8>) -> Result<Vec<u8>, Fa
     }
 }
 
-/// The HTML of the tree that a text makes, with the default options. The only fault is `Memory`. It is written where the text
-/// was, and the memory of the tree isn't given back piece by piece: it goes with the process.
+/// Returns the HTML of a text's tree, with the default options. Fails with `Memory` if an allocation fails. The output is written to the
+/// memory of the text. The memory of the tree isn't freed node by node: it is freed with the process.
 pub fn html_output(alloc: Global, text: String) -> Result<Vec<u8>, Fault>
     ensures prints { IfOk result (λ output. HtmlPrints (string_bytes text) output.items) }
     ensures memory { IfErr result (λ fault. fault ≡ Fault.Memory) }

@@ -13,13 +13,11 @@ use h5_print::{Item, LineFault, parse};
 use std::alloc::Global;
 use std::io::{self, Read, Write};
 
-/// Runs the command of these words, and answers the exit status: 0, or that of a fault, which is said in
-/// `faults`. The output is written to `out` once the whole of it stands; where a fault is met before, nothing
-/// is written there.
+/// Runs the command with these arguments, and returns the exit status: 0, or that of an error, whose message is written to `faults`. The
+/// output is written to `out` after all of it is computed; if an error comes before that, nothing is written to `out`.
 ///
-/// Faults are found in this order: words that are no command, before anything is read; an input that can't be
-/// read; an input that is no UTF-8; the first bad line; an output that can't be written; and wherever it is
-/// met, want of memory.
+/// Errors are found in this order: arguments that aren't a command, before anything is read; an input that can't be read; an input that
+/// isn't UTF-8; the first bad line; an output that can't be written. A failed allocation may come at any time.
 pub fn run<R: Read + Drop, Out: Write, Note: Write>(
     alloc: Global,
     words: &[String],
@@ -37,8 +35,8 @@ pub fn run<R: Read + Drop, Out: Write, Note: Write>(
     }
 }
 
-/// Says of words that can't be read what they are, and answers the exit status: 1 exactly where the error's kind is want of
-/// memory, and else 2, since words that are no text are no command.
+/// Writes the message for arguments that can't be read, and returns the exit status: 1 exactly if the error's kind is `OutOfMemory`, and
+/// else 2, since arguments that aren't text aren't a command.
 pub fn refuse_words<Note: Write>(error: &io::Error, faults: &mut Note) -> u8
     ensures { EndsUnread (error_kind error.now) (Note.contents faults.old) (Note.contents faults.new) result }
 {
@@ -46,7 +44,7 @@ pub fn refuse_words<Note: Write>(error: &io::Error, faults: &mut Note) -> u8
     say(&fault, faults)
 }
 
-// What a command prints.
+// The output of a command.
 fn output_of<R: Read + Drop>(alloc: Global, words: &[String], input: R) -> Result<Vec<u8>, Fault>
     ensures { Comes words.now (R.remaining input) result }
 {
@@ -68,7 +66,7 @@ fn output_by<R: Read + Drop>(alloc: Global, command: Command, input: R) -> Resul
     }
 }
 
-// What lines of tokens make.
+// The output of lines of tokens.
 fn tokens_output(alloc: Global, text: &str) -> Result<Vec<u8>, Fault>
     ensures { LinesCome text.now result }
 {
@@ -90,7 +88,7 @@ fn read_text<R: Read + Drop>(alloc: Global, mut input: R) -> Result<String, Faul
     }
 }
 
-// Its tokens.
+// The items of the input.
 fn read_items(alloc: Global, text: &str) -> Result<Vec<Item>, Fault>
     ensures { AreRead text.now result }
 {
@@ -101,7 +99,7 @@ fn read_items(alloc: Global, text: &str) -> Result<Vec<Item>, Fault>
     }
 }
 
-// Writes the output, and answers the status.
+// Writes the output, and returns the status.
 fn put<Out: Write, Note: Write>(output: &[u8], out: &mut Out, faults: &mut Note) -> u8
     ensures { Puts output.now (Out.contents out.old) (Out.contents out.new) (Note.contents faults.old) (Note.contents faults.new) result }
 {
@@ -111,7 +109,7 @@ fn put<Out: Write, Note: Write>(output: &[u8], out: &mut Out, faults: &mut Note)
     0
 }
 
-// Says what went wrong, and answers its status. Where that can't be said, the status alone tells.
+// Writes the message of an error, and returns its status, also if the message can't be written.
 fn say<W: Write>(fault: &Fault, faults: &mut W) -> u8
     ensures status { result ≡ status_of fault.now }
     ensures said { AppendsFront (W.contents faults.old) (W.contents faults.new) (message_of fault.now) }

@@ -1,4 +1,4 @@
-//! What can go wrong, what is said of it, and the exit status.
+//! Errors, their messages, and the exit status.
 ghost use Rattle.std.specs.Prelude.{◌≡◌, IfOk, string_bytes};
 ghost use Rattle.std.specs.IoError.{error_kind};
 ghost use Rattle.h5_commands.specs.Faults.{IsBadLine, IsReadFault, message_of, read_fault, status_of, words_fault};
@@ -6,25 +6,25 @@ ghost use Rattle.h5_commands.specs.Faults.{IsBadLine, IsReadFault, message_of, r
 use std::alloc::{AllocError, AllocFailed, Global};
 use std::io;
 
-/// What went wrong.
+/// An error of a command.
 #[derive(Debug, Drop, PartialEq, Eq)]
 pub enum Fault {
-    /// The words are no command.
+    /// The arguments aren't a command.
     Usage,
     /// The input can't be read.
     Unreadable,
     /// The input is not UTF-8.
     NotUtf8,
-    /// A line of the input is bad; with what is said of it.
+    /// A line of the input is bad; with the message.
     BadLine(String),
     /// The output can't be written.
     Unwritable,
-    /// Memory was refused.
+    /// An allocation failed.
     Memory,
 }
 
 impl Fault {
-    /// What is said of it on standard error.
+    /// The message on standard error.
     pub fn message(&self) -> &str
         ensures { result.now ≡ message_of self.now }
     {
@@ -38,7 +38,7 @@ impl Fault {
         }
     }
 
-    /// The exit status: 2 where the words or a line are bad, else 1.
+    /// The exit status: 2 for bad arguments or a bad line, else 1.
     pub fn status(&self) -> u8
         ensures { result ≡ status_of self.now }
     {
@@ -73,15 +73,14 @@ impl<T: Drop> From<AllocFailed<T>> for Fault {
     }
 }
 
-/// The fault that the bad line of this number is.
+/// The error of the bad line with this number.
 pub fn bad_line(alloc: Global, line: u64) -> Result<Fault, AllocError>
     ensures { IfOk result (IsBadLine line) }
 {
     Ok(Fault::BadLine(format!(in alloc; "h5: bad line {line}\n")?))
 }
 
-/// The fault that a failed read is: want of memory exactly where the error's kind is that, and else an input that can't be
-/// read.
+/// The error of a failed read: `Memory` exactly if the error's kind is `OutOfMemory`, and else `Unreadable`.
 pub fn fault_of_read(error: &io::Error) -> Fault
     ensures which { result ≡ read_fault (error_kind error.now) }
     ensures reads { IsReadFault result }
@@ -92,8 +91,8 @@ pub fn fault_of_read(error: &io::Error) -> Fault
     }
 }
 
-/// The fault of words that can't be read: want of memory exactly where the error's kind is that, and else a wrong use, since
-/// words that are no text are no command.
+/// The error of arguments that can't be read: `Memory` exactly if the error's kind is `OutOfMemory`, and else `Usage`, since arguments that
+/// aren't text aren't a command.
 pub fn fault_of_words(error: &io::Error) -> Fault
     ensures { result ≡ words_fault (error_kind error.now) }
 {

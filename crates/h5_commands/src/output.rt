@@ -1,4 +1,4 @@
-//! Writing.
+//! Writes bytes.
 ghost use Rattle.std.specs.Prelude.{OnOk};
 ghost use Rattle.std.specs.Io.KnownBytes.{Appends};
 ghost use Rattle.h5_commands.specs.Outcome.{AppendsFront};
@@ -9,7 +9,7 @@ use std::io::{ErrorKind, Write};
 #[derive(Clone, Copy, Debug, PartialEq, Eq)]
 pub struct WriteFailed;
 
-/// Writes bytes, or a front of them where the writer fails.
+/// Writes bytes. Fails with `WriteFailed` if the writer fails; then a prefix of the bytes has been written.
 pub fn write_bytes<W: Write>(writer: &mut W, bytes: &[u8]) -> Result<(), WriteFailed>
     ensures whole { OnOk result (Appends (W.contents writer.old) (W.contents writer.new) bytes.now) }
     ensures front { AppendsFront (W.contents writer.old) (W.contents writer.new) bytes.now }

@@ -1,17 +1,17 @@
-//! The words of a command.
+//! The arguments of a command.
 ghost use Rattle.std.specs.Prelude.{◌≡◌, option_map};
 ghost use Rattle.h5_commands.specs.Words.{command_named, command_of, command_text};
 
-/// What is to be done.
+/// A command.
 #[derive(Clone, Copy, Debug, PartialEq, Eq)]
 pub enum Command<'a> {
-    /// Lines of tokens, to the tree that they make.
+    /// Lines of tokens to their tree.
     Tokens,
-    /// A text, to the tree that it makes.
+    /// A text to its tree.
     Tree,
-    /// A text, to the tree that it makes as a fragment, in an HTML element of this name.
+    /// A text to its tree as a fragment, with an HTML element of this name as context.
     Fragment(&'a str),
-    /// A text, to the HTML of the tree that it makes.
+    /// A text to the HTML of its tree.
     Html,
 }
 
@@ -26,7 +26,7 @@ fn command_named<'a>(word: &str) -> Option<Command<'a>>
     }
 }
 
-/// The command of these words: one word that names it, or `tree` and the name of a context.
+/// The command of these arguments: its name, or `tree` and the name of a context element.
 pub fn command_of<'a>(words: &'a [String]) -> Option<Command<'a>>
     ensures { option_map command_text result ≡ command_of words.now }
 {

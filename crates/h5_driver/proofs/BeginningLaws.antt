@@ -1,4 +1,4 @@
--- A builder that took nothing yet is ready, and in no text.
+-- A new builder is ready, and its mode isn't "text".
 use Rattle.std.proofs.Common.{◌≡◌, ◌≢◌, ℕ, Option, true, refl, ap}
 use Rattle.h5_interface.specs.Seen.{Seen}
 use Rattle.h5_interface.specs.SinkChoices.{SinkChoices}
@@ -15,7 +15,7 @@ use Rattle.h5_tree_builder.specs.Fragment.{first_fragment, rooted_world}
 use Rattle.h5_driver.specs.Working.{Begins, IsReady, IsWorking}
 use Rattle.h5_driver.proofs.TakenLaws.{text_no_text}
 
--- a builder of a document is ready, and in no text
+-- a new builder of a document is ready, and its mode isn't "text"
 document_ready : (seen : Seen) (opts : TreeBuilderOpts) → Fitting (first_building seen opts).view.world → IsReady (first_building seen opts).view
 document_ready seen opts f = record {
   unfailed = refl;
@@ -31,7 +31,7 @@ document_no_text seen opts e = text_no_text (first_building seen opts).view.worl
 pub document_begins : (seen : Seen) (opts : TreeBuilderOpts) → Fitting (first_building seen opts).view.world → Begins (first_building seen opts).view
 document_begins seen opts f = record { ready = document_ready seen opts f; no_text = document_no_text seen opts }
 
--- so is a builder of a fragment
+-- so is a new builder of a fragment
 fragment_ready : (choices : SinkChoices) (seen : Seen) (context : ℕ) (form : Option ℕ) (opts : TreeBuilderOpts) → (let b = first_fragment choices seen context form opts in Fitting b.view.world → IsReady b.view)
 unfolding create_root
 fragment_ready choices seen context form opts f = record {
@@ -51,6 +51,6 @@ fragment_no_text choices seen context form opts f e =
 pub fragment_begins : (choices : SinkChoices) (seen : Seen) (context : ℕ) (form : Option ℕ) (opts : TreeBuilderOpts) → (let b = first_fragment choices seen context form opts in Fitting b.view.world → Begins b.view)
 fragment_begins choices seen context form opts f = record { ready = fragment_ready choices seen context form opts f; no_text = fragment_no_text choices seen context form opts f }
 
--- a builder that begins works, whatever the reader
+-- a new builder works, for any tokenizer
 pub begins_works : {T : Type 0} (IsRaw : T → Type 0) (r : T) (v : View) → Begins v → IsWorking IsRaw r v
 begins_works IsRaw r v b = record { ready = b.ready; text = λ e. absurd (b.no_text e) }

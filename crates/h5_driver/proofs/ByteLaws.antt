@@ -1,4 +1,4 @@
--- Chunks of bytes that were taken one after the other are one text that was read.
+-- Chunks of bytes that were taken one after another are one text that was read.
 use Rattle.std.proofs.Common.{◌≡◌, ◌++◌, ℕ, List, [], ◌∷◌, Result, IfOk, Ok, Err, ap, sym, subst, ◌∙◌, append_assoc, append-nil}
 use Rattle.std.specs.Str.Lossy.{utf8_lossy}
 use Rattle.h5_token.specs.declared.fault.BuildFault.{BuildFault}
@@ -14,15 +14,15 @@ use Rattle.h5_driver.specs.declared.reader.Reader.{Ghosts}
 use Rattle.h5_driver.proofs.ReadingLaws.{followed_by, nothing_read, parses_behind, piece_taken}
 
 module _ {R S H O : Type 0} (reader : Ghosts R S H O) {choices : SinkChoices} (law : AreReadings choices reader.first reader.Readings reader.Reads) where
-  -- what a parser makes of a text
+  -- what a parser makes from a text
   abbrev ParsesText : Parsing R → List ℕ → Seen → Type 0
   ParsesText p xs told = Parses reader.Reads choices (text_of reader p) (view_of reader p) xs told
 
-  -- of what waits, with more bytes behind it
+  -- from what waits, with more bytes after it
   abbrev ParsesWith : ParsingBytes R → List ℕ → Seen → Type 0
   ParsesWith p bytes told = ParsesText p.parser (p.parser.waiting ++ utf8_lossy (p.unfinished ++ bytes)) told
 
-  -- of what waits, and a character that isn't finished
+  -- from what waits, and an unfinished character
   abbrev ParsesRest : ParsingBytes R → Seen → Type 0
   ParsesRest p told = ParsesText p.parser (p.parser.waiting ++ utf8_lossy p.unfinished) told
 

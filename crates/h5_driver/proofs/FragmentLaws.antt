@@ -49,7 +49,7 @@ use Rattle.h5_driver.specs.WholeTexts.{ParsesFragmentBy}
 use Rattle.h5_driver.specs.Working.{replies}
 use Rattle.h5_driver.proofs.PlainLaws.{answers_by, same_children, sound_after, sound_popped, stand_marked}
 
--- ---- where a text is taken, a part of it is
+-- ---- if a text is taken, so are its parts
 
 abbrev of_text : View → Option BuildFault
 of_text v = cond v.failed (Some Failed) (cond v.ended (Some AfterEnd) None)
@@ -72,9 +72,9 @@ answer_of choices v t = at (refusal v (Characters t)) ∙ ap text_answer (refusa
 cuts : (choices : SinkChoices) → AnswersCuts (replies choices)
 cuts choices v b t u h = answer_of choices v (b ∷ t) ∙ sym (answer_of choices v ((b ∷ t) ++ u)) ∙ h
 
--- ---- the builder of a fragment that took nothing yet
+-- ---- the new builder of a fragment
 
--- a node that is what it was
+-- an unchanged node
 looks_same : (f g : Forest) (n : ℕ) (k : Kind) (a : List AttributeText) (cs : List Child) → g.node n ≡ f.node n → Looks f n k a cs → Looks g n k a cs
 looks_same f g n k a cs e l = record {
   is_kind = ap (option_map (λ (d : Node). d.kind)) e ∙ l.is_kind;
@@ -87,7 +87,7 @@ module _ (choices : SinkChoices) (seen : Seen) (name : QualName) (attrs : List A
   abbrev flags : ElementFlags
   flags = flags_of name attrs false
 
-  -- the context was made
+  -- the context was created
   abbrev made : Seen
   made = after_create_element choices name attrs flags seen
 
@@ -120,7 +120,7 @@ module _ (choices : SinkChoices) (seen : Seen) (name : QualName) (attrs : List A
   no_form : (n : ℕ) → ◌≡◌ {A = Option ℕ} None (Some n) → IsElement made.forest n
   no_form n e = absurd (cc)
 
-  -- the root was made
+  -- the root was created
   abbrev begun : World
   begun = fragment_world choices made context None types.default_options
 
@@ -169,16 +169,16 @@ module _ (choices : SinkChoices) (seen : Seen) (name : QualName) (attrs : List A
   fitting : Fitting begun
   fitting = record { sound = sound; fits = fragment_fits made context None types.default_options rearranged.is_forest is_element no_form choices }
 
-  -- its text is read as data
+  -- its text is read in the data state
   reads_data : {T : Type 0} (first : TokenizerOpts → T) (allows_scripting : Bool) → first (opts_in_context allows_scripting begun reading.default_options) ≡ first (reading.beginning_in Data reading.default_options)
   unfolding create_root begins
   reads_data first allows_scripting =
       ap (λ n. first (reading.beginning_in (state_in_context allows_scripting n) reading.default_options)) (ap name_of_found (begins.is_context))
       ∙ ap (λ s. first (reading.beginning_in s reading.default_options)) (b.is_data allows_scripting)
 
--- ---- and the end changes marks alone
+-- ---- and the end changes only marks
 
--- a root below which a fragment stands
+-- a root whose children are a fragment
 record RootStands (f : Forest) (root : ℕ) (nodes : Nodes) : Type 0 where
   document : Looks f f.document DocumentNode [] (ChildNode root ∷ [])
   is_root : Looks f root (ElementNode html) [] (children_of f root)

@@ -27,7 +27,7 @@ module _ {T : Type 0} (Reads : T → View → List ℕ → List TokenText → Vi
       let v = (first_in_new choices seen name attrs opts.tree_builder).view in
       one_tree choices (first (opts_in_context allows_scripting v.world opts.tokenizer)) v text a b h k
 
-  -- what a new parser of a fragment makes of a text
+  -- what a new parser of a fragment makes from a text
   pub fragment_parsed : (r : T) (b : Building) (waiting text : List ℕ) (told : Seen) → b ≡ first_in_new choices seen name attrs opts.tree_builder → r ≡ first (opts_in_context allows_scripting b.view.world opts.tokenizer) → waiting ≡ []
       → Parses Reads choices r b.view (waiting ++ text) told → ParsesFragmentBy Reads first choices seen opts name attrs allows_scripting text told
   unfolding ParsesFragmentBy

@@ -33,13 +33,13 @@ use Rattle.h5_tree_builder.proofs.BuilderLaws.{fits_first}
 use Rattle.h5_round_trip.proofs.JoinedLaws.{document_joined}
 use Rattle.h5_round_trip.specs.Answers.{Answers}
 
--- the builder answers as to a plain document's tokens
+-- the builder's replies are those to a plain document's tokens
 pub answers_by : (choices : SinkChoices) (ts : List TokenText) (v : View) → r.replies choices ts v ≡ map plain_reply ts → Answers (replies choices) (after choices) v ts
 unfolding run
 answers_by choices [] v e = tt
 answers_by choices (t ∷ ts) v e = (cc, (λ line. answers_by choices ts (after_token choices t v) (cc)))
 
--- ---- marks aren't looked at
+-- ---- marks don't matter
 
 pub same_children : (f : Forest) (marks : ℕ → Marks) (n : ℕ) → children_of (mark marks f) n ≡ children_of f n
 same_children f marks n = at (f.node n) refl
@@ -75,7 +75,7 @@ popped choices d (n ∷ ns) w s q = popped choices d ns (pop choices w) (documen
 
 -- ---- and what is there is a forest
 
--- a token leaves whether a builder has failed or ended
+-- a token doesn't change whether a builder has failed or ended
 same_standing : (choices : SinkChoices) (t : TokenText) (v : View) → ((after_token choices t v).failed ≡ v.failed) × ((after_token choices t v).ended ≡ v.ended)
 same_standing choices t v = at (refusal v t)
   where
@@ -100,7 +100,7 @@ forest_told choices seen ts holds =
     let first : IsFitting v = record { fitting = λ f e. record { sound = all_none seen.forest holds.is_forest; fits = fits_first seen types.default_options } } in
     (sound_popped choices w.stack w (sound_after choices ts v first refl refl)).stands.is_forest
 
--- a builder that took nothing yet rebuilds a plain document
+-- a new builder rebuilds a plain document
 record Rebuilt (choices : SinkChoices) (seen : Seen) (d : PlainDocument) : Type 0 where
   answers : Answers (replies choices) (after choices) (first_building seen types.default_options).view (document_tokens d)
   stands : DocumentStands (after_all choices (document_tokens d) (first_building seen types.default_options).view).world.forest d
@@ -114,11 +114,11 @@ rebuilt choices seen d holds =
     let built = rebuilds_all choices ts v d start refl refl (document_joined d) in
     record { answers = answers_by choices ts v built.answers; stands = built.stands; quirks = built.quirks }
 
--- it answers as to a plain document's tokens
+-- its replies are those to a plain document's tokens
 pub document_answers : (choices : SinkChoices) (seen : Seen) (d : PlainDocument) → HoldsDocument seen.forest → Answers (replies choices) (after choices) (first_building seen types.default_options).view (document_tokens d)
 document_answers choices seen d holds = (rebuilt choices seen d holds).answers
 
--- and the document stands in what its sink tells after them and the end
+-- and the document is what its sink shows after them and the end
 pub document_stands : (choices : SinkChoices) (seen told : Seen) (d : PlainDocument) (n : View) → HoldsDocument seen.forest → n ≡ ended choices (after_all choices (document_tokens d) (first_building seen types.default_options).view)
     → told.forest ≡ n.world.forest → told.quirks ≡ n.world.seen_quirks → ComesBack told d
 document_stands choices seen told d n holds same forest quirks =
@@ -133,7 +133,7 @@ document_stands choices seen told d n holds same forest quirks =
 
 module _ {T : Type 0} {choices : SinkChoices} {first : TokenizerOpts → T} {Readings : T → View → List ℕ → List TokenText → T → View → List ℕ → Type 0} {Reads : T → View → List ℕ → List TokenText → View → Type 0}
     (law : AreReadings choices first Readings Reads) where
-  -- what a parser makes of a document's text
+  -- what a parser makes from a document's text
   document_parsed : (seen told : Seen) (d : PlainDocument) → HoldsDocument seen.forest → IsReadableDocument d
       → Parses Reads choices (first reading.default_options) (first_building seen types.default_options).view (written_of d) told → ComesBack told d
   document_parsed seen told d holds readable parses =
@@ -141,7 +141,7 @@ module _ {T : Type 0} {choices : SinkChoices} {first : TokenizerOpts → T} {Rea
       let same = parses.any (document_tokens d) read.0 read.1 in
       document_stands choices seen told d read.0 holds same.0 same.1.0 same.1.1
 
-  -- so does a parser that took nothing yet, however the text is cut
+  -- so does a new parser, however the text is split
   pub brings_back : (r : T) (v : View) (waiting text : List ℕ) (told : Seen) → Parses Reads choices r v (waiting ++ text) told → BringsBack first r v waiting text told
   brings_back r v waiting text told parses = λ d seen new holds readable same.
       let P : T → View → List ℕ → List ℕ → Type 0 = λ s w u t. Parses Reads choices s w (u ++ t) told in

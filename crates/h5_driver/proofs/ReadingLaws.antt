@@ -1,4 +1,4 @@
--- Readings one behind the other, and to the end, whatever reads.
+-- Readings one after another, and to the end, for any tokenizer.
 use Rattle.std.proofs.Common.{◌≡◌, ◌++◌, ℕ, List, [], Result, Ok, Err, IfOk, ap, sym, subst, ◌∙◌}
 use Rattle.h5_token.specs.TokenText.{TokenText}
 use Rattle.h5_token.specs.declared.fault.BuildFault.{BuildFault}
@@ -19,18 +19,18 @@ module _ {T : Type 0} {choices : SinkChoices} {first : TokenizerOpts → T} {Rea
   read_further {r = r} {s = s} {t = t} {v = v} {w = w} {x = x} {xs = xs} {ys = ys} {zs = zs} a b =
       record { tokens = a.tokens ++ b.tokens; readings = law.chained r s t v w x xs ys zs a.tokens b.tokens a.readings b.readings }
 
-  -- a text behind what was read
+  -- a text after what was read
   pub followed_by : {r s : T} {v w : View} {xs ys : List ℕ} (text : List ℕ) → Advances Readings r v xs s w ys → Advances Readings r v (xs ++ text) s w (ys ++ text)
   followed_by {r = r} {s = s} {v = v} {w = w} {xs = xs} {ys = ys} text a = record { tokens = a.tokens; readings = law.followed r s v w xs ys a.tokens text a.readings }
 
   pub piece_joins : {r s t : T} {v w x : View} {xs ys zs : List ℕ} (text : List ℕ) → Advances Readings r v xs s w ys → Advances Readings s w (ys ++ text) t x zs → Advances Readings r v (xs ++ text) t x zs
   piece_joins text a b = read_further (followed_by text a) b
 
-  -- a piece behind what was read and what waits
+  -- a chunk after what was read and what waits
   pub piece_taken : {r s t : T} {v w x : View} {xs waiting queue : List ℕ} (text : List ℕ) → Advances Readings r v xs s w waiting → Advances Readings s w (waiting ++ text) t x [] → queue ≡ [] → Advances Readings r v (xs ++ text) t x queue
   piece_taken {r = r} {t = t} {v = v} {x = x} {xs = xs} text a b e = subst (λ zs. Advances Readings r v (xs ++ text) t x zs) (sym e) (piece_joins text a b)
 
-  -- a text that is read to its end, and what the sink tells then
+  -- a text that is read to its end, and what the sink shows then
   parses_of : {r : T} {v o : View} {xs : List ℕ} {told : Seen} (ts : List TokenText) → IsReady v → Reads r v xs ts o → told.forest ≡ o.world.forest → told.quirks ≡ o.world.seen_quirks → Parses Reads choices r v xs told
   parses_of {r = r} {v = v} {o = o} {xs = xs} ts ready reads e f = record {
     tokens = ts;
@@ -44,7 +44,7 @@ module _ {T : Type 0} {choices : SinkChoices} {first : TokenizerOpts → T} {Rea
   parsed {r = r} {s = s} {v = v} {w = w} {o = o} {xs = xs} {ys = ys} ready a h e f =
       parses_of (a.tokens ++ h.tokens) ready (law.to_end r s v w o xs ys a.tokens h.tokens a.readings h.reads) e f
 
-  -- what was read before, and then the rest
+  -- what was read before, and then the remaining input
   pub parses_behind : {r s : T} {v w : View} {xs ys : List ℕ} {told : Seen} → IsReady v → Advances Readings r v xs s w ys → Parses Reads choices s w ys told → Parses Reads choices r v xs told
   parses_behind {w = w} ready a h =
       let own = h.any h.tokens (ended choices (after_all choices h.tokens w)) h.reads in

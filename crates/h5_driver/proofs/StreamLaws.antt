@@ -1,4 +1,4 @@
--- Pieces that were taken one after the other are one text that was read.
+-- Chunks that were taken one after another are one text that was read.
 use Rattle.std.proofs.Common.{◌++◌, ℕ, List, [], ◌∷◌, sym, subst, append_assoc, append-nil}
 use Rattle.h5_interface.specs.Seen.{Seen}
 use Rattle.h5_interface.specs.SinkChoices.{SinkChoices}
@@ -9,7 +9,7 @@ use Rattle.h5_driver.specs.declared.reader.Reader.{Ghosts}
 use Rattle.h5_driver.proofs.ReadingLaws.{nothing_read, parses_behind, piece_taken}
 
 module _ {R S H O : Type 0} (reader : Ghosts R S H O) {choices : SinkChoices} (law : AreReadings choices reader.first reader.Readings reader.Reads) where
-  -- what a parser was read up to, from a reader, a view and an input
+  -- what was read from a tokenizer, a view and an input, up to this parser
   abbrev UpTo : reader.Text → View → List ℕ → Parsing R → Type 0
   UpTo r v xs p = Advances reader.Readings r v xs (text_of reader p) (view_of reader p) p.waiting
 
@@ -18,7 +18,7 @@ module _ {R S H O : Type 0} (reader : Ghosts R S H O) {choices : SinkChoices} (l
   advance r v xs (text ∷ texts) old new a (now, (took, rest)) =
       subst (λ ys. UpTo r v ys new) (append_assoc xs text (joined texts)) (advance r v (xs ++ text) texts now new (piece_taken law text a took.advances took.none_waits) rest)
 
-  -- what a parser makes of what waits, with a text behind it
+  -- what a parser makes from what waits, with a text after it
   abbrev ParsesWith : Parsing R → List ℕ → Seen → Type 0
   ParsesWith p xs told = Parses reader.Reads choices (text_of reader p) (view_of reader p) xs told
 

@@ -1,4 +1,4 @@
--- A builder that is ready takes what isn't refused in a text where it is in one, and is ready behind it, whatever reads.
+-- A builder that is ready takes, in the mode "text", what this mode doesn't refuse, and is ready afterwards, for any tokenizer.
 use Rattle.std.proofs.Common.{◌≡◌, ◌≢◌, ℕ, true, false, Err, refl, ap, sym, subst}
 use Rattle.h5_token.specs.Reply.{Continues, Indicates, Refuses, Reply, RunsScript, TurnsPlain, TurnsRaw}
 use Rattle.h5_token.specs.TokenText.{EndOfFile, TagIs, TokenText}
@@ -19,12 +19,12 @@ use Rattle.h5_reading.specs.Answers.{refuses}
 use Rattle.h5_reading.specs.Taking.{Finishes, Takes}
 use Rattle.h5_driver.specs.Working.{IsReady, after, ended, replies}
 
--- what isn't refused in a text, or comes in no text, isn't refused
+-- a token that the mode "text" doesn't refuse, or that comes in another mode, isn't refused
 pub comes : (m : InsertionMode) (t : TokenText) → (m ≡ Text → is_refused_in_text t ≡ false) → refuses_in m t ≡ false
 comes Text t h = h refl
 comes _ t h = refl
 
--- no text is kept to go back to
+-- the mode to return to isn't "text"
 no_text : (m : InsertionMode) → m ≢ Text → is_text m ≡ false
 no_text Text h = absurd (h refl)
 no_text _ h = refl
@@ -32,14 +32,14 @@ no_text _ h = refl
 pub text_no_text : (m : InsertionMode) → is_text m ≡ false → m ≢ Text
 text_no_text m h e = let i : is_text m ≡ true = ap is_text e in cc
 
--- where a token leaves the builder in a text only if it was in one
+-- a token leaves the builder in the mode "text" only if it was in it
 pub was_text : (m n : InsertionMode) → (is_text n ≡ true → is_text m ≡ true) → n ≡ Text → m ≡ Text
 was_text m n h e = mode_is_text m (h (ap is_text e))
 
 none_behind : (v : View) → IsReady v → NoTextBehind v.world
 none_behind v r = (no_text (saved_mode v.world) r.saved, r.kinds)
 
--- no answer refuses
+-- no reply refuses
 calm_takes : (r : Reply) → IsCalm r → refuses r ≡ false
 calm_takes Continues h = refl
 calm_takes (RunsScript node) h = refl
@@ -62,7 +62,7 @@ token_takes (TagIs tag) m n r h = tag_takes tag.kind r n h
 token_takes EndOfFile m n r h = calm_takes r h.0
 token_takes _ m n r h = calm_takes r h.0
 
--- a token that isn't refused: what the builder keeps behind it, and where its answer leads
+-- a token that isn't refused: the builder's meaning after it, and the effect of its reply
 pub record IsTaken (t : TokenText) (m : InsertionMode) (reply : Reply) (n : View) : Type 0 where
   pub ready : IsReady n
   pub leads : TokenLeads t m reply n.world.mode
@@ -85,7 +85,7 @@ token_taken choices t v r n =
     } in
     subst (λ o. IsTaken t v.world.mode (tell_or_refuse choices t o v).reply (take_or_refuse choices t o v)) (sym (is_taken v t r.unfailed r.unended n)) k
 
--- a fault is want of memory
+-- an error is a failed allocation
 no_refusal : (r : Reply) (f : BuildFault) → refuses r ≡ false → r ≡ Refuses f → ⊥
 no_refusal r f h e = let i : refuses r ≡ true = ap refuses e in cc
 

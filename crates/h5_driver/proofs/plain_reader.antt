@@ -1,4 +1,4 @@
--- The plain reader over a builder.
+-- The plain tokenizer over a builder.
 pub mod AnswerLaws
 pub mod FeedingLaws
 pub mod RawLaws

@@ -1,4 +1,4 @@
--- The standard reader over a builder.
+-- The standard tokenizer over a builder.
 pub mod EndLaws
 pub mod FeedingLaws
 pub mod MarkLaws

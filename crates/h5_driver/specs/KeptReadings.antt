@@ -1,4 +1,4 @@
--- Readings over meanings of which something holds that every token keeps.
+-- Readings over meanings with a property that every token keeps.
 use Rattle.std.proofs.Common.{◌≡◌, ℕ, Bool, List, [], ◌∷◌, ◌++◌, refl, ap, sym, ◌∙◌}
 use Rattle.h5_token.specs.TokenText.{Characters, EndOfFile, TokenText}
 use Rattle.h5_token.specs.Reply.{Reply}
@@ -10,7 +10,7 @@ use Rattle.h5_states.specs.End.{last_tokens}
 use Rattle.h5_states.specs.Whole.{Readings, ReadsToEnd, more_reading, no_reading}
 use Rattle.h5_states.proofs.CutLaws.{cuts_agree}
 
--- a meaning of which it holds
+-- a meaning with the property
 pub record Kept (M : Type 0) (Holds : M → Type 0) : Type 0 where
   pub meaning : M
   pub holds : Holds meaning
@@ -64,12 +64,12 @@ module _ (table : List Reference) {M : Type 0} (reply_to : M → TokenText → R
   all_kept m [] line h = refl
   all_kept m (t ∷ ts) line h = all_kept (after m t line) ts line (keeps m t line h)
 
-  -- and to the end, but for what the end itself does
+  -- and to the end, except for what the end itself does
   pub record KeptEnd (p : ReaderPlace) (m : M) (xs : List ℕ) (ts : List TokenText) (n : M) (h : Holds m) : Type 0 where
     pub holds : Holds n
     pub reads : ReadsToEnd table kept_reply kept_after kept_foreign (λ k. k) p (kept m h) xs ts (kept n holds)
 
-  -- what is meant right before the end
+  -- the meaning right before the end
   abbrev before_end : {ended : M → M} {p : ReaderPlace} {m : M} {xs : List ℕ} {ts : List TokenText} {n : M} → ReadsToEnd table reply_to after foreign ended p m xs ts n → M
   before_end r = after (after_all after r.meaning (last_tokens table r.place) r.place.began) EndOfFile r.place.line
 
@@ -89,7 +89,7 @@ module _ (table : List Reference) {M : Type 0} (reply_to : M → TokenText → R
         };
       }
 
-  -- Where lines don't matter, nor how a text is cut to a meaning of which it holds, a text means the same however it is
+  -- If lines don't matter, nor, for a meaning with the property, how a text is split, then a text has one meaning however it is
   -- read.
   module _ (ended : M → M) (lines : (m : M) (t : TokenText) (k l : ℕ) → after m t k ≡ after m t l)
       (cut : (m : M) (x y : ℕ) (xs ys : List ℕ) (j k l : ℕ) → Holds m → after m (Characters ((x ∷ xs) ++ y ∷ ys)) j ≡ after (after m (Characters (x ∷ xs)) k) (Characters (y ∷ ys)) l) where

@@ -1,4 +1,4 @@
--- The options that hold where nothing else is said.
+-- The default options.
 use Rattle.h5_tables.specs.Options.{default_options as of_builder}
 use Rattle.h5_reading.specs.Options.{default_options as of_reader}
 use Rattle.h5_driver.specs.declared.options.ParseOpts.{ParseOpts}

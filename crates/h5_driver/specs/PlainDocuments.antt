@@ -1,4 +1,4 @@
--- What a parser makes of the text of a plain document.
+-- What a parser makes from the text of a plain document.
 use Rattle.std.specs.Prelude.{◌≡◌, ℕ, List, []}
 use Rattle.h5_interface.specs.Forest.{IsForest}
 use Rattle.h5_interface.specs.Seen.{Seen}
@@ -13,20 +13,20 @@ use Rattle.h5_tree_builder.specs.Builder.{first_building}
 use Rattle.h5_round_trip.specs.Readable.{IsReadableDocument}
 use Rattle.h5_round_trip.specs.Written.{written_of}
 
--- the reader and the builder of a parser of documents that took nothing yet, with the options that hold where nothing
--- else is said, over a sink that shows this, and what waits
+-- the tokenizer and the builder of a new parser of documents with default options, over a sink that shows this, and the waiting
+-- text
 pub record IsNew {T : Type 0} (first : TokenizerOpts → T) (r : T) (v : View) (waiting : List ℕ) (seen : Seen) : Type 0 where
   pub reader : r ≡ first of_reader
   pub builder : v ≡ (first_building seen of_builder).view
   pub none_waits : waiting ≡ []
 
--- the document stands in what a sink tells, which is a forest, in no quirks
+-- the document is what a sink shows, which is a forest, in no-quirks mode
 pub record ComesBack (told : Seen) (d : PlainDocument) : Type 0 where
   pub is_forest : IsForest told.forest
   pub stands : DocumentStands told.forest d
   pub quirks : told.quirks ≡ NoQuirks
 
--- so it is where such a parser over a sink that holds its document alone takes the text of a document that can be read
+-- this holds if such a parser, over a sink that holds only its document, takes the text of a readable document
 abbrev pub BringsBack : {T : Type 0} → (TokenizerOpts → T) → T → View → (waiting text : List ℕ) → (told : Seen) → Type 0
 BringsBack first r v waiting text told =
     (d : PlainDocument) (seen : Seen) → IsNew first r v waiting seen → HoldsDocument seen.forest → IsReadableDocument d → text ≡ written_of d → ComesBack told d

@@ -1,4 +1,4 @@
--- What a parser makes of the text of a plain fragment.
+-- What a parser makes from the text of a plain fragment.
 use Rattle.std.specs.Prelude.{◌≡◌, ℕ, Bool, true, false, List, [], ◌∷◌, codes}
 use Rattle.h5_names.specs.AttributeText.{AttributeText}
 use Rattle.h5_names.specs.declared.qualified.QualName.{QualName}
@@ -26,7 +26,8 @@ use Rattle.h5_driver.specs.Options.{default_options}
 use Rattle.h5_driver.specs.StandardReader.{Reads, first}
 use Rattle.h5_driver.specs.WholeTexts.{ParsesFragmentBy}
 
--- the name of an element of HTML in whose context the mode is "in body", and text is data, as `div`, `body`, `span` and `li` are
+-- the name of an HTML element other than `template` in whose context the mode is "in body" and the state is the data state, for
+-- example `div`, `body`, `span` and `li`
 pub record IsBodyContext (name : QualName) : Type 0 where
   pub of_html : is_html_element name ≡ true
   pub is_ordinary : (s : Situation) → decide_root s (role_of name) ≡ InBody
@@ -34,7 +35,7 @@ pub record IsBodyContext (name : QualName) : Type 0 where
   pub no_template : is_html_template name ≡ false
   pub no_modes : context_modes name ≡ []
 
--- a fragment stands below the root, which is all that the document holds
+-- a fragment is the children of the root, which is the document's only child
 pub record FragmentStands (f : Forest) (nodes : Nodes) : Type 0 where
   pub is_forest : IsForest f
   pub root : ℕ
@@ -42,20 +43,21 @@ pub record FragmentStands (f : Forest) (nodes : Nodes) : Type 0 where
   pub is_root : Looks f root (ElementNode (html_name (codes "html"))) [] (children_of f root)
   pub stands : Stands f (children_of f root) nodes
 
--- the text of a fragment that can be read, and doesn't begin with U+FEFF
+-- the text of a readable fragment, which doesn't begin with U+FEFF
 pub record IsFragmentText (nodes : Nodes) (text : List ℕ) : Type 0 where
   pub plain : IsPlain true (Flow false nothing_open) nodes
   pub readable : CanBeRead nodes
   pub written : text ≡ written_fragment nodes
   pub unmarked : behind_mark true text ≡ text
 
--- so it is where a parser of fragments over a sink that holds its document alone takes such a text, in such a context
+-- this holds if a parser of fragments with default options, over a sink that holds only its document, takes such a text, in
+-- such a context
 abbrev pub FragmentsComeBackBy : {T : Type 0} → (T → View → List ℕ → List TokenText → View → Type 0) → (TokenizerOpts → T) → SinkChoices → Type 0
 FragmentsComeBackBy Reads first choices =
     (seen told : Seen) (name : QualName) (attrs : List AttributeText) (allows_scripting : Bool) (nodes : Nodes) (text : List ℕ)
     → HoldsDocument seen.forest → IsBodyContext name → IsFragmentText nodes text
     → ParsesFragmentBy Reads first choices seen default_options name attrs allows_scripting text told → FragmentStands told.forest nodes
 
--- by the standard reader
+-- by the standard tokenizer
 abbrev pub FragmentsComeBack : SinkChoices → Type 0
 FragmentsComeBack choices = FragmentsComeBackBy (Reads choices) first choices

@@ -1,4 +1,4 @@
--- The plain reader over a builder.
+-- The plain tokenizer over a builder.
 use Rattle.std.specs.Prelude.{ℕ, List, [], ◌++◌, length}
 use Rattle.h5_token.specs.TokenText.{TokenText}
 use Rattle.h5_interface.specs.SinkChoices.{SinkChoices}
@@ -17,7 +17,7 @@ use Rattle.h5_driver.specs.Working.{after, ended, foreign, replies}
 abbrev pub first : TokenizerOpts → ReaderText
 first opts = record { place = first_place opts; held = []; stage = Reading }
 
--- in one of these states it takes all for text but the end tag of the element that it reads
+-- states in which everything is text except the end tag of the current raw element
 abbrev pub IsRawMode : Mode → Type 0
 IsRawMode (RawData kind) = Unit {0}
 IsRawMode mode = ⊥

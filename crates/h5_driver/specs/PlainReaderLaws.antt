@@ -1,4 +1,4 @@
--- What holds of readings by the plain reader over a builder.
+-- Laws of readings by the plain tokenizer over a builder.
 use Rattle.std.specs.Prelude.{◌≡◌, ◌++◌, ℕ, List, [], Option, Some, None}
 use Rattle.std.proofs.Common.{refl, ap, sym, subst, ◌∙◌, append_assoc}
 use Rattle.std.proofs.lemmas.List.{append-nil}
@@ -27,7 +27,7 @@ use Rattle.h5_driver.specs.Working.{after, ended, foreign, replies}
 abbrev ReadsAt : SinkChoices → ReaderPlace → View → List ℕ → List TokenText → View → Type 0
 ReadsAt choices p v xs ts n = ReadsToEnd (replies choices) (after choices) foreign (ended choices) p v xs ts n
 
--- what it means then is what the run of the tokens leaves
+-- the meaning afterwards is what the run of the tokens leaves
 step_runs : (choices : SinkChoices) {p : ReaderPlace} {m : View} {xs : List ℕ} {ts : List TokenText} {reply : Reply} {q : ReaderPlace} {n : View} {ys : List ℕ} → Step (replies choices) (after choices) foreign p m xs ts reply q n ys → n ≡ after_all choices ts m
 unfolding run
 step_runs choices (marked e f) = refl
@@ -65,7 +65,7 @@ chain choices {p = p} {q = q} {m = m} {n = n} {xs = xs} {ys = ys} {ts = ts} a no
 chain choices {p = p} {r = r} {m = m} {o = o} {xs = xs} {zs = zs} {ts = ts} a (more_reading {ts = us} {us = vs} b s g) =
     subst (λ x. Readings (replies choices) (after choices) foreign p m xs x r o zs) (append_assoc ts us vs) (more_reading (chain choices a b) s g)
 
--- what was read before, and then the rest
+-- what was read before, and then the remaining input
 reads_behind : (choices : SinkChoices) {p q : ReaderPlace} {m n o : View} {xs ys : List ℕ} {ts us : List TokenText} → Readings (replies choices) (after choices) foreign p m xs ts q n ys → ReadsAt choices q n ys us o → ReadsAt choices p m xs (ts ++ us) o
 reads_behind choices {ts = ts} a r = record {
   handed = ts ++ r.handed;

@@ -1,4 +1,4 @@
--- What a reader reads, whichever it is: readings up to a rest, and readings to the end.
+-- Readings of any tokenizer, up to some remaining input and to the end.
 use Rattle.std.specs.Prelude.{◌≡◌, ℕ, true, false, List, [], ◌++◌}
 use Rattle.h5_token.specs.Joins.{join}
 use Rattle.h5_token.specs.TokenText.{TokenText}
@@ -16,7 +16,7 @@ use Rattle.h5_round_trip.specs.Readable.{CanBeRead, IsReadableDocument}
 use Rattle.h5_round_trip.specs.Written.{written_fragment, written_of}
 use Rattle.h5_driver.specs.Working.{IsReady, after, ended, replies}
 
--- from a reader, a view and an input, some tokens are read, up to a reader, a view and the rest of the input
+-- from a tokenizer, a view and an input, some tokens are read, up to a tokenizer, a view and the remaining input
 pub record Advances {T : Type 0} (Readings : T → View → List ℕ → List TokenText → T → View → List ℕ → Type 0) (r : T) (v : View) (xs : List ℕ) (s : T) (w : View) (ys : List ℕ) : Type 0 where
   pub tokens : List TokenText
   pub readings : Readings r v xs tokens s w ys
@@ -26,17 +26,17 @@ pub record IsReadToEnd {T : Type 0} (Reads : T → View → List ℕ → List To
   pub tokens : List TokenText
   pub reads : Reads r v xs tokens n
 
--- what a parser built of a text: the forest and the quirks mode of the run of a list of tokens that reads it, and of any such
+-- what a parser built from a text: the forest and the quirks mode of the run of a list of tokens that reads it, and of any such
 -- list
 pub record Parses {T : Type 0} (Reads : T → View → List ℕ → List TokenText → View → Type 0) (choices : SinkChoices) (r : T) (v : View) (xs : List ℕ) (told : Seen) : Type 0 where
   pub tokens : List TokenText
   pub reads : Reads r v xs tokens (ended choices (after_all choices tokens v))
   pub any : (ts : List TokenText) (n : View) → Reads r v xs ts n → (n ≡ ended choices (after_all choices ts v)) × ((told.forest ≡ n.world.forest) × (told.quirks ≡ n.world.seen_quirks))
 
--- What holds of readings over a builder. Of nothing nothing is read; whatever follows, the same is read; and one reading goes on
--- where another stopped, also to the end. What is meant then is what the run of the tokens leaves, and it is the same for all
--- lists of tokens by which a text is read. The text of a plain document is read by its tokens, and so is a fragment's, from data on, but that
--- a text may come in two parts.
+-- Properties of readings over a builder. They include the empty one; whatever follows an input, it is read in the same way; and
+-- a reading goes on where another stopped, also to the end. The meaning at the end is what the run of the tokens leaves, and it
+-- is equal for all lists of tokens that read a text. The text of a plain document is read by its tokens, and so is that of a
+-- fragment, from the data state, except that a text may be split in two.
 pub record AreReadings {T : Type 0} (choices : SinkChoices) (first : TokenizerOpts → T) (Readings : T → View → List ℕ → List TokenText → T → View → List ℕ → Type 0) (Reads : T → View → List ℕ → List TokenText → View → Type 0) : Type 0 where
   pub nothing : (r : T) (v : View) (xs : List ℕ) → Readings r v xs [] r v xs
   pub followed : (r s : T) (v w : View) (xs ys : List ℕ) (ts : List TokenText) (more : List ℕ) → Readings r v xs ts s w ys → Readings r v (xs ++ more) ts s w (ys ++ more)

@@ -1,4 +1,4 @@
--- The standard reader over a builder.
+-- The standard tokenizer over a builder.
 use Rattle.std.specs.Prelude.{ℕ, List, ◌++◌}
 use Rattle.h5_token.specs.TokenText.{TokenText}
 use Rattle.h5_interface.specs.SinkChoices.{SinkChoices}
@@ -18,7 +18,7 @@ use Rattle.h5_driver.specs.Working.{after, ended, foreign, replies}
 abbrev pub first : TokenizerOpts → ReaderText
 first opts = record { at_start = opts.discard_bom; place = first_place opts; stage = Reading }
 
--- in a state of raw text it takes all for text but the end tag of the element that it reads
+-- states in which everything is text except the end tag of the current raw element
 abbrev pub IsRaw : ReaderText → Type 0
 IsRaw r = states.IsRaw r.place.state
 
@@ -26,11 +26,11 @@ IsRaw r = states.IsRaw r.place.state
 abbrev pub IsUndecided : ReaderText → View → Type 0
 IsUndecided r v = Unit {0}
 
--- it reads all of its input, but for a byte order mark where one may come
+-- it reads all of its input, except a byte order mark if one is allowed
 abbrev pub ahead : ReaderText → List ℕ → List ℕ
 ahead r xs = behind_mark r.at_start xs
 
--- whatever follows
+-- for any input that follows
 abbrev pub Readings : SinkChoices → ReaderText → View → List ℕ → List TokenText → ReaderText → View → List ℕ → Type 0
 Readings choices r v xs ts s w ys =
     (more : List ℕ) → whole.Readings references (replies choices) (after choices) foreign r.place v (ahead r (xs ++ more)) ts s.place w (ahead s (ys ++ more))

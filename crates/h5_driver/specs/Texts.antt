@@ -1,4 +1,4 @@
--- What a parser over the plain reader that took nothing yet makes of a whole text.
+-- What a new parser over the plain tokenizer makes from a whole text.
 use Rattle.std.specs.Prelude.{ℕ, Bool, List}
 use Rattle.h5_names.specs.AttributeText.{AttributeText}
 use Rattle.h5_names.specs.declared.qualified.QualName.{QualName}
@@ -8,10 +8,10 @@ use Rattle.h5_driver.specs.PlainReader.{Reads, first}
 use Rattle.h5_driver.specs.WholeTexts.{ParsesDocumentBy, ParsesFragmentBy}
 use Rattle.h5_driver.specs.declared.options.ParseOpts.{ParseOpts}
 
--- of a document, into a sink
+-- the text of a document, into a sink
 abbrev pub ParsesDocument : SinkChoices → Seen → ParseOpts → List ℕ → Seen → Type 0
 ParsesDocument choices seen opts text told = ParsesDocumentBy (Reads choices) first choices seen opts text told
 
--- of a fragment, in a context that is made with this name and these attributes
+-- the text of a fragment, in a context that is created with this name and these attributes
 abbrev pub ParsesFragment : SinkChoices → Seen → ParseOpts → QualName → List AttributeText → (allows_scripting : Bool) → List ℕ → Seen → Type 0
 ParsesFragment choices seen opts name attrs allows_scripting text told = ParsesFragmentBy (Reads choices) first choices seen opts name attrs allows_scripting text told

@@ -1,4 +1,4 @@
--- A builder as what takes the tokens of a reader.
+-- A builder as the token sink of a tokenizer.
 use Rattle.std.specs.Prelude.{◌≡◌, ◌≢◌, ℕ, Bool, false}
 use Rattle.h5_token.specs.Reply.{Reply}
 use Rattle.h5_token.specs.TokenText.{TokenText}
@@ -10,7 +10,7 @@ use Rattle.h5_rules.specs.Run.{View, after_token, reply_to}
 use Rattle.h5_rules.specs.Sound.{Fitting}
 use Rattle.h5_tree_builder.specs.Builder.{ended_view, is_foreign_in}
 
--- what it answers, what it means after a token, whatever its line, and after the end, and whether its current node isn't HTML
+-- its reply, its meaning after a token, on any line, and after the end, and whether its current node isn't HTML
 abbrev pub replies : SinkChoices → View → TokenText → Reply
 replies choices v t = reply_to choices t v
 
@@ -23,7 +23,7 @@ ended choices v = ended_view choices v
 abbrev pub foreign : View → Bool
 foreign v = is_foreign_in v.world
 
--- what it keeps between tokens. No mode that it keeps to go back to is "text": neither the one that it left, nor one of
+-- the invariant between tokens. No mode that it stores to return to is "text": neither the original insertion mode, nor one of
 -- a template
 pub record IsReady (v : View) : Type 0 where
   pub unfailed : v.failed ≡ false
@@ -32,13 +32,13 @@ pub record IsReady (v : View) : Type 0 where
   pub saved : saved_mode v.world ≢ Text
   pub kinds : AllKinds v.world.template_modes
 
--- a builder that took nothing yet is ready, and in no text
+-- a new builder is ready, and its mode isn't "text"
 pub record Begins (v : View) : Type 0 where
   pub ready : IsReady v
   pub no_text : v.world.mode ≢ Text
 
--- it takes the tokens that a reader hands on: it is in the mode "text", which refuses start tags, comments and nulls, only while
--- the reader hands on none of them
+-- it takes the tokens of a tokenizer: its mode is "text", which refuses start tags, comments and nulls, only while the
+-- tokenizer emits none of them
 pub record IsWorking {T : Type 0} (IsRaw : T → Type 0) (r : T) (v : View) : Type 0 where
   pub ready : IsReady v
   pub text : v.world.mode ≡ Text → IsRaw r

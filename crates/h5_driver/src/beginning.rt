@@ -1,4 +1,4 @@
-//! Builders that parsers begin with.
+//! The tree builders that parsers begin with.
 ghost use Rattle.std.specs.Prelude.{◌≡◌, MatchOption, IfErr, IfOk, option_map};
 ghost use Rattle.h5_names.specs.AttributeText.{attribute_texts};
 ghost use Rattle.h5_interface.specs.Forest.{IsElement};
@@ -17,7 +17,7 @@ use h5_token::BuildFault;
 use h5_tree_builder::TreeBuilder;
 use std::alloc::Global;
 
-/// A builder of a document, which took nothing yet.
+/// Returns a new builder of a document.
 pub fn document_builder<Sink: TreeSink + Drop>(
     alloc: Global,
     sink: Sink,
@@ -30,8 +30,8 @@ pub fn document_builder<Sink: TreeSink + Drop>(
     TreeBuilder::new(alloc, sink, opts)
 }
 
-/// A builder of a fragment in this context, which took nothing yet, and the options of a reader that begins as the context says
-/// (HTML standard, section 13.4, "Parsing HTML fragments").
+/// Returns a new builder of a fragment in this context, and the tokenizer's options with the state that the context sets (HTML
+/// standard, section 13.4, "Parsing HTML fragments"). The context and the form, if there is one, must be elements of the sink.
 pub fn fragment_builder<Sink: TreeSink + Drop>(
     alloc: Global,
     sink: Sink,
@@ -62,8 +62,8 @@ pub fn fragment_builder<Sink: TreeSink + Drop>(
     Ok((builder, tokenizer.beginning_in(state)))
 }
 
-/// The same in a context that is made in the sink, with this name and these attributes, where it has no parent. There is no form
-/// element.
+/// Returns a new builder of a fragment as `fragment_builder` does, in a context that is created in the sink with this name and
+/// these attributes, without a parent. There is no form element.
 #[tactic(auto, unfolding(crate::specs::Fragments::first_in_new))]
 pub fn builder_in_new<Sink: TreeSink + Drop>(
     alloc: Global,

@@ -14,13 +14,13 @@ use h5_token::BuildFault;
 use std::alloc::Global;
 use std::marker::Model;
 
-/// A parser of a document from bytes in UTF-8, over a parser of text; `Parser::from_utf8` makes it.
+/// A parser of a document in UTF-8, over a parser of text. `Parser::from_utf8` makes it.
 ///
-/// It takes bytes in chunks, and how they are cut into chunks doesn't matter, also in the middle of a character: it keeps the bytes
-/// of a character that isn't finished, three at the most. U+FFFD stands for each error, by the rule of `Utf8LossyDecoder`. A byte
-/// order mark is a character of the text; so the reader's option `discard_bom` says what becomes of it.
+/// It takes bytes in chunks. How they are split doesn't matter, even inside a character: it stores the bytes of an unfinished
+/// character, which are at most three. U+FFFD replaces each error, as in `Utf8LossyDecoder`. A byte order mark is decoded like
+/// any other character; the tokenizer's option `discard_bom` decides what becomes of it.
 ///
-/// Contracts see it as its parser and the bytes that it keeps. It has failed where its parser has.
+/// Contracts see it as its parser and the stored bytes. It has failed if its parser has.
 #[derive(Drop)]
 pub struct Utf8Parser<R: Reader + Drop> {
     parser: Parser<R>,
@@ -41,7 +41,7 @@ impl<R: Reader + Drop> Model for Utf8Parser<R> {
     ghost invariant = { λ p. IsParsing R.Reader p.parser };
 }
 
-// A parser of bytes that took nothing yet, over a parser of text.
+// Returns a new parser of bytes over a parser of text.
 pub(super) fn bytes_over<R: Reader + Drop>(alloc: Global, parser: Parser<R>) -> Utf8Parser<R>
     ensures parser { result.parser ≡ parser }
     ensures unfinished { result.unfinished ≡ [] }
@@ -53,9 +53,10 @@ pub(super) fn bytes_over<R: Reader + Drop>(alloc: Global, parser: Parser<R>) -> 
 }
 
 impl<R: Reader + Drop> Utf8Parser<R> {
-    /// Takes the next chunk of the bytes: its text, as far as that is decided, as `Parser::process` takes a piece.
+    /// Parses the next chunk of the bytes: its text, as far as that is decided, as `Parser::process` does.
     ///
-    /// It answers `Memory` where memory is refused, and `Failed` after that; then nothing has changed.
+    /// Fails with `Memory` if an allocation fails; the parser has then failed. Fails with `Failed`, and changes nothing, if the
+    /// parser had failed before.
     pub fn process(&mut self, bytes: &[u8]) -> Result<(), BuildFault>
         ensures takes { OnOk result (ProcessedBytes R.Reader bytes.now self.old self.new) }
         ensures works { OnOk result (self.new.parser.failed ≡ false) }
@@ -79,10 +80,10 @@ impl<R: Reader + Drop> Utf8Parser<R> {
         }
     }
 
-    /// The end of the bytes: what the sink gives. U+FFFD stands for a character that isn't finished.
+    /// Ends the text, and returns the output of the sink. U+FFFD replaces an unfinished character.
     ///
-    /// It has built what the tokens of the text of all bytes build, by the rules of tree construction. It answers `Memory` where
-    /// memory is refused, and `Failed` where that was before.
+    /// The tree is what tree construction builds from the tokens of the text of all bytes. Fails with `Memory` if an allocation
+    /// fails, and with `Failed` if the parser had failed before.
     pub fn finish(self) -> Result<<R::Sink as TreeSink>::Output, BuildFault>
         ensures parses { IfOk result (λ output. Parses R.Reads R.Sink.choices (text_of R.Reader self.parser) (view_of R.Reader self.parser) (self.parser.waiting ++ utf8_lossy self.unfinished) (R.Sink.told output)) }
         ensures failed { self.parser.failed ≡ true → result ≡ Err BuildFault.Failed }
@@ -92,7 +93,7 @@ impl<R: Reader + Drop> Utf8Parser<R> {
         parser.one(decoder.finish())
     }
 
-    // Takes bytes in parts.
+    // Parses bytes in parts.
     fn process_parts(&mut self, bytes: &[u8]) -> Result<(), BuildFault>
         ensures takes { OnOk result (AdvancesBytes R.Reader bytes.now self.old self.new) }
         ensures works { OnOk result (self.new.parser.failed ≡ self.old.parser.failed) }
@@ -108,8 +109,8 @@ impl<R: Reader + Drop> Utf8Parser<R> {
         Ok(())
     }
 
-    /// Takes all bytes, and their end: `process` on parts of them, and `finish`. The text of a plain document gives that document,
-    /// as by `Parser::process_pieces`.
+    /// Parses all bytes: `process` for parts of them, then `finish`. From the text of a readable plain document it makes that
+    /// document, as `Parser::process_pieces` does. Fails like `finish`.
     pub fn one(self, bytes: &[u8]) -> Result<<R::Sink as TreeSink>::Output, BuildFault>
         ensures parses { IfOk result (λ output. Parses R.Reads R.Sink.choices (text_of R.Reader self.parser) (view_of R.Reader self.parser) (self.parser.waiting ++ utf8_lossy (self.unfinished ++ bytes.now)) (R.Sink.told output)) }
         ensures plain { IfOk result (λ output. BringsBack R.first (text_of R.Reader self.parser) (view_of R.Reader self.parser) self.parser.waiting (utf8_lossy (self.unfinished ++ bytes.now)) (R.Sink.told output)) }

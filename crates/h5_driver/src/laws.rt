@@ -1,4 +1,4 @@
-//! Laws of texts that are parsed, each the contract of a function that does nothing.
+//! The laws of parsing texts. Each is the contract of a function that does nothing.
 ghost use Rattle.std.specs.Prelude.{◌≡◌, ℕ, List, ◌++◌};
 ghost use Rattle.std.specs.Str.Lossy.{utf8_lossy};
 ghost use Rattle.h5_interface.specs.Seen.{Seen};
@@ -12,9 +12,9 @@ ghost use Rattle.h5_driver.specs.Reading.{Parses};
 
 use super::reader::Reader;
 
-/// `process` on each of some pieces, and then `finish`: what the sink tells at the end is what it tells of the whole
-/// text, read from where the first piece found the parser. So it is the forest and the quirks mode of the run of
-/// a list of tokens that reads the whole text, and of any such list.
+/// If `process` takes chunks one after another, and `finish` follows, the sink shows what it shows for the joined text, from
+/// the parser's state before the first chunk. So its forest and quirks mode are those of the run of a list of tokens that reads
+/// the whole text, and of any such list.
 pub fn pieces_then_finish<R: Reader>()
     ensures { (pieces : List (List ℕ)) (first last : Parsing R) (told : Seen) →
         ProcessedAll R.Reader pieces first last
@@ -22,8 +22,8 @@ pub fn pieces_then_finish<R: Reader>()
         → Parses R.Reads R.Sink.choices (text_of R.Reader first) (view_of R.Reader first) (first.waiting ++ joined pieces) told }
 {}
 
-/// The same of bytes in UTF-8: `process` on each of some chunks, and then `finish`, by a parser of bytes. What the sink tells at
-/// the end is what it tells of the text of all bytes together, with U+FFFD for each error in them.
+/// If a parser of bytes takes chunks of UTF-8 by `process` one after another, and `finish` follows, the sink shows what it
+/// shows for the text of all bytes together, with U+FFFD for each error in them.
 pub fn chunks_then_finish<R: Reader>()
     ensures { (chunks : List (List ℕ)) (first last : ParsingBytes R) (told : Seen) →
         ProcessedAllBytes R.Reader chunks first last
@@ -31,17 +31,16 @@ pub fn chunks_then_finish<R: Reader>()
         → Parses R.Reads R.Sink.choices (text_of R.Reader first.parser) (view_of R.Reader first.parser) (first.parser.waiting ++ utf8_lossy (first.unfinished ++ joined chunks)) told }
 {}
 
-/// What is made of a text is one forest and one quirks mode, from one reader and one view of the builder. So
-/// two parsers of documents, or of fragments, that begin alike make the same of a text, however each takes it in pieces.
+/// From one state of the tokenizer and one view of the builder, a text makes one forest and one quirks mode. So two parsers of
+/// documents, or of fragments, that begin equal make the same from a text, however it is split for each.
 pub fn a_text_has_one_tree<R: Reader>()
     ensures { (reader : R.Text) (view : View) (text : List ℕ) (one other : Seen) →
         Parses R.Reads R.Sink.choices reader view text one → Parses R.Reads R.Sink.choices reader view text other
         → (one.forest ≡ other.forest) × (one.quirks ≡ other.quirks) }
 {}
 
-/// The text of a plain document comes back, in whatever pieces it comes. Where a parser of documents with the default
-/// options, over a sink that holds its document alone, takes the pieces by `process`, one after the other, and then
-/// `finish`, that document stands in what the sink tells, in no quirks.
+/// If a new parser of documents with default options, over a sink that holds only its document, takes the text of a readable
+/// plain document in any chunks by `process`, and `finish` follows, the sink shows that document, in no-quirks mode.
 pub fn documents_come_back<R: Reader>()
     ensures { (pieces : List (List ℕ)) (first last : Parsing R) (told : Seen) →
         ProcessedAll R.Reader pieces first last
@@ -51,14 +50,15 @@ pub fn documents_come_back<R: Reader>()
     pieces_then_finish::<R>();
 }
 
-/// The text of a plain fragment comes back, in whatever pieces it comes (`pieces_then_finish` tells what pieces make of a text). Where
-/// a parser of fragments over the standard reader with the default options, over a sink that holds its document alone, in the
-/// context of an element by which the mode is "in body", takes that text, the fragment stands below the root in what the sink tells.
+/// If a new parser of fragments over the standard tokenizer, with default options, over a sink that holds only its document,
+/// takes the text of a readable plain fragment that doesn't begin with U+FEFF, in the context of an element that
+/// `IsBodyContext` describes, the sink shows that fragment as the children of the root. By `pieces_then_finish` this holds for
+/// any chunks.
 pub fn fragments_come_back()
     ensures { (choices : SinkChoices) → FragmentsComeBack choices }
 {}
 
-/// So it does over every reader, the plain one among them.
+/// The law `fragments_come_back` for every tokenizer, including the plain one.
 pub fn fragments_come_back_over<R: Reader>()
     ensures { FragmentsComeBackBy R.Reads R.first R.Sink.choices }
 {}

@@ -6,7 +6,7 @@ use h5_tables::TreeBuilderOpts;
 use h5_tokenizer::TokenizerOpts;
 use std::alloc::AllocError;
 
-/// Options of a parser: those of its reader, and those of its tree builder.
+/// Options of a parser: those of its tokenizer, and those of its tree builder.
 #[derive(Debug, Drop)]
 pub struct ParseOpts {
     pub tokenizer: TokenizerOpts,
@@ -14,7 +14,7 @@ pub struct ParseOpts {
 }
 
 impl ParseOpts {
-    /// Equal options, or an `AllocError` where memory is refused.
+    /// Returns a copy, with equal options.
     pub fn clone(&self) -> Result<ParseOpts, AllocError>
         ensures tokenizer { IfOk result (λ opts. options_text opts.tokenizer ≡ options_text self.now.tokenizer) }
         ensures tree_builder { IfOk result (λ opts. opts.tree_builder ≡ self.now.tree_builder) }

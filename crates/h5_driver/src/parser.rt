@@ -14,7 +14,7 @@ use h5_token::BuildFault;
 use std::alloc::Global;
 use std::marker::Model;
 
-// Feeds the reader until all that waits is read, whatever else it answers.
+// Feeds the tokenizer until the queue is empty, whatever else it returns.
 fn feed_all<R: Reader>(tokenizer: &mut R, queue: &mut BufferQueue) -> Result<(), BuildFault>
     requires reading { R.stage (R.text tokenizer.old) ≡ Reading }
     requires works { IsWorking R.IsRaw (R.text tokenizer.old) (R.building tokenizer.old).view }
@@ -34,15 +34,16 @@ fn feed_all<R: Reader>(tokenizer: &mut R, queue: &mut BufferQueue) -> Result<(),
     }
 }
 
-/// A parser of a document: a reader over the tree builder over a sink.
+/// A parser of a document: a tokenizer over the tree builder over a sink.
 ///
-/// It takes text in pieces, and how a text is cut into pieces doesn't matter. Contracts see it as its reader, the text that waits,
-/// and whether it has failed: it has after want of memory, and then every call answers `Failed`.
+/// It takes text in chunks, and how a text is split doesn't matter. Contracts see it as its tokenizer, the waiting text, and
+/// whether it has failed. It has failed after a failed allocation, and then every call that returns a result fails with
+/// `Failed`.
 #[derive(Drop)]
 pub struct Parser<R: Reader + Drop> {
-    /// The reader, over the builder.
+    /// The tokenizer, over the builder.
     pub tokenizer: R,
-    /// The text that waits.
+    /// The waiting text.
     pub input_buffer: BufferQueue,
     failed: bool,
     alloc: Global,
@@ -61,7 +62,7 @@ impl<R: Reader + Drop> Model for Parser<R> {
     ghost invariant = { λ p. IsParsing R.Reader (record { tokenizer = p.tokenizer; waiting = p.input_buffer; failed = p.failed }) };
 }
 
-// A parser over a reader whose builder works.
+// Returns a parser over a tokenizer whose builder works.
 pub(super) fn parser_over<R: Reader + Drop>(alloc: Global, tokenizer: R) -> Parser<R>
     requires reading { R.stage (R.text tokenizer) ≡ Reading }
     requires works { IsWorking R.IsRaw (R.text tokenizer) (R.building tokenizer).view }
@@ -78,10 +79,10 @@ pub(super) fn parser_over<R: Reader + Drop>(alloc: Global, tokenizer: R) -> Pars
 }
 
 impl<R: Reader + Drop> Parser<R> {
-    /// Takes the next piece of the text: it is read as far as that is decided, whatever the reader answers
-    /// besides.
+    /// Parses the next chunk of the text, as far as it is decided, whatever else the tokenizer returns.
     ///
-    /// It answers `Memory` where memory is refused, and `Failed` after that; then nothing has changed.
+    /// Fails with `Memory` if an allocation fails; the parser has then failed. Fails with `Failed`, and changes nothing, if the
+    /// parser had failed before.
     pub fn process(&mut self, text: &str) -> Result<(), BuildFault>
         ensures takes { OnOk result (Processed R.Reader text.now self.old self.new) }
         ensures works { OnOk result (self.new.failed ≡ false) }
@@ -98,10 +99,10 @@ impl<R: Reader + Drop> Parser<R> {
         self.process_owned(piece)
     }
 
-    /// Takes the next piece of the text as `process` does, but as a text of its own, which isn't copied where
-    /// nothing waits.
+    /// Parses the next chunk of the text as `process` does, but doesn't copy it if no text waits.
     ///
-    /// It answers `Memory` where memory is refused, and `Failed` after that; then nothing has changed.
+    /// Fails with `Memory` if an allocation fails; the parser has then failed. Fails with `Failed`, and changes nothing, if the
+    /// parser had failed before.
     pub fn process_owned(&mut self, text: String) -> Result<(), BuildFault>
         ensures takes { OnOk result (Processed R.Reader (string_bytes text) self.old self.new) }
         ensures works { OnOk result (self.new.failed ≡ false) }
@@ -119,10 +120,10 @@ impl<R: Reader + Drop> Parser<R> {
         Ok(())
     }
 
-    /// The end of the text: what the sink gives.
+    /// Ends the text, and returns the output of the sink.
     ///
-    /// It has built what the tokens of the whole text build, by the rules of tree construction. It answers
-    /// `Memory` where memory is refused, and `Failed` where that was before.
+    /// The tree is what tree construction builds from the tokens of the whole text. Fails with `Memory` if an allocation fails,
+    /// and with `Failed` if the parser had failed before.
     pub fn finish(self) -> Result<<R::Sink as TreeSink>::Output, BuildFault>
         ensures parses { IfOk result (λ output. Parses R.Reads R.Sink.choices (text_of R.Reader self) (view_of R.Reader self) self.waiting (R.Sink.told output)) }
         ensures failed { self.failed ≡ true → result ≡ Err BuildFault.Failed }
@@ -144,7 +145,7 @@ impl<R: Reader + Drop> Parser<R> {
         Ok(tokenizer.into_sink().finish())
     }
 
-    // Takes pieces, one after the other.
+    // Parses chunks, one after another.
     fn process_each(&mut self, pieces: &[String]) -> Result<(), BuildFault>
         ensures takes { OnOk result (Advances R.Readings (text_of R.Reader self.old) (view_of R.Reader self.old) (self.old.waiting ++ joined (map string_bytes pieces.now))
             (text_of R.Reader self.new) (view_of R.Reader self.new) self.new.waiting) }
@@ -160,15 +161,14 @@ impl<R: Reader + Drop> Parser<R> {
         Ok(())
     }
 
-    /// Takes pieces of a text one after the other, and then its end: `process` on each, and `finish`.
+    /// Parses a text given in chunks: `process` for each, then `finish`.
     ///
-    /// However the text is cut into pieces, empty ones too, it gives the forest and the quirks mode of the
-    /// run of a list of tokens that reads the whole text, and of any such list. It answers `Memory` where
-    /// memory is refused, and `Failed` where that was before.
+    /// The result depends only on the joined text: its forest and quirks mode are those of the run of any list of tokens that
+    /// reads it. Fails with `Memory` if an allocation fails, and with `Failed` if the parser had failed before.
     ///
-    /// From the text of a plain document it gives that document, in no quirks: by a parser of documents that took nothing
-    /// yet, with the default options, over a sink that holds its document alone, and of a document whose texts and values
-    /// hold neither NUL nor CR, and whose attributes have names that are read as they are written.
+    /// From the text of a readable plain document a new parser of documents with default options, over a sink that holds only
+    /// its document, makes that document, in no-quirks mode. A plain document is readable if its texts and values contain
+    /// neither NUL nor CR, and the names of its attributes are read as they are written.
     pub fn process_pieces(
         self,
         pieces: &[String],
@@ -186,7 +186,7 @@ impl<R: Reader + Drop> Parser<R> {
         parser.finish()
     }
 
-    // Takes a text in parts, each of which is copied.
+    // Parses a text in parts, each of which is copied.
     fn process_parts(&mut self, text: &str) -> Result<(), BuildFault>
         ensures takes { OnOk result (Advances R.Readings (text_of R.Reader self.old) (view_of R.Reader self.old) (self.old.waiting ++ text.now)
             (text_of R.Reader self.new) (view_of R.Reader self.new) self.new.waiting) }
@@ -204,8 +204,8 @@ impl<R: Reader + Drop> Parser<R> {
         Ok(())
     }
 
-    /// Takes a whole text, and its end: `process` on parts of it, and `finish`. The parts are copied, one at a time. The text
-    /// of a plain document gives that document, as by `process_pieces`.
+    /// Parses a whole text: `process` for parts of it, then `finish`. The parts are copied, one at a time. From the text of a
+    /// readable plain document it makes that document, as `process_pieces` does. Fails like `finish`.
     pub fn one(self, text: &str) -> Result<<R::Sink as TreeSink>::Output, BuildFault>
         ensures parses { IfOk result (λ output. Parses R.Reads R.Sink.choices (text_of R.Reader self) (view_of R.Reader self) (self.waiting ++ text.now) (R.Sink.told output)) }
         ensures plain { IfOk result (λ output. BringsBack R.first (text_of R.Reader self) (view_of R.Reader self) self.waiting text.now (R.Sink.told output)) }
@@ -220,8 +220,8 @@ impl<R: Reader + Drop> Parser<R> {
         parser.finish()
     }
 
-    /// Takes a whole text of its own, and its end: `process_owned`, and `finish`. The text isn't copied where nothing
-    /// waits. That of a plain document gives that document, as by `process_pieces`.
+    /// Parses a whole text: `process_owned`, then `finish`. The text isn't copied if no text waits. From the text of a readable
+    /// plain document it makes that document, as `process_pieces` does. Fails like `finish`.
     pub fn one_owned(self, text: String) -> Result<<R::Sink as TreeSink>::Output, BuildFault>
         ensures parses { IfOk result (λ output. Parses R.Reads R.Sink.choices (text_of R.Reader self) (view_of R.Reader self) (self.waiting ++ string_bytes text) (R.Sink.told output)) }
         ensures plain { IfOk result (λ output. BringsBack R.first (text_of R.Reader self) (view_of R.Reader self) self.waiting (string_bytes text) (R.Sink.told output)) }
@@ -236,7 +236,7 @@ impl<R: Reader + Drop> Parser<R> {
         parser.finish()
     }
 
-    /// A parser of bytes in UTF-8 that goes on where this one is. It takes no memory.
+    /// Returns a parser of UTF-8 that continues from this parser's state. Allocates nothing.
     pub fn from_utf8(self) -> Utf8Parser<R>
         ensures parser { result.parser ≡ self }
         ensures unfinished { result.unfinished ≡ [] }
@@ -244,28 +244,28 @@ impl<R: Reader + Drop> Parser<R> {
         bytes_over(self.alloc, self)
     }
 
-    // What holds of a parser at every moment, of this one.
+    // For proofs: the invariant of this parser.
     pub(super) fn stands(&self)
         ensures { IsParsing R.Reader self.now }
     {
         let _reader = &self.tokenizer;
     }
 
-    // Whether it has failed.
+    // Returns true if the parser has failed.
     pub(super) fn has_failed(&self) -> bool
         ensures { result ≡ self.now.failed }
     {
         self.failed
     }
 
-    // Makes it fail from now on.
+    // Marks the parser as failed.
     pub(super) fn fail(&mut self)
         ensures { self.new.failed ≡ true }
     {
         self.failed = true;
     }
 
-    /// Tells the sink of an error that was met outside. Nothing else changes.
+    /// Reports an error that was found elsewhere to the sink. Changes nothing else.
     pub fn error(&mut self, message: &str)
         ensures noted { 0 < (R.building self.new.tokenizer).errors }
         ensures view { view_of R.Reader self.new ≡ view_of R.Reader self.old }
@@ -273,6 +273,6 @@ impl<R: Reader + Drop> Parser<R> {
         ensures waiting { self.new.waiting ≡ self.old.waiting }
         ensures failed { self.new.failed ≡ self.old.failed }
     {
-        self.tokenizer.tell_error(message);
+        self.tokenizer.report_error(message);
     }
 }

@@ -1,4 +1,4 @@
-//! The parser over the plain reader.
+//! The parser over the plain tokenizer.
 ghost use Rattle.std.specs.Prelude.{◌≡◌, [], MatchOption, false, IfErr, IfOk, option_map};
 ghost use Rattle.h5_names.specs.AttributeText.{attribute_texts};
 ghost use Rattle.h5_interface.specs.Forest.{IsElement};
@@ -20,13 +20,13 @@ use h5_tokenizer::{BufferQueue, Tokenizer, TokenizerOpts, TokenizerResult};
 use h5_tree_builder::TreeBuilder;
 use std::alloc::Global;
 
-/// The plain reader over the tree builder over a sink.
+/// The plain tokenizer over the tree builder over a sink.
 pub type PlainReader<Sink> = Tokenizer<TreeBuilder<<Sink as TreeSink>::Handle, Sink>>;
 
-/// A parser over the plain reader.
+/// A parser over the plain tokenizer.
 pub type Parser<Sink> = parser::Parser<PlainReader<Sink>>;
 
-/// A parser of bytes over the plain reader.
+/// A parser of bytes over the plain tokenizer.
 pub type Utf8Parser<Sink> = bytes::Utf8Parser<PlainReader<Sink>>;
 
 impl<Handle: Drop, Sink: TreeSink<Handle = Handle> + Drop> Reader
@@ -73,13 +73,12 @@ impl<Handle: Drop, Sink: TreeSink<Handle = Handle> + Drop> Reader
         self.sink.into_sink()
     }
 
-    fn tell_error(&mut self, message: &str) {
-        self.sink.tell_error(message);
+    fn report_error(&mut self, message: &str) {
+        self.sink.report_error(message);
     }
 }
 
-/// A parser of a document, into a sink, that took nothing yet. It takes no memory, and the sink stays as it
-/// is.
+/// Returns a new parser of a document into a sink. Allocates nothing, and leaves the sink as it is.
 pub fn parse_document<Sink: TreeSink + Drop>(
     alloc: Global,
     sink: Sink,
@@ -95,10 +94,10 @@ pub fn parse_document<Sink: TreeSink + Drop>(
     parser_over(alloc, Tokenizer::new(alloc, builder, opts.tokenizer))
 }
 
-/// A parser of a fragment in this context, an element of the sink, that took nothing yet. The form, where there is one, is
-/// the form element. The text is read as the name of the context says, whatever initial state the options have.
+/// Returns a new parser of a fragment in this context. The context, and the form element if there is one, must be elements of
+/// the sink. The context's name sets the tokenizer's initial state, whatever initial state the options have.
 ///
-/// Where memory is refused it answers `Memory`, and the sink is let go.
+/// If an allocation fails, fails with `Memory` and drops the sink.
 pub fn parse_fragment_for_element<Sink: TreeSink + Drop>(
     alloc: Global,
     sink: Sink,
@@ -126,10 +125,11 @@ pub fn parse_fragment_for_element<Sink: TreeSink + Drop>(
     Ok(parser_over(alloc, Tokenizer::new(alloc, builder, opts)))
 }
 
-/// A parser of a fragment in a context of this name and with these attributes, that took nothing yet: the context is made
-/// in the sink, where it has no parent, and there is no form element.
+/// Returns a new parser of a fragment in a context that is created in the sink with this name and these attributes, without a
+/// parent. There is no form element. The context's name sets the tokenizer's initial state, whatever initial state the options
+/// have.
 ///
-/// Where memory is refused it answers `Memory`, and the sink is let go.
+/// If an allocation fails, fails with `Memory` and drops the sink.
 pub fn parse_fragment<Sink: TreeSink + Drop>(
     alloc: Global,
     sink: Sink,

@@ -1,4 +1,4 @@
-//! What a parser asks of a reader.
+//! What a parser requires of a tokenizer.
 ghost use Rattle.std.specs.Prelude.{◌≡◌, ◌≢◌, ◌<◌, ℕ, List, [], Ok, Err, OnErr, OnOk};
 ghost use Rattle.h5_token.specs.TokenText.{TokenText};
 ghost use Rattle.h5_reading.specs.declared.options.TokenizerOpts.{TokenizerOpts};
@@ -13,43 +13,44 @@ use h5_interface::TreeSink;
 use h5_reading::{BufferQueue, TokenizerResult};
 use h5_token::BuildFault;
 
-/// A reader over a tree builder over a sink, as a parser needs one.
+/// A tokenizer over a tree builder over a sink, as a parser needs it.
 ///
-/// It hands on tokens as its input comes, and the builder takes them. Its readings are the trait's: each reader says which tokens
-/// it reads of an input. How the input is cut doesn't matter to what the builder means in the end.
+/// It passes tokens to the builder as its input comes. Its readings are those of the trait: each implementor defines which
+/// tokens it reads from an input. How the input is split doesn't matter for the builder's final meaning.
 pub trait Reader {
     type Sink: TreeSink + Drop;
 
-    // What it is, apart from its builder.
+    // The tokenizer without its builder.
     ghost Text: { Type 0 };
 
     ghost text: { Self → Text };
 
-    // Its builder.
+    // The builder.
     ghost building: { Self → Building };
 
-    // What it is before it has read anything.
+    // The tokenizer before it has read anything.
     ghost first: { TokenizerOpts → Text };
 
-    // Whether it still reads.
+    // Its stage: it reads, or it has ended or failed.
     ghost stage: { Text → Stage };
 
-    // It hands on texts alone, and then the end tag of the element that it reads.
+    // It emits only texts, and then the end tag of the current raw element.
     ghost IsRaw: { Text → Type 0 };
 
-    // What it keeps of its input isn't decided yet.
+    // The input that it holds isn't decided yet.
     ghost IsUndecided: { Text → View → Type 0 };
 
-    // Of an input these tokens are read, up to a reader, a view and the rest of the input.
+    // These tokens are read from an input, up to a tokenizer, a view and the remaining input.
     ghost Readings: { Text → View → List ℕ → List TokenText → Text → View → List ℕ → Type 0 };
 
-    // An input is read to its end by these tokens, and this is meant then.
+    // An input is read to its end by these tokens, and this is the builder's meaning afterwards.
     ghost Reads: { Text → View → List ℕ → List TokenText → View → Type 0 };
 
-    // What each call that stops before the end of its input makes less of.
+    // A number that each call decreases if it stops before the end of its input.
     ghost left: { Text → List ℕ → ℕ };
 
-    /// Reads what waits in the queue. Where it answers `Done` the queue is empty.
+    /// Reads the queue. If it returns `Done`, the queue is empty. The tokenizer must not have ended or failed, and `IsWorking`
+    /// must hold.
     fn feed(
         &mut self,
         input: &mut BufferQueue,
@@ -63,7 +64,8 @@ pub trait Reader {
         ensures less { OnOk result (result ≢ Ok TokenizerResult.Done → left (text self.new) input.new < left (text self.old) input.old) }
         ensures memory { OnErr result (result ≡ Err BuildFault.Memory) };
 
-    /// Hands on what the end makes of what is undecided, and then the end of the file.
+    /// Passes what the end makes of the undecided input to the builder, and then the end-of-file token. The tokenizer must not
+    /// have ended or failed, and `IsWorking` and `IsUndecided` must hold.
     fn end(&mut self) -> Result<(), BuildFault>
         requires reading { stage (text self.old) ≡ Reading }
         requires works { IsWorking IsRaw (text self.old) (building self.old).view }
@@ -71,13 +73,13 @@ pub trait Reader {
         ensures ends { OnOk result (IsReadToEnd Reads (text self.old) (building self.old).view [] (building self.new).view) }
         ensures memory { OnErr result (result ≡ Err BuildFault.Memory) };
 
-    /// Its sink.
+    /// Returns the sink.
     fn into_sink(self) -> Self::Sink
         ensures forest { (Self.Sink.sees result).forest ≡ (building self).view.world.forest }
         ensures quirks { (Self.Sink.sees result).quirks ≡ (building self).view.world.seen_quirks };
 
-    /// Tells the sink of an error that was met outside. Nothing else changes.
-    fn tell_error(&mut self, message: &str)
+    /// Reports an error that was found elsewhere to the sink. Changes nothing else.
+    fn report_error(&mut self, message: &str)
         ensures noted { 0 < (building self.new).errors }
         ensures view { (building self.new).view ≡ (building self.old).view }
         ensures text { text self.new ≡ text self.old };

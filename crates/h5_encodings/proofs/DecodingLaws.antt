@@ -1,4 +1,4 @@
--- How bytes are cut doesn't matter.
+-- How bytes are split doesn't matter.
 use Rattle.std.proofs.Common.{◌≡◌, ◌∙◌, ℕ, true, false, List, [], ◌∷◌, ◌++◌, cond, refl, sym, ap, append_assoc, append-nil}
 use Rattle.std.specs.Str.Lossy.{utf8_lossy}
 use Rattle.h5_reading.specs.Decoding as utf8

@@ -1,4 +1,4 @@
--- The steps of a prescan.
+-- The steps of the prescan.
 use Rattle.std.proofs.Common.{◌≡◌, ◌∙◌, ℕ, suc, ◌+◌, ◌-◌, ◌<◌, ◌≤◌, List, ◌∷◌, length, drop, get_or, sym, ap, arith}
 use Rattle.std.proofs.Math.Seq.{drop-cons}
 use Rattle.h5_encodings.specs.declared.attribute.Name.{Name}
@@ -7,7 +7,7 @@ use Rattle.h5_encodings.specs.Attributes.{Got, Cut, NoMore, Attribute, attribute
 use Rattle.h5_encodings.specs.Prescan.{CutOff, Ended, Here, Passes, attributes, behind_attribute, found_here, found_or, scan}
 use Rattle.h5_encodings.specs.Said.{says}
 
--- where at least one attribute may come
+-- at a position for at least one attribute
 one_attribute : (n i : ℕ) (said : Said) (t : List ℕ) (got : Got) → i < n → attribute t ≡ got
     → attributes (n - i) said t ≡ behind_attribute got said (λ more rest. attributes (n - (i + 1)) more rest)
 one_attribute n i said t got lt is =
@@ -34,7 +34,7 @@ at_place bytes i lt =
     let one : suc i ≡ i + 1 = omega arith in
     drop-cons bytes i 0 lt ∙ ap (λ k. get_or bytes i 0 ∷ drop k bytes) one
 
--- what is found where so many bytes were passed
+-- the result at a position
 pub scan_found : (bytes : List ℕ) (i : ℕ) (here : Here) → i < length bytes → found_here (drop i bytes) ≡ here
     → scan 0 (drop i bytes) ≡ found_or here (λ rest. scan (length (drop (i + 1) bytes) - length rest) (drop (i + 1) bytes))
 scan_found bytes i here lt is =

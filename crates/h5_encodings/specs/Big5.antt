@@ -11,11 +11,11 @@ use Rattle.h5_encodings.specs.Big5Index.{big5_index}
 abbrev pub offset : ℕ → ℕ
 offset b = if nat_lt b 0x7F then 0x40 else 0x62
 
--- where a lead and a byte stand in the index
+-- the pointer of a lead byte and the next byte
 abbrev pub pointer : (lead b : ℕ) → Option ℕ
 pointer lead b = if is_between 0x40 0x7E b || is_between 0xA1 0xFE b then Some ((lead - 0x81) * 157 + (b - offset b)) else None
 
--- four pointers have two code points each, and the others those of the index
+-- four pointers have two code points each, and the others have those of the index
 abbrev pub of_pointer : (pointer : Option ℕ) → ℕ → Step
 of_pointer None b = last_byte None b
 of_pointer (Some pointer) b =

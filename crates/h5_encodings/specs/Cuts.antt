@@ -1,4 +1,4 @@
--- Bytes, cut where one of some class stands.
+-- Bytes, split at a byte of some class.
 use Rattle.std.specs.Prelude.{ℕ, Bool, false, not, nat_eq, nat_le, List, [], ◌∷◌, ◌==◌, ◌||◌, length, drop, if◌then◌else◌, Option, Some, None}
 use Rattle.std.specs.Char.{is_ascii_alphabetic, is_ascii_whitespace}
 use Rattle.std.specs.List.{starts_with}
@@ -16,20 +16,20 @@ is_in UpToSpace b = nat_le b 32
 is_in Letter b = is_ascii_alphabetic b
 is_in (Byte wanted) b = b == wanted
 
--- what follows a run of bytes of a class
+-- what follows the bytes of a class at the start
 abbrev pub past : Class → List ℕ → List ℕ
 past class bytes = from (λ b. not (is_in class b)) bytes
 
--- whether bytes begin with a word
+-- true if bytes begin with a word
 abbrev pub begins : (word bytes : List ℕ) → Bool
 begins word bytes = starts_with nat_eq bytes word
 
--- whether the first byte is of a class, if there is one
+-- true if there is a first byte, and it is of a class
 abbrev pub begins_in : Class → List ℕ → Bool
 begins_in class [] = false
 begins_in class (b ∷ t) = is_in class b
 
--- what follows a word at the first place where it stands
+-- what follows the first occurrence of a word
 abbrev pub behind : (word bytes : List ℕ) → Option (List ℕ)
 behind word [] = None
 behind word (b ∷ t) = if begins word (b ∷ t) then Some (drop (length word) (b ∷ t)) else behind word t

@@ -1,4 +1,4 @@
--- Bytes in an encoding as a text, where more bytes may follow.
+-- Bytes in an encoding as a text, when more bytes may follow.
 use Rattle.std.specs.Prelude.{◌≡◌, ℕ, Bool, true, false, List, [], ◌++◌, if◌then◌else◌}
 use Rattle.std.specs.Str.Lossy.{utf8_lossy}
 use Rattle.h5_encodings.specs.declared.encoding.Encoding.{Encoding}
@@ -21,7 +21,7 @@ use Rattle.h5_encodings.specs.Utf16.{utf_16_step, utf_16_breaks_off}
 use Rattle.h5_encodings.specs.UserDefined.{user_defined_step}
 use Rattle.h5_encodings.specs.Replacement.{replacement_step}
 
--- UTF-8 has a definition of its own, and isn't read in steps
+-- UTF-8 has a separate definition, and isn't decoded in steps
 abbrev pub is_utf8 : Encoding → Bool
 is_utf8 e.Utf8 = true
 is_utf8 e.Gbk = false
@@ -70,8 +70,8 @@ ending_in (e.SingleByte encoding) kept = Nothing
 unfoldable pub reading_of : Encoding → Reading
 reading_of encoding = record { step = step_in encoding; ending = ending_in encoding }
 
--- where a decoder stands: its encoding, the bytes of a character that isn't finished, in UTF-8, and what it keeps in others; and
--- how many U+FFFD have stood for bytes, which isn't told of UTF-8
+-- the state of a decoder: its encoding; the bytes of an unfinished character, in UTF-8; what is stored in other encodings; and
+-- how many U+FFFD have replaced bytes, which isn't counted for UTF-8
 pub record State : Type 0 where
   pub encoding : Encoding
   pub unfinished : List ℕ
@@ -81,11 +81,11 @@ pub record State : Type 0 where
 abbrev pub start : Encoding → State
 start encoding = record { encoding = encoding; unfinished = []; kept = k.Nothing; replaced = 0 }
 
--- THE TEXT of bytes from there on, up to their end
+-- THE TEXT of bytes from a state on, up to their end
 abbrev pub text_from : State → List ℕ → List ℕ
 text_from s bs = if is_utf8 s.encoding then utf8_lossy (s.unfinished ++ bs) else text_of (reading_of s.encoding) s.kept bs
 
--- bytes were read as a text: whatever follows them, their text is this one and then that of what follows
+-- bytes were decoded to a text: for any bytes that follow, the text of all is this one, followed by theirs from the new state
 pub record Decodes (old : State) (bs text : List ℕ) (new : State) : Type 0 where
   pub encoding : new.encoding ≡ old.encoding
   pub decodes : (more : List ℕ) → text_from old (bs ++ more) ≡ text ++ text_from new more

@@ -9,11 +9,11 @@ use Rattle.h5_encodings.specs.MultiByte.{code_point, first_byte, is_between, kat
 use Rattle.h5_encodings.specs.Jis0208Index.{jis0208_index}
 use Rattle.h5_encodings.specs.Jis0212Index.{jis0212_index}
 
--- where a lead and a byte stand in either index
+-- the pointer of a lead byte and the next byte, for either index
 abbrev pub pointer : (lead b : ℕ) → Option ℕ
 pointer lead b = if is_between 0xA1 0xFE lead && is_between 0xA1 0xFE b then Some ((lead - 0xA1) * 94 + (b - 0xA1)) else None
 
--- behind 8E half-width katakana stand, and behind 8F a lead of the index jis0212
+-- half-width katakana follow 0x8E, and a lead byte of the index jis0212 follows 0x8F
 abbrev pub behind_lead : (lead b : ℕ) → Step
 behind_lead lead b =
     if lead == 0x8E && is_between 0xA1 0xDF b then shows (Character (katakana b)) k.Nothing
@@ -35,7 +35,7 @@ euc_jp_step (k.Jp state) b = first_byte (is_lead b) b
 euc_jp_step (k.Lead lead) b = behind_lead lead b
 euc_jp_step (k.Jis0212 lead) b = last_byte (code_point jis0212_index (pointer lead b)) b
 
--- a lead at the end is an error
+-- a lead byte at the end is an error
 abbrev pub euc_jp_breaks_off : Kept → Bool
 euc_jp_breaks_off k.Nothing = false
 euc_jp_breaks_off k.Told = false

@@ -5,7 +5,7 @@ use Rattle.h5_encodings.specs.declared.steps.Step.{Step}
 use Rattle.h5_encodings.specs.MultiByte.{code_point, first_byte, is_between, last_byte, lead_of}
 use Rattle.h5_encodings.specs.EucKrIndex.{euc_kr_index}
 
--- where a lead and a byte stand in the index
+-- the pointer of a lead byte and the next byte
 abbrev pub pointer : (lead b : ℕ) → Option ℕ
 pointer lead b = if is_between 0x41 0xFE b then Some ((lead - 0x81) * 190 + (b - 0x41)) else None
 

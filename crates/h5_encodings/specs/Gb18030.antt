@@ -1,4 +1,4 @@
--- gb18030, and GBK, whose decoder is the same (Encoding Standard, section 10).
+-- gb18030 and GBK, which have one decoder (Encoding Standard, section 10).
 use Rattle.std.specs.Prelude.{ℕ, ◌+◌, ◌-◌, ◌*◌, ◌==◌, ◌&&◌, ◌||◌, Bool, true, false, nat_lt, nat_le, List, [], ◌∷◌, if◌then◌else◌, Option, Some, None}
 use Rattle.h5_encodings.specs.declared.steps.Kept.{Kept}
 use Rattle.h5_encodings.specs.declared.steps.Kept.TheVariants as k
@@ -19,24 +19,24 @@ is_digit b = is_between 0x30 0x39 b
 abbrev pub offset : ℕ → ℕ
 offset b = if nat_lt b 0x7F then 0x40 else 0x41
 
--- where a lead and a byte stand in the index
+-- the pointer of a lead byte and the next byte
 abbrev pub pointer : (lead b : ℕ) → Option ℕ
 pointer lead b = if is_between 0x40 0x7E b || is_between 0x80 0xFE b then Some ((lead - 0x81) * 190 + (b - offset b)) else None
 
--- where four bytes stand in the index of the ranges
+-- the pointer of four bytes in the index gb18030 ranges
 abbrev pub ranges_pointer : (first second third fourth : ℕ) → ℕ
 ranges_pointer first second third fourth = (first - 0x81) * 12600 + (second - 0x30) * 1260 + (third - 0x81) * 10 + (fourth - 0x30)
 
--- the last row that stands at a pointer or before it, and `found` where there is none
+-- the last row whose pointer is at most the given one; `found` if there is none
 abbrev pub row_at : (found : ℕ × ℕ) → (rows : List (ℕ × ℕ)) → (pointer : ℕ) → ℕ × ℕ
 row_at found [] pointer = found
 row_at found (row ∷ rows) pointer = row_at (if nat_le row.0 pointer then row else found) rows pointer
 
--- a number that is a character: each number that the ranges give is one
+-- the number as a code point: each number that the ranges give is one
 abbrev pub scalar : ℕ → Option ℕ
 scalar c = if is_between 0xD800 0xDFFF c || nat_lt 0x10FFFF c then None else Some c
 
--- as far behind the code point of a row as the pointer is behind the row
+-- the code point that is as far after that of a row as the pointer is after the row's
 abbrev pub counted_from : (row : ℕ × ℕ) → (pointer : ℕ) → Option ℕ
 counted_from row pointer = scalar (row.1 + (pointer - row.0))
 
@@ -50,11 +50,11 @@ ranges_code_point pointer =
 abbrev pub first : ℕ → Step
 first b = if b == 0x80 then shows (Character 0x20AC) k.Nothing else first_byte (is_lead b) b
 
--- a digit may be the second of four bytes, and another byte is the last of two
+-- a digit may be the second of four bytes; any other byte is the last of two
 abbrev pub behind_lead : (lead b : ℕ) → Step
 behind_lead lead b = if is_digit b then shows Nothing (k.TwoOfFour lead b) else last_byte (code_point gb18030_index (pointer lead b)) b
 
--- where no third byte follows, that is an error, the digit stands for itself, and the byte begins anew
+-- if no third byte follows, that is an error, the digit is a character, and the byte begins a new one
 abbrev pub behind_two : (lead second b : ℕ) → Step
 behind_two lead second b = if is_lead b then shows Nothing (k.ThreeOfFour lead second b) else after (ErrorAnd second) (first b)
 
@@ -62,7 +62,7 @@ abbrev pub shown_of_four : Option ℕ → Shown
 shown_of_four (Some c) = Character c
 shown_of_four None = Error
 
--- where no fourth byte follows, that is an error, the digit stands for itself, and the third byte is a lead before the byte
+-- if no fourth byte follows, that is an error, the digit is a character, and the third byte is a lead byte before this one
 abbrev pub behind_three : (lead second third b : ℕ) → Step
 behind_three lead second third b =
     if is_digit b then shows (shown_of_four (ranges_code_point (ranges_pointer lead second third b))) k.Nothing
@@ -80,7 +80,7 @@ gb18030_step (k.Lead lead) b = behind_lead lead b
 gb18030_step (k.TwoOfFour lead second) b = behind_two lead second b
 gb18030_step (k.ThreeOfFour lead second third) b = behind_three lead second third b
 
--- bytes that are left at the end are one error, however many
+-- all bytes that are left at the end are one error
 abbrev pub gb18030_breaks_off : Kept → Bool
 gb18030_breaks_off k.Nothing = false
 gb18030_breaks_off k.Told = false

@@ -1,6 +1,6 @@
--- ISO-2022-JP (Encoding Standard, section 12.2). The mode is the decoder's output state. Where a part of nothing is kept, it is the
--- decoder's state too, `TwoBytes` being "lead byte". A lead is kept in the state "trail byte", where the mode is `TwoBytes`, an ESC in
--- "escape start", and an ESC with a sign behind it in "escape".
+-- ISO-2022-JP (Encoding Standard, section 12.2). The mode is the decoder's output state. If no part is stored, it is also the
+-- decoder's state; `TwoBytes` is "lead byte". With a lead byte stored, the state is "trail byte", and the mode is `TwoBytes`.
+-- With ESC the state is "escape start", with ESC and a sign "escape".
 use Rattle.std.specs.Prelude.{ℕ, ◌+◌, ◌-◌, ◌*◌, ◌==◌, ◌&&◌, ◌||◌, Bool, true, false, not, if◌then◌else◌, Option, Some, None}
 use Rattle.h5_encodings.specs.declared.steps.JpMode.{JpMode}
 use Rattle.h5_encodings.specs.declared.steps.JpMode.TheVariants as m
@@ -19,7 +19,7 @@ use Rattle.h5_encodings.specs.Jis0208Index.{jis0208_index}
 abbrev pub start : JpState
 start = record { mode = m.Ascii; output_flag = false; part = p.Nothing }
 
--- where a decoder stands by what is kept
+-- the state of a decoder, by what it stores
 abbrev pub state_of : Kept → JpState
 state_of k.Nothing = start
 state_of k.Told = start
@@ -35,18 +35,18 @@ state_of (k.Jp state) = state
 abbrev pub keeps : JpMode → (output_flag : Bool) → JpPart → Kept
 keeps mode output_flag part = k.Jp (record { mode = mode; output_flag = output_flag; part = part })
 
--- the half-width katakana of a byte from 21 to 5F
+-- the half-width katakana of a byte from 0x21 to 0x5F
 abbrev pub half_width : ℕ → ℕ
 half_width b = 0xFF61 + (b - 0x21)
 
--- SO, SI and ESC stand for no character
+-- SO, SI and ESC aren't characters
 abbrev pub is_plain : ℕ → Bool
 is_plain b = is_ascii b && not (b == 0x0E || (b == 0x0F || b == 0x1B))
 
 abbrev pub plain : ℕ → Option ℕ
 plain b = if is_plain b then Some b else None
 
--- what a byte stands for by itself
+-- the character of a single byte
 abbrev pub character : JpMode → ℕ → Option ℕ
 character m.Ascii b = plain b
 character m.Roman b = if b == 0x5C then Some 0xA5 else if b == 0x7E then Some 0x203E else plain b
@@ -57,7 +57,7 @@ abbrev pub shown_of : Option ℕ → Shown
 shown_of (Some c) = Character c
 shown_of None = Error
 
--- a byte that is no ESC, in the states "ASCII", "Roman", "katakana" and "lead byte"
+-- a byte other than ESC, in the states "ASCII", "Roman", "katakana" and "lead byte"
 abbrev pub byte_in : JpMode → ℕ → Step
 byte_in m.Ascii b = shows (shown_of (character m.Ascii b)) (keeps m.Ascii false p.Nothing)
 byte_in m.Roman b = shows (shown_of (character m.Roman b)) (keeps m.Roman false p.Nothing)
@@ -69,38 +69,38 @@ byte_in m.TwoBytes b =
 abbrev pub between : JpMode → (output_flag : Bool) → ℕ → Step
 between mode output_flag b = if b == 0x1B then shows Nothing (keeps mode output_flag p.Escape) else byte_in mode b
 
--- where a lead and a byte stand in the index
+-- the pointer of a lead byte and the next byte
 abbrev pub pointer : (lead b : ℕ) → Option ℕ
 pointer lead b = if is_between 0x21 0x7E b then Some ((lead - 0x21) * 94 + (b - 0x21)) else None
 
--- in "trail byte": what isn't one is an error with its lead, and begins nothing but an escape
+-- in "trail byte": a byte that isn't a trail byte is one error with its lead byte, and begins nothing but an escape
 abbrev pub behind_lead : JpMode → (output_flag : Bool) → (lead b : ℕ) → Step
 behind_lead mode output_flag lead b =
     if b == 0x1B then shows Error (keeps mode output_flag p.Escape)
     else shows (shown_of (code_point jis0208_index (pointer lead b))) (keeps mode output_flag p.Nothing)
 
--- in "escape start": what is no sign of an escape is read again, behind an error
+-- in "escape start": a byte that isn't the sign of an escape is read again, after an error
 abbrev pub behind_escape : JpMode → (output_flag : Bool) → ℕ → Step
 behind_escape mode output_flag b =
     if b == 0x24 then shows Nothing (keeps mode output_flag p.EscapeDollar)
     else if b == 0x28 then shows Nothing (keeps mode output_flag p.EscapeParenthesis)
     else after Error (between mode false b)
 
--- the mode that an escape is for, by its last byte
+-- the mode that an escape sets, by its last byte
 abbrev pub behind_dollar : ℕ → Option JpMode
 behind_dollar b = if b == 0x40 || b == 0x42 then Some m.TwoBytes else None
 
 abbrev pub behind_parenthesis : ℕ → Option JpMode
 behind_parenthesis b = if b == 0x42 then Some m.Ascii else if b == 0x4A then Some m.Roman else if b == 0x49 then Some m.Katakana else None
 
--- no escape: an error, and then its sign and its last byte are read again
+-- not an escape: an error, and then its sign and its last byte are read again
 abbrev pub no_escape : JpMode → (sign b : ℕ) → Step
 no_escape m.Ascii sign b = after (ErrorAnd sign) (between m.Ascii false b)
 no_escape m.Roman sign b = after (ErrorAnd sign) (between m.Roman false b)
 no_escape m.Katakana sign b = after (ErrorAnd (half_width sign)) (between m.Katakana false b)
 no_escape m.TwoBytes sign b = after Error (behind_lead m.TwoBytes false sign b)
 
--- in "escape": an escape is an error where nothing was shown since the one before it
+-- in "escape": an escape is an error if nothing was output since the previous one
 abbrev pub behind_sign : Option JpMode → JpMode → (output_flag : Bool) → (sign b : ℕ) → Step
 behind_sign (Some new) mode output_flag sign b = shows (if output_flag then Error else Nothing) (keeps new true p.Nothing)
 behind_sign None mode output_flag sign b = no_escape mode sign b
@@ -118,7 +118,7 @@ step_from state b = step_of_part state.part state.mode state.output_flag b
 abbrev pub iso_2022_jp_step : Kept → ℕ → Step
 iso_2022_jp_step kept b = step_from (state_of kept) b
 
--- a sign of an escape at the end is read again behind the error: it is a character, or a lead, and so a second error
+-- the sign of an escape at the end is read again after the error: it is a character, or a lead byte, and so a second error
 abbrev pub sign_at_end : JpMode → (sign : ℕ) → Shown
 sign_at_end m.Ascii sign = ErrorAnd sign
 sign_at_end m.Roman sign = ErrorAnd sign

@@ -1,4 +1,4 @@
--- What the decoders of the encodings with several bytes for a character share (Encoding Standard, sections 10 to 13).
+-- What the decoders of encodings with several bytes per character share (Encoding Standard, sections 10 to 13).
 use Rattle.std.specs.Prelude.{ℕ, ◌+◌, ◌-◌, ◌==◌, ◌&&◌, Bool, true, false, nat_lt, nat_le, List, slice_index, if◌then◌else◌, Option, Some, None}
 use Rattle.h5_encodings.specs.declared.steps.Kept.{Kept}
 use Rattle.h5_encodings.specs.declared.steps.Kept.TheVariants as k
@@ -13,7 +13,7 @@ is_between low high b = nat_le low b && nat_le b high
 abbrev pub is_ascii : ℕ → Bool
 is_ascii b = nat_lt b 128
 
--- the lead that is kept, if one is
+-- the lead byte that is stored, if any
 abbrev pub lead_of : Kept → Option ℕ
 lead_of k.Nothing = None
 lead_of k.Told = None
@@ -26,11 +26,11 @@ lead_of (k.TwoOfFour first second) = None
 lead_of (k.ThreeOfFour first second third) = None
 lead_of (k.Jp state) = None
 
--- the half-width katakana of a byte from A1 to DF
+-- the half-width katakana of a byte from 0xA1 to 0xDF
 abbrev pub katakana : ℕ → ℕ
 katakana b = 0xFF61 + (b - 0xA1)
 
--- 0 in an index says that there is no code point
+-- 0 in an index means that the pointer has no code point
 abbrev pub not_null : ℕ → Option ℕ
 not_null c = if c == 0 then None else Some c
 
@@ -39,14 +39,14 @@ abbrev pub code_point : (index : List ℕ) → (pointer : Option ℕ) → Option
 code_point index None = None
 code_point index (Some pointer) = not_null (slice_index index pointer)
 
--- a byte that begins a character
+-- the first byte of a character
 abbrev pub first_byte : (is_lead : Bool) → ℕ → Step
 first_byte is_lead b =
     if is_ascii b then shows (Character b) k.Nothing
     else if is_lead then shows Nothing (k.Lead b)
     else shows Error k.Nothing
 
--- the last byte of a code point; where there is none, that is an error, and an ASCII byte is read again, and stands for itself
+-- the last byte of a code point; without a code point that is an error, and an ASCII byte is read again, as itself
 abbrev pub shown_at : Option ℕ → ℕ → Shown
 shown_at (Some c) b = Character c
 shown_at None b = if is_ascii b then ErrorAnd b else Error
@@ -54,7 +54,7 @@ shown_at None b = if is_ascii b then ErrorAnd b else Error
 abbrev pub last_byte : Option ℕ → ℕ → Step
 last_byte c b = shows (shown_at c b) k.Nothing
 
--- a lead at the end is an error
+-- a lead byte at the end is an error
 abbrev pub lead_breaks_off : Option ℕ → Bool
 lead_breaks_off None = false
 lead_breaks_off (Some lead) = true

@@ -1,4 +1,4 @@
--- The encoding that the first bytes of a page name (HTML standard, section 13.2.3.2, "prescan a byte stream to determine its
+-- The encoding that the first bytes of a page declare (HTML standard, section 13.2.3.2, "prescan a byte stream to determine its
 -- encoding").
 use Rattle.std.specs.Prelude.{ℕ, zero, suc, ◌-◌, ◌&&◌, ◌||◌, Bool, nat_le, if◌then◌else◌, List, [], ◌∷◌, length, take, drop, codes, Option, Some, None}
 use Rattle.h5_markup.specs.Cuts.{from}
@@ -18,7 +18,7 @@ use Rattle.h5_encodings.specs.Labels.{is_same_word}
 use Rattle.h5_encodings.specs.Said.{named_by, nothing_said, says}
 use Rattle.h5_encodings.specs.XmlDeclaration.{xml_encoding}
 
--- what the attributes of a tag say, and what stands from its `>` on; or the bytes ran out
+-- what the attributes of a tag declare, and the bytes from its `>` on; or the bytes end first
 pub data Inside : Type 0 where
   CutOff : Inside
   Ended : Said → (rest : List ℕ) → Inside
@@ -27,22 +27,22 @@ abbrev pub inside_of : code.Inside → Inside
 inside_of i.CutOff = CutOff
 inside_of (i.Ended said rest) = Ended said rest.now
 
--- what follows where an attribute may stand
+-- what follows at a position for an attribute
 abbrev pub behind_attribute : Got → Said → (Said → List ℕ → Inside) → Inside
 behind_attribute Cut said next = CutOff
 behind_attribute (NoMore rest) said next = Ended said rest
 behind_attribute (Attribute name value rest) said next = next (says said name value) rest
 
--- so many attributes at most
+-- at most `most` attributes
 abbrev pub attributes : (most : ℕ) → Said → List ℕ → Inside
 attributes zero said t = CutOff
 attributes (suc most) said t = behind_attribute (attribute t) said (λ more rest. attributes most more rest)
 
--- the attributes behind a tag's name: each takes a byte, so there are no more than bytes
+-- the attributes after a tag's name: each has at least one byte, so there are no more than bytes
 unfoldable pub inside_tag : List ℕ → Inside
 inside_tag t = attributes (length t) nothing_said t
 
--- what is found where something stands: the bytes ran out; an encoding; or nothing, and this is read next
+-- the result at one position: the bytes end first; an encoding; or no encoding, and the bytes that are read next
 pub data Here : Type 0 where
   Over : Here
   Names : Encoding → Here
@@ -62,7 +62,7 @@ is_tag t = (begins (codes "<") t && begins_in Letter (drop 1 t)) || (begins (cod
 abbrev pub is_declaration : List ℕ → Bool
 is_declaration t = begins (codes "<!") t || (begins (codes "</") t || begins (codes "<?") t)
 
--- what stands at the front
+-- what bytes begin with
 unfoldable pub kind_of : List ℕ → Kind
 kind_of t =
     if begins (codes "<!--") t then Comment
@@ -91,7 +91,7 @@ abbrev pub past_declaration : List ℕ → Here
 past_declaration [] = Over
 past_declaration (b ∷ t) = Passes (b ∷ t)
 
--- a comment ends with the first `-->` behind its `<!`, so its dashes may be those that it begins with
+-- a comment ends with the first `-->` after its `<!`, so it may share the dashes of its `<!--`
 abbrev pub here_in : Kind → List ℕ → Here
 here_in Comment t = past_comment (behind (codes "-->") (drop 2 t))
 here_in Meta t = past_meta (inside_tag (drop 5 t))
@@ -102,13 +102,13 @@ here_in Text t = Passes (drop 1 t)
 unfoldable pub found_here : List ℕ → Here
 found_here t = here_in (kind_of t) t
 
--- the encoding that is found, or that what is read next names
+-- the encoding that was found, or that of what is read next
 abbrev pub found_or : Here → (List ℕ → Option Encoding) → Option Encoding
 found_or Over next = None
 found_or (Names encoding) next = Some encoding
 found_or (Passes rest) next = next rest
 
--- the encoding that a `meta` names; so many bytes have been read already
+-- the encoding that a `meta` declares; `skipped` bytes of the text were read already
 abbrev pub scan : (skipped : ℕ) → List ℕ → Option Encoding
 scan skipped [] = None
 scan (suc skipped) (b ∷ t) = scan skipped t
@@ -118,7 +118,7 @@ abbrev pub first_of : Option Encoding → Option Encoding → Option Encoding
 first_of None other = other
 first_of (Some encoding) other = Some encoding
 
--- THE ENCODING that bytes name: `<?x` in UTF-16, a `meta`, or an XML declaration
+-- THE ENCODING that bytes declare: by `<?x` in UTF-16, by a `meta`, or by an XML declaration
 unfoldable pub prescan : List ℕ → Option Encoding
 prescan t =
     if begins (60 ∷ 0 ∷ 63 ∷ 0 ∷ 120 ∷ 0 ∷ []) t then Some e.Utf16le

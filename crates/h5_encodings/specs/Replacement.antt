@@ -5,7 +5,7 @@ use Rattle.h5_encodings.specs.declared.steps.Shown.TheVariants.{Nothing, Error}
 use Rattle.h5_encodings.specs.declared.steps.Step.{Step}
 use Rattle.h5_encodings.specs.Steps.{shows}
 
--- the first byte shows an error, and no other shows anything
+-- the output of the first byte is an error, that of any other is empty
 abbrev pub replacement_step : Kept → Step
 replacement_step k.Told = shows Nothing k.Told
 replacement_step k.Nothing = shows Error k.Told

@@ -1,5 +1,5 @@
--- What the attributes of a `meta` say of its encoding (HTML standard, section 13.2.3.2, "prescan a byte stream to determine its
--- encoding", step 2, where a `meta` stands).
+-- The encoding that the attributes of a `meta` declare (HTML standard, section 13.2.3.2, "prescan a byte stream to determine
+-- its encoding", step 2, the case of a `meta`).
 use Rattle.std.specs.Prelude.{ℕ, Bool, false, true, if◌then◌else◌, List, codes, flat_map, encode_utf8, Option, Some, None}
 use Rattle.h5_tables.specs.MetaEncoding.{meta_encoding}
 use Rattle.h5_encodings.specs.declared.encoding.Encoding.{Encoding}
@@ -12,37 +12,37 @@ use Rattle.h5_encodings.specs.declared.said.Declared.TheVariants.{Nothing, ByCon
 use Rattle.h5_encodings.specs.declared.said.Said.{Said}
 use Rattle.h5_encodings.specs.Labels.{encoding_labelled, is_same_word}
 
--- nothing was said yet
+-- nothing is declared yet
 abbrev pub nothing_said : Said
 nothing_said = record { has_equiv = false; has_pragma = false; has_content = false; declared = Nothing }
 
--- the encoding that a label names, if there is one
+-- the encoding of a label, if there is one
 abbrev pub labelled : Option (List ℕ) → Option Encoding
 labelled None = None
 labelled (Some label) = encoding_labelled label
 
--- bytes as a text: each stands for the character of its number
+-- each byte as the character with its number
 abbrev pub isomorphic : List ℕ → List ℕ
 isomorphic = flat_map encode_utf8
 
--- the encoding that a `content` names
+-- the encoding that a `content` declares
 unfoldable pub encoding_in_content : List ℕ → Option Encoding
 encoding_in_content value = labelled (meta_encoding (isomorphic value))
 
--- a `content` counts where it names an encoding and nothing was declared before
+-- a `content` counts if it has an encoding and nothing was declared before
 abbrev pub by_content : Declared → Option Encoding → Declared
 by_content Nothing None = Nothing
 by_content Nothing (Some encoding) = ByContent encoding
 by_content (ByContent old) named = ByContent old
 by_content (ByCharset old) named = ByCharset old
 
--- the first `charset` counts, also where it names nothing
+-- the first `charset` counts, even if it isn't a label
 abbrev pub by_charset : Declared → Option Encoding → Declared
 by_charset Nothing named = ByCharset named
 by_charset (ByContent old) named = ByCharset named
 by_charset (ByCharset old) named = ByCharset old
 
--- of each name the first attribute counts
+-- the first attribute with each name counts
 abbrev pub says : Said → Name → List ℕ → Said
 says said HttpEquiv value = if said.has_equiv then said else record said { has_equiv = true; has_pragma = is_same_word value (codes "content-type") }
 says said Content value = if said.has_content then said else record said { has_content = true; declared = by_content said.declared (encoding_in_content value) }
@@ -55,7 +55,7 @@ declared_by has_pragma Nothing = None
 declared_by has_pragma (ByContent encoding) = if has_pragma then Some encoding else None
 declared_by has_pragma (ByCharset named) = named
 
--- what is read in place of an encoding that a page can't name
+-- the encoding that replaces one in which the declaration couldn't have been found
 abbrev pub instead_of_utf16 : Encoding → Encoding
 instead_of_utf16 e.Utf8 = e.Utf8
 instead_of_utf16 e.Gbk = e.Gbk
@@ -90,6 +90,6 @@ abbrev pub stands_for : Option Encoding → Option Encoding
 stands_for None = None
 stands_for (Some encoding) = Some (instead_of encoding)
 
--- THE ENCODING that a `meta` names, if any
+-- THE ENCODING that a `meta` declares, if any
 abbrev pub named_by : Said → Option Encoding
 named_by said = stands_for (declared_by said.has_pragma said.declared)

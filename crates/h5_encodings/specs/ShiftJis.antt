@@ -14,16 +14,16 @@ offset b = if nat_lt b 0x7F then 0x40 else 0x41
 abbrev pub lead_offset : ℕ → ℕ
 lead_offset lead = if nat_lt lead 0xA0 then 0x81 else 0xC1
 
--- where a lead and a byte stand in the index
+-- the pointer of a lead byte and the next byte
 abbrev pub pointer : (lead b : ℕ) → Option ℕ
 pointer lead b = if is_between 0x40 0x7E b || is_between 0x80 0xFC b then Some ((lead - lead_offset lead) * 188 + (b - offset b)) else None
 
--- the pointers from 8836 to 10715 are those of private characters, from U+E000 on
+-- the pointers from 8836 to 10715 are those of private-use characters, from U+E000 on
 abbrev pub character : (pointer : Option ℕ) → Option ℕ
 character None = None
 character (Some pointer) = if is_between 8836 10715 pointer then Some (0xE000 + (pointer - 8836)) else code_point jis0208_index (Some pointer)
 
--- 0x80 stands for itself, and half-width katakana have a byte of their own
+-- 0x80 is itself, and each half-width katakana is a single byte
 abbrev pub first : ℕ → Step
 first b =
     if b == 0x80 then shows (Character b) k.Nothing

@@ -8,7 +8,7 @@ use Rattle.h5_encodings.specs.declared.steps.Step.{Step}
 use Rattle.h5_encodings.specs.Steps.{replacement_character, shows}
 use Rattle.h5_encodings.specs.UpperHalf.{upper_half}
 
--- U+FFFD in a table says that there is no character
+-- U+FFFD in a table means that the byte has no character
 abbrev pub shown_of : ℕ → Shown
 shown_of c = if c == replacement_character then Error else Character c
 

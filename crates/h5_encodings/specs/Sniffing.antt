@@ -9,7 +9,7 @@ use Rattle.h5_encodings.specs.declared.sniffing.Source.TheVariants.{Mark, Transp
 use Rattle.h5_encodings.specs.Cuts.{begins}
 use Rattle.h5_encodings.specs.Prescan.{prescan}
 
--- the transport says nothing, and the default is a browser's
+-- no transport encoding; the default is that of browsers
 abbrev pub default_opts : EncodingOpts
 default_opts = record { transport = None; default = e.SingleByte Windows1252 }
 
@@ -33,7 +33,7 @@ abbrev pub by_mark : Option Encoding → EncodingOpts → List ℕ → Encoding 
 by_mark (Some encoding) opts t = (encoding, Mark)
 by_mark None opts t = by_transport opts.transport opts t
 
--- THE ENCODING of a page by its first bytes, and what it is known by: a byte order mark, the transport, what the page says of
--- itself, or the default
+-- THE ENCODING of a page by its first bytes, and where it comes from: a byte order mark, the transport, a declaration in the
+-- page, or the default
 unfoldable pub encoding_of : EncodingOpts → List ℕ → Encoding × Source
 encoding_of opts t = by_mark (marked t) opts t

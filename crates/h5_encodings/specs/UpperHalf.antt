@@ -1,4 +1,4 @@
--- The characters of the bytes from 128 on in the single-byte encodings: the tables that the code reads. It stays closed, so that
+-- The characters of the bytes from 128 on in the single-byte encodings: the tables that the code reads. They stay closed, so that
 -- no proof computes with them. `write_tables.py` writes this file.
 use Rattle.std.specs.Prelude.{ℕ, List}
 use Rattle.h5_encodings.specs.declared.encoding.SingleByte.{SingleByte}

@@ -15,18 +15,18 @@ is_leading u = nat_le 0xD800 u && nat_le u 0xDBFF
 abbrev pub is_trailing : ℕ → Bool
 is_trailing u = nat_le 0xDC00 u && nat_le u 0xDFFF
 
--- a leading surrogate waits for a trailing one, and a trailing one by itself is an error
+-- a leading surrogate waits for a trailing one; a trailing surrogate alone is an error
 abbrev pub of_unit : ℕ → Step
 of_unit u =
     if is_leading u then shows Nothing (k.Leading u)
     else if is_trailing u then shows Error k.Nothing
     else shows (Character u) k.Nothing
 
--- the character of two surrogates
+-- the character of a surrogate pair
 abbrev pub pair : (leading trailing : ℕ) → ℕ
 pair leading trailing = 0x10000 + (leading % 1024) * 1024 + trailing % 1024
 
--- behind a leading surrogate: where no trailing one follows, that is an error, and the code unit stands by itself
+-- after a leading surrogate: if no trailing one follows, that is an error, and the code unit is read by itself
 abbrev pub behind_leading : (leading u : ℕ) → Step
 behind_leading leading u =
     if is_trailing u then shows (Character (pair leading u)) k.Nothing
@@ -45,7 +45,7 @@ utf_16_step big_endian (k.Half a) b = of_unit (unit_of big_endian a b)
 utf_16_step big_endian (k.Leading u) b = shows Nothing (k.LeadingHalf u b)
 utf_16_step big_endian (k.LeadingHalf u a) b = behind_leading u (unit_of big_endian a b)
 
--- bytes that are left at the end are one error, however many
+-- all bytes that are left at the end are one error
 abbrev pub utf_16_breaks_off : Kept → Bool
 utf_16_breaks_off k.Nothing = false
 utf_16_breaks_off k.Told = false

@@ -1,4 +1,4 @@
--- The encoding that an XML declaration names (HTML standard, section 13.2.3.2, "get an XML encoding").
+-- The encoding that an XML declaration declares (HTML standard, section 13.2.3.2, "get an XML encoding").
 use Rattle.std.specs.Prelude.{ℕ, ◌==◌, ◌||◌, if◌then◌else◌, List, [], ◌∷◌, codes, Option, Some, None}
 use Rattle.h5_markup.specs.Cuts.{before, from}
 use Rattle.h5_encodings.specs.declared.encoding.Encoding.{Encoding}
@@ -11,7 +11,7 @@ abbrev pub read_as : Option Encoding → Option Encoding
 read_as None = None
 read_as (Some encoding) = Some (instead_of_utf16 encoding)
 
--- a label that holds a byte up to SPACE names nothing
+-- a label with a byte up to SPACE isn't valid
 abbrev pub without_space : (label from_space : List ℕ) → Option Encoding
 without_space label [] = read_as (encoding_labelled label)
 without_space label (b ∷ t) = None
@@ -33,7 +33,7 @@ abbrev pub behind_encoding : Option (List ℕ) → Option Encoding
 behind_encoding None = None
 behind_encoding (Some t) = equals_at (past UpToSpace t)
 
--- the declaration goes up to its `>`
+-- the declaration ends before its `>`
 abbrev pub in_declaration : (declaration from_end : List ℕ) → Option Encoding
 in_declaration declaration [] = None
 in_declaration declaration (b ∷ t) = behind_encoding (behind (codes "encoding") declaration)

@@ -1,4 +1,4 @@
-//! The attributes of a tag, as a prescan reads them.
+//! The attributes of a tag, as the prescan reads them.
 ghost use Rattle.std.specs.Prelude.{◌≡◌};
 ghost use Rattle.h5_encodings.specs.Attributes.{attribute, attribute_at, behind_name, got_of, name_of, quoted, unquoted, value_at};
 ghost use Rattle.h5_markup.specs.Cuts.{before, from};
@@ -7,7 +7,7 @@ ghost use Rattle.h5_encodings.specs.Cuts.{is_in};
 use super::cut::{Class, cut_at, skip};
 use super::label::is_same_word;
 
-/// The names that count in a prescan.
+/// The attribute names that matter to the prescan.
 #[derive(Clone, Copy, Debug, PartialEq, Eq)]
 pub enum Name {
     HttpEquiv,
@@ -16,14 +16,14 @@ pub enum Name {
     Other,
 }
 
-/// What stands where an attribute may.
+/// The result of reading an attribute.
 #[derive(Clone, Copy)]
 pub enum Got<'a> {
-    /// The bytes ran out.
+    /// The bytes end first.
     Cut,
-    /// A `>`, which is left.
+    /// There are no more attributes. These bytes begin with the `>`.
     NoMore(&'a [u8]),
-    /// An attribute with its value, and what follows it.
+    /// An attribute, its value, and the bytes that follow it.
     Attribute(Name, &'a [u8], &'a [u8]),
 }
 
@@ -41,7 +41,7 @@ fn name_of(text: &[u8]) -> Name
     }
 }
 
-// A value up to a quote, which is passed.
+// Reads a value up to its closing quote, and skips the quote.
 fn quoted(name: Name, text: &[u8], quote: u8) -> Got<'_>
     ensures { got_of result ≡ quoted name (before (is_in (Class.Byte quote)) text.now) (from (is_in (Class.Byte quote)) text.now) }
 {
@@ -52,7 +52,7 @@ fn quoted(name: Name, text: &[u8], quote: u8) -> Got<'_>
     }
 }
 
-// A value up to a blank or a `>`, which is left.
+// Reads a value up to ASCII whitespace or `>`, which remains.
 fn unquoted(name: Name, text: &[u8]) -> Got<'_>
     ensures { got_of result ≡ unquoted name (before (is_in Class.ValueEnd) text.now) (from (is_in Class.ValueEnd) text.now) }
 {
@@ -63,7 +63,7 @@ fn unquoted(name: Name, text: &[u8]) -> Got<'_>
     }
 }
 
-// What follows a `=` and blanks.
+// Reads what follows `=` and whitespace.
 fn value_at(name: Name, text: &[u8]) -> Got<'_>
     ensures { got_of result ≡ value_at name text.now }
 {
@@ -79,7 +79,7 @@ fn value_at(name: Name, text: &[u8]) -> Got<'_>
     }
 }
 
-// What follows a name and blanks.
+// Reads what follows a name and whitespace.
 fn behind_name(name: Name, text: &[u8]) -> Got<'_>
     ensures { got_of result ≡ behind_name name text.now }
 {
@@ -95,7 +95,7 @@ fn behind_name(name: Name, text: &[u8]) -> Got<'_>
     }
 }
 
-// An attribute, or the `>`, where no blank and no `/` stands before it.
+// Reads an attribute, or the `>`. The text doesn't begin with whitespace or `/`.
 fn attribute_at(text: &[u8]) -> Got<'_>
     ensures { got_of result ≡ attribute_at text.now }
 {
@@ -115,7 +115,7 @@ fn attribute_at(text: &[u8]) -> Got<'_>
     }
 }
 
-/// The next attribute of a tag (HTML standard, section 13.2.3.2, "get an attribute").
+/// Reads the next attribute of a tag (HTML standard, section 13.2.3.2, "get an attribute").
 #[tactic(auto, unfolding(crate::specs::Attributes::attribute))]
 pub fn attribute(text: &[u8]) -> Got<'_>
     ensures { got_of result ≡ attribute text.now }

@@ -15,7 +15,7 @@ fn offset(byte: u8) -> usize
     if byte < 0x7F { 0x40 } else { 0x62 }
 }
 
-// Where a lead and a byte stand in the index. A lead is 0x81 at least.
+// Returns the pointer of a lead byte and the next byte. A lead byte is at least 0x81.
 fn pointer(lead: u8, byte: u8) -> Option<usize>
     ensures { result ≡ pointer lead byte }
 {

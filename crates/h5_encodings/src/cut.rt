@@ -1,18 +1,18 @@
-//! Bytes, cut where one of some class stands.
+//! Splitting bytes at a byte of some class.
 ghost use Rattle.std.specs.Prelude.{◌≡◌, ℕ, ◌<◌, ◌≤◌, drop, length, not, option_map, slice_index};
 ghost use Rattle.h5_markup.specs.Cuts.{before, from};
 ghost use Rattle.h5_encodings.specs.Cuts.{begins, begins_in, behind, is_in, past};
 
-/// Bytes that end or separate what a prescan reads.
+/// Classes of bytes that end or separate what the prescan reads.
 #[derive(Clone, Copy, Debug, PartialEq, Eq)]
 pub enum Class {
-    /// TAB, LF, FF, CR and SPACE.
+    /// ASCII whitespace: TAB, LF, FF, CR and SPACE.
     Blank,
-    /// A blank or `/`.
+    /// ASCII whitespace or `/`.
     BetweenAttributes,
-    /// A blank, `/`, `>` or `=`.
+    /// ASCII whitespace, `/`, `>` or `=`.
     NameEnd,
-    /// A blank or `>`.
+    /// ASCII whitespace or `>`.
     ValueEnd,
     /// A byte up to SPACE.
     UpToSpace,
@@ -36,7 +36,7 @@ fn is_in(class: Class, byte: u8) -> bool
     }
 }
 
-// The index of the first byte that is in the class, or the first that isn't; the length where there is none.
+// Returns the index of the first byte that is in the class, or of the first that isn't. Returns the length if there is none.
 fn first_index(bytes: &[u8], class: Class, wanted: bool) -> usize
     ensures within { result ≤ length bytes.now }
     ensures passed { (k : ℕ) → k < result → is_in class (slice_index bytes.now k) ≡ not wanted }
@@ -50,7 +50,7 @@ fn first_index(bytes: &[u8], class: Class, wanted: bool) -> usize
     bytes.len()
 }
 
-/// What stands before the first byte of the class, and that byte with what follows it.
+/// Splits bytes before the first one of the class.
 pub fn cut_at(bytes: &[u8], class: Class) -> (&[u8], &[u8])
     ensures front { result.0.now ≡ before (is_in class) bytes.now }
     ensures back { result.1.now ≡ from (is_in class) bytes.now }
@@ -59,7 +59,7 @@ pub fn cut_at(bytes: &[u8], class: Class) -> (&[u8], &[u8])
     bytes.split_at(n)
 }
 
-/// What follows a run of bytes of the class.
+/// Skips the bytes of the class at the start.
 pub fn skip(bytes: &[u8], class: Class) -> &[u8]
     ensures { result.now ≡ past class bytes.now }
 {
@@ -68,14 +68,14 @@ pub fn skip(bytes: &[u8], class: Class) -> &[u8]
     rest
 }
 
-/// Whether the bytes begin with the word.
+/// Returns true if the bytes begin with the word.
 pub fn begins(bytes: &[u8], word: &[u8]) -> bool
     ensures { result ≡ begins word.now bytes.now }
 {
     bytes.starts_with(word)
 }
 
-/// What follows so many bytes.
+/// Returns what follows the first `count` bytes.
 pub fn after(bytes: &[u8], count: usize) -> &[u8]
     ensures { result.now ≡ drop count bytes.now }
 {
@@ -87,7 +87,7 @@ pub fn after(bytes: &[u8], count: usize) -> &[u8]
     }
 }
 
-/// Whether the first byte is of a class, if there is one.
+/// Returns true if there is a first byte, and it is of the class.
 pub fn begins_in(bytes: &[u8], class: Class) -> bool
     ensures { result ≡ begins_in class bytes.now }
 {
@@ -97,7 +97,7 @@ pub fn begins_in(bytes: &[u8], class: Class) -> bool
     }
 }
 
-/// What follows a word at the first place where it stands.
+/// Returns what follows the first occurrence of the word, if it occurs.
 pub fn behind<'a>(bytes: &'a [u8], word: &[u8]) -> Option<&'a [u8]>
     ensures { option_map (λ rest. rest.now) result ≡ behind word.now bytes.now }
 {

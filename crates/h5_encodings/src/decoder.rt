@@ -31,9 +31,9 @@ fn is_utf8(encoding: Encoding) -> bool
     }
 }
 
-/// A decoder of bytes that come in chunks: U+FFFD stands for each error, as the decoder of the encoding tells them (Encoding
-/// Standard, section 6, "decode without BOM"). How the bytes are cut into chunks doesn't matter. A byte order mark is a
-/// character like others, and stays.
+/// A decoder of bytes that come in chunks. U+FFFD replaces each error that the encoding's decoder returns (Encoding Standard,
+/// section 6, "decode without BOM"). How the bytes are split into chunks doesn't matter. A byte order mark is decoded like any
+/// other character.
 pub struct Decoder {
     encoding: Encoding,
     utf8: Utf8LossyDecoder,
@@ -63,7 +63,7 @@ impl Model for Decoder {
 }
 
 impl Decoder {
-    /// A decoder that took nothing yet. It takes no memory.
+    /// Returns a new decoder. Allocates nothing.
     pub fn new(alloc: Global, encoding: Encoding) -> Decoder
         ensures { result ≡ start encoding }
     {
@@ -76,29 +76,29 @@ impl Decoder {
         }
     }
 
-    /// The encoding that it reads.
+    /// Returns the encoding that it decodes.
     pub fn encoding(&self) -> Encoding
         ensures { result ≡ self.now.encoding }
     {
         self.encoding
     }
 
-    /// Whether U+FFFD has stood for bytes that came, as far as their text is decided. It isn't told of UTF-8: `false` there.
+    /// Returns true if U+FFFD has replaced bytes, as far as their text is decided. UTF-8 isn't counted: always false for it.
     pub fn has_errors(&self) -> bool
         ensures { result ≡ nat_lt 0 self.now.replaced }
     {
         self.replaced > 0
     }
 
-    /// How many U+FFFD have stood for bytes that came, as far as their text is decided, at most as many as a u64 holds. It isn't told
-    /// of UTF-8: 0 there.
-    pub fn replaced(&self) -> u64
+    /// Returns how many U+FFFD have replaced bytes, as far as their text is decided. The count stops at the maximum of `u64`.
+    /// UTF-8 isn't counted: always 0 for it.
+    pub fn replacement_count(&self) -> u64
         ensures { result ≡ self.now.replaced }
     {
         self.replaced
     }
 
-    /// The text of the next bytes, as far as it is decided. Where it answers `AllocError`, nothing has changed.
+    /// Decodes the next bytes, as far as their text is decided. If this fails, nothing changes.
     pub fn decode(&mut self, bytes: &[u8]) -> Result<String, AllocError>
         ensures decoded { IfOk result (λ text. Decodes self.old bytes.now (string_bytes text) self.new) }
         ensures errors { OnOk result (is_utf8 self.old.encoding ≡ false →
@@ -116,7 +116,8 @@ impl Decoder {
         Ok(text)
     }
 
-    /// The text of what is left at the end: U+FFFD where a character is broken off, with what its bytes show by themselves, and else none.
+    /// Returns the text of what is left at the end: U+FFFD for an unfinished character, in ISO-2022-JP followed by what the
+    /// sign of an unfinished escape is by itself; else the empty text.
     pub fn finish(self) -> &'static str
         ensures { result.now ≡ text_from self [] }
     {

@@ -54,7 +54,7 @@ pub enum Encoding {
 }
 
 impl SingleByte {
-    /// Its name, as the standard writes it.
+    /// Returns the name, as the standard writes it.
     pub fn name(self) -> &'static str
         ensures { result.now ≡ single_byte_name self }
     {
@@ -92,7 +92,7 @@ impl SingleByte {
 }
 
 impl Encoding {
-    /// Its name, as the standard writes it.
+    /// Returns the name, as the standard writes it.
     pub fn name(self) -> &'static str
         ensures { result.now ≡ name_of self }
     {

@@ -7,7 +7,7 @@ use super::jis0212_index::jis0212_index;
 use super::multi_byte::{code_point, first_byte, is_between, katakana, last_byte};
 use super::steps::{Kept, Shown, Step};
 
-// Where a lead and a byte stand in either index.
+// Returns the pointer of a lead byte and the next byte, for either index.
 fn pointer(lead: u8, byte: u8) -> Option<usize>
     ensures { result ≡ pointer lead byte }
 {
@@ -18,7 +18,7 @@ fn pointer(lead: u8, byte: u8) -> Option<usize>
     }
 }
 
-// The step of a byte behind a lead.
+// The step of a byte after a lead byte.
 fn behind_lead(lead: u8, byte: u8) -> Step
     ensures { result ≡ behind_lead lead byte }
 {
@@ -48,7 +48,7 @@ pub fn euc_jp_step(kept: Kept, byte: u8) -> Step
     }
 }
 
-/// Whether the end comes inside a character in EUC-JP (Encoding Standard, section 12.1.1, "EUC-JP decoder").
+/// Returns true if an end here is inside a character in EUC-JP (Encoding Standard, section 12.1.1, "EUC-JP decoder").
 pub fn euc_jp_breaks_off(kept: Kept) -> bool
     ensures { result ≡ euc_jp_breaks_off kept }
 {

@@ -6,7 +6,7 @@ use super::euc_kr_index::euc_kr_index;
 use super::multi_byte::{code_point, first_byte, is_between, last_byte, lead_of};
 use super::steps::{Kept, Step};
 
-// Where a lead and a byte stand in the index. A lead is 0x81 at least.
+// Returns the pointer of a lead byte and the next byte. A lead byte is at least 0x81.
 fn pointer(lead: u8, byte: u8) -> Option<usize>
     ensures { result ≡ pointer lead byte }
 {

@@ -1,4 +1,4 @@
-//! gb18030, and GBK, whose decoder is the same.
+//! gb18030 and GBK, which have one decoder.
 ghost use Rattle.std.specs.Prelude.{◌≡◌, ◌≤◌};
 ghost use Rattle.h5_encodings.specs.Gb18030.{behind_lead, behind_three, behind_two, counted_from, first, gb18030_breaks_off, gb18030_step, is_digit, is_lead, offset, pointer, ranges_code_point, ranges_pointer, row_at, scalar};
 
@@ -25,7 +25,7 @@ fn offset(byte: u8) -> usize
     if byte < 0x7F { 0x40 } else { 0x41 }
 }
 
-// Where a lead and a byte stand in the index. A lead is 0x81 at least.
+// Returns the pointer of a lead byte and the next byte. A lead byte is at least 0x81.
 fn pointer(lead: u8, byte: u8) -> Option<usize>
     ensures { result ≡ pointer lead byte }
 {
@@ -37,7 +37,7 @@ fn pointer(lead: u8, byte: u8) -> Option<usize>
     }
 }
 
-// Where four bytes stand in the index of the ranges.
+// Returns the pointer of four bytes in the index gb18030 ranges.
 fn ranges_pointer(first: u8, second: u8, third: u8, fourth: u8) -> u32
     ensures { result ≡ ranges_pointer first second third fourth }
 {
@@ -47,7 +47,7 @@ fn ranges_pointer(first: u8, second: u8, third: u8, fourth: u8) -> u32
         + (fourth as u32).saturating_sub(0x30)
 }
 
-// The last row that stands at a pointer or before it. There are 207 rows.
+// Returns the last row whose pointer is at most the given one. There are 207 rows.
 fn row_at(rows: &[(u32, char)], pointer: u32) -> (u32, char)
     ensures { result ≡ row_at (0, 0) rows.now pointer }
 {
@@ -69,7 +69,7 @@ fn scalar(code: u32) -> Option<char>
     }
 }
 
-// The code point as far behind that of a row as the pointer is behind the row.
+// Returns the code point that is as far after that of a row as the pointer is after the row's.
 fn counted_from(row: (u32, char), pointer: u32) -> Option<char>
     requires { pointer ≤ 1237575 }
     ensures { result ≡ counted_from row pointer }
@@ -77,7 +77,7 @@ fn counted_from(row: (u32, char), pointer: u32) -> Option<char>
     scalar(row.1 as u32 + pointer.saturating_sub(row.0))
 }
 
-// The index gb18030 ranges code point of a pointer, if it has one (Encoding Standard, section 5, "Indexes").
+// Returns the index gb18030 ranges code point of a pointer, if it has one (Encoding Standard, section 5, "Indexes").
 fn ranges_code_point(pointer: u32) -> Option<char>
     ensures { result ≡ ranges_code_point pointer }
 {
@@ -90,7 +90,7 @@ fn ranges_code_point(pointer: u32) -> Option<char>
     counted_from(row_at(gb18030_ranges(), pointer), pointer)
 }
 
-// The step of a byte that no byte is kept before.
+// The step of a byte if no bytes are stored.
 fn first(byte: u8) -> Step
     ensures { result ≡ first byte }
 {
@@ -100,7 +100,7 @@ fn first(byte: u8) -> Step
     first_byte(is_lead(byte), byte)
 }
 
-// The step of a byte behind a lead.
+// The step of a byte after a lead byte.
 fn behind_lead(lead: u8, byte: u8) -> Step
     ensures { result ≡ behind_lead lead byte }
 {
@@ -110,7 +110,7 @@ fn behind_lead(lead: u8, byte: u8) -> Step
     last_byte(code_point(gb18030_index(), pointer(lead, byte)), byte)
 }
 
-// The step of a byte behind a lead and a digit. Where it isn't the third of four, the digit stands for itself.
+// The step of a byte after a lead byte and a digit. If it isn't the third of four bytes, the digit is a character.
 fn behind_two(lead: u8, second: u8, byte: u8) -> Step
     ensures { result ≡ behind_two lead second byte }
 {
@@ -120,7 +120,7 @@ fn behind_two(lead: u8, second: u8, byte: u8) -> Step
     first(byte).after(Shown::ErrorAnd(second as char))
 }
 
-// The step of a byte behind three of four. Where it isn't the fourth, the digit stands for itself, and the third is a lead.
+// The step of a byte after three of four. If it isn't the fourth, the digit is a character, and the third byte is a lead byte.
 fn behind_three(lead: u8, second: u8, third: u8, byte: u8) -> Step
     ensures { result ≡ behind_three lead second third byte }
 {
@@ -146,7 +146,8 @@ pub fn gb18030_step(kept: Kept, byte: u8) -> Step
     }
 }
 
-/// Whether the end comes inside a character in gb18030 and in GBK (Encoding Standard, section 10.2.1, "gb18030 decoder").
+/// Returns true if an end here is inside a character in gb18030 and in GBK (Encoding Standard, section 10.2.1, "gb18030
+/// decoder").
 pub fn gb18030_breaks_off(kept: Kept) -> bool
     ensures { result ≡ gb18030_breaks_off kept }
 {

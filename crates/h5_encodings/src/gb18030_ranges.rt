@@ -1,4 +1,4 @@
-//! The index gb18030 ranges: pointers, and the code points that stand at them. `write_tables.py` writes this file.
+//! The index gb18030 ranges: pointers, and their code points. `write_tables.py` writes this file.
 ghost use Rattle.std.specs.Prelude.{◌≡◌};
 ghost use Rattle.h5_encodings.specs.Gb18030Ranges.{gb18030_ranges};
 

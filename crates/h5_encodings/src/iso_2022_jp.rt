@@ -7,7 +7,7 @@ use super::jis0208_index::jis0208_index;
 use super::multi_byte::{code_point, is_between};
 use super::steps::{JpMode, JpPart, JpState, Kept, Shown, Step, broken_off};
 
-// Where a decoder stands by what is kept.
+// Returns the state of a decoder, by what it stores.
 fn state_of(kept: Kept) -> JpState
     ensures { result ≡ state_of kept }
 {
@@ -31,14 +31,14 @@ fn keeps(mode: JpMode, output_flag: bool, part: JpPart) -> Kept
     })
 }
 
-// The half-width katakana of a byte from 21 to 5F.
+// Returns the half-width katakana of a byte from 0x21 to 0x5F.
 fn half_width(byte: u8) -> char
     ensures { result ≡ half_width byte }
 {
     char::from_u32(0xFF61 + (byte as u32).saturating_sub(0x21)).unwrap()
 }
 
-// SO, SI and ESC stand for no character.
+// SO, SI and ESC aren't characters.
 fn plain(byte: u8) -> Option<char>
     ensures { result ≡ plain byte }
 {
@@ -49,7 +49,7 @@ fn plain(byte: u8) -> Option<char>
     }
 }
 
-// What a byte stands for by itself.
+// Returns the character of a single byte.
 fn character(mode: JpMode, byte: u8) -> Option<char>
     ensures { result ≡ character mode byte }
 {
@@ -80,7 +80,7 @@ fn shown_of(code_point: Option<char>) -> Shown
     }
 }
 
-// The step of a byte that is no ESC, between characters.
+// The step of a byte other than ESC, between characters.
 fn byte_in(mode: JpMode, byte: u8) -> Step
     ensures { result ≡ byte_in mode byte }
 {
@@ -109,7 +109,7 @@ fn between(mode: JpMode, output_flag: bool, byte: u8) -> Step
     byte_in(mode, byte)
 }
 
-// Where a lead and a byte stand in the index. A lead is 0x21 at least.
+// Returns the pointer of a lead byte and the next byte. A lead byte is at least 0x21.
 fn pointer(lead: u8, byte: u8) -> Option<usize>
     ensures { result ≡ pointer lead byte }
 {
@@ -120,7 +120,7 @@ fn pointer(lead: u8, byte: u8) -> Option<usize>
     }
 }
 
-// The step of a byte behind a lead.
+// The step of a byte after a lead byte.
 fn behind_lead(mode: JpMode, output_flag: bool, lead: u8, byte: u8) -> Step
     ensures { result ≡ behind_lead mode output_flag lead byte }
 {
@@ -133,7 +133,7 @@ fn behind_lead(mode: JpMode, output_flag: bool, lead: u8, byte: u8) -> Step
     )
 }
 
-// The step of a byte behind ESC.
+// The step of a byte after ESC.
 fn behind_escape(mode: JpMode, output_flag: bool, byte: u8) -> Step
     ensures { result ≡ behind_escape mode output_flag byte }
 {
@@ -152,7 +152,7 @@ fn behind_escape(mode: JpMode, output_flag: bool, byte: u8) -> Step
     between(mode, false, byte).after(Shown::Error)
 }
 
-// The mode that an escape with `$` is for, by its last byte.
+// Returns the mode that an escape with `$` and this last byte sets.
 fn behind_dollar(byte: u8) -> Option<JpMode>
     ensures { result ≡ behind_dollar byte }
 {
@@ -163,7 +163,7 @@ fn behind_dollar(byte: u8) -> Option<JpMode>
     }
 }
 
-// The mode that an escape with `(` is for, by its last byte.
+// Returns the mode that an escape with `(` and this last byte sets.
 fn behind_parenthesis(byte: u8) -> Option<JpMode>
     ensures { result ≡ behind_parenthesis byte }
 {
@@ -175,7 +175,7 @@ fn behind_parenthesis(byte: u8) -> Option<JpMode>
     }
 }
 
-// The step of a byte behind ESC and a sign, with which it is no escape: the sign is read again, and then the byte.
+// The step of a byte after ESC and a sign that don't form an escape with it. The sign is read again, and then the byte.
 fn no_escape(mode: JpMode, sign: u8, byte: u8) -> Step
     ensures { result ≡ no_escape mode sign byte }
 {
@@ -188,7 +188,7 @@ fn no_escape(mode: JpMode, sign: u8, byte: u8) -> Step
     }
 }
 
-// The step of a byte behind ESC and a sign, and the mode that they are for, if any.
+// The step of a byte after ESC and a sign, with the mode that they set, if any.
 fn behind_sign(new: Option<JpMode>, mode: JpMode, output_flag: bool, sign: u8, byte: u8) -> Step
     ensures { result ≡ behind_sign new mode output_flag sign byte }
 {
@@ -221,7 +221,7 @@ pub fn iso_2022_jp_step(kept: Kept, byte: u8) -> Step
     }
 }
 
-// The text of an end behind ESC and `$`.
+// Returns the text of an end after ESC and `$`.
 fn dollar_at_end(mode: JpMode) -> &'static str
     ensures { result.now ≡ text_shown (sign_at_end mode 0x24) }
 {
@@ -233,7 +233,7 @@ fn dollar_at_end(mode: JpMode) -> &'static str
     }
 }
 
-// The text of an end behind ESC and `(`.
+// Returns the text of an end after ESC and `(`.
 fn parenthesis_at_end(mode: JpMode) -> &'static str
     ensures { result.now ≡ text_shown (sign_at_end mode 0x28) }
 {
@@ -245,7 +245,7 @@ fn parenthesis_at_end(mode: JpMode) -> &'static str
     }
 }
 
-/// The text of the end in ISO-2022-JP (Encoding Standard, section 12.2.1, "ISO-2022-JP decoder").
+/// Returns the text of the end in ISO-2022-JP (Encoding Standard, section 12.2.1, "ISO-2022-JP decoder").
 pub fn iso_2022_jp_text_at_end(kept: Kept) -> &'static str
     ensures { result.now ≡ text_shown (iso_2022_jp_ending kept) }
 {

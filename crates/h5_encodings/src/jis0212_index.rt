@@ -1,4 +1,4 @@
-//! The index jis0212: the code point of each pointer, and U+0000 where there is none. `write_tables.py` writes this file.
+//! The index jis0212: the code point of each pointer, or U+0000 if it has none. `write_tables.py` writes this file.
 ghost use Rattle.std.specs.Prelude.{◌≡◌};
 ghost use Rattle.h5_encodings.specs.Jis0212Index.{jis0212_index};
 

@@ -5,14 +5,14 @@ ghost use Rattle.h5_encodings.specs.Labels.{encoding_labelled, is_same_word, lab
 use super::encoding::Encoding;
 use super::labels::LABELS;
 
-/// Whether the texts are the same in any ASCII case.
+/// Returns true if the texts are equal in any ASCII case.
 pub fn is_same_word(text: &[u8], word: &[u8]) -> bool
     ensures { result ≡ is_same_word text.now word.now }
 {
     text.eq_ignore_ascii_case(word)
 }
 
-// What the first row with this label has.
+// Returns the encoding of the first row with this label.
 fn labelled_in(table: &[(&str, Encoding)], text: &[u8]) -> Option<Encoding>
     ensures { result ≡ labelled_in (rows_of table.now) text.now }
 {
@@ -24,7 +24,7 @@ fn labelled_in(table: &[(&str, Encoding)], text: &[u8]) -> Option<Encoding>
     None
 }
 
-// The text without the blanks at its ends.
+// Removes ASCII whitespace from both ends.
 fn trimmed(text: &[u8]) -> &[u8]
     ensures { result.now ≡ up_to_blanks (past_blanks text.now) }
 {
@@ -32,7 +32,7 @@ fn trimmed(text: &[u8]) -> &[u8]
 }
 
 impl Encoding {
-    /// The encoding that a label names, in any ASCII case; ASCII blanks at its ends don't matter. `None` where it names none
+    /// Returns the encoding of a label, or `None` if it isn't one. ASCII case and ASCII whitespace at the ends are ignored
     /// (Encoding Standard, section 4.2, "Names and labels", "get an encoding").
     #[tactic(auto, unfolding(crate::specs::Labels::all_labels))]
     pub fn for_label(label: &[u8]) -> Option<Encoding>

@@ -1,8 +1,8 @@
-//! How bytes are cut doesn't matter.
+//! How bytes are split doesn't matter.
 ghost use Rattle.h5_encodings.specs.Steps.{CutsDontMatter};
 
-/// Whatever the steps of an encoding are, and wherever bytes are cut, their text is that of the front as far as it is decided, and
-/// then that of the rest behind what is kept.
+/// For any encoding that is decoded in steps, and any split of bytes: their text is the decided text of the first part,
+/// followed by the text of the second part after what is stored.
 #[tactic(auto, using(crate::proofs::DecodingLaws::cuts_dont_matter))]
 pub fn cuts_dont_matter()
     ensures { CutsDontMatter }

@@ -1,19 +1,18 @@
-//! Bytes in other encodings than UTF-8, and which encoding a page is in (Encoding Standard; HTML standard, section 13.2.3.2).
+//! Decoders for encodings other than UTF-8, and the encoding of a page (Encoding Standard; HTML standard, section 13.2.3.2).
 //!
-//! `encoding` has the encodings, `labels` and `label` the labels that name them. `decoder` gives the text of bytes that come in
-//! chunks: of UTF-8 by `h5_reading`, and of the others by a step for each byte in `reading`, with what it shows and what is kept
-//! behind it in `steps`. Each family has its step in a file of its own: `single_byte` with its tables in `upper_halves`, `utf16`,
-//! `user_defined`, `replacement`, and of the encodings with several bytes for a character, which share `multi_byte`, `gb18030`,
-//! `big5`, `euc_jp`, `iso_2022_jp`, `shift_jis` and `euc_kr`, with their tables in `gb18030_index`, `gb18030_ranges`, `big5_index`,
-//! `jis0208_index`, `jis0212_index` and `euc_kr_index`. `laws` has the law that cuts don't matter.
+//! `encoding` has the encodings, `labels` and `label` their labels. `decoder` decodes bytes that come in chunks: UTF-8 by
+//! `h5_reading`, the others byte by byte in `reading`; `steps` has the output of a byte and what is stored after it. `laws` has
+//! the law that splits don't matter. Each decoder has a module: `single_byte` (tables in `upper_halves`), `utf16`,
+//! `user_defined`, `replacement`, `gb18030`, `big5`, `euc_jp`, `iso_2022_jp`, `shift_jis` and `euc_kr`. The last six share
+//! `multi_byte`, and have their tables in the modules whose names end in `_index` or `_ranges`.
 //!
-//! `sniffing` decides the encoding of a page by its first 1,024 bytes. `prescan` looks for what they say of it: `cut` cuts bytes,
-//! `attribute` reads the attributes of a tag, `said` what those of a `meta` say, and `xml` an XML declaration.
+//! `sniffing` determines the encoding of a page from its first 1,024 bytes. `prescan` looks for an encoding in them: `cut`
+//! splits bytes, `attribute` reads the attributes of a tag, `said` evaluates those of a `meta`, and `xml` reads an XML
+//! declaration.
 //!
-//! The encodings, their labels and the characters of the single-byte encodings stand in `encodings.txt`, and the indexes in
-//! `indexes.txt`. Out of these `write_tables.py` writes `encoding`, `labels`, `upper_halves` and two files of definitions, and for
-//! each index a file of code and one of definitions. Begin with `specs/Steps.antt` and `specs/Decoding.antt`, then
-//! `src/decoder.rt`; of sniffing with `specs/Sniffing.antt` and `specs/Prescan.antt`.
+//! `write_tables.py` writes `encoding`, `labels`, `upper_halves`, the indexes and their definitions from `encodings.txt` and
+//! `indexes.txt`. Begin with `specs/Steps.antt`, `specs/Decoding.antt` and `src/decoder.rt`; for sniffing with
+//! `specs/Sniffing.antt` and `specs/Prescan.antt`.
 #![tactic(auto)]
 
 mod attribute;

@@ -1,4 +1,4 @@
-//! What the decoders of the encodings with several bytes for a character share.
+//! What the decoders of encodings with several bytes per character share.
 ghost use Rattle.std.specs.Prelude.{◌≡◌, slice_index};
 ghost use Rattle.h5_encodings.specs.MultiByte.{code_point, first_byte, is_between, katakana, last_byte, lead_breaks_off, lead_of, not_null};
 
@@ -10,7 +10,7 @@ pub fn is_between(low: u8, high: u8, byte: u8) -> bool
     low <= byte && byte <= high
 }
 
-/// The lead that is kept, if one is.
+/// Returns the lead byte that is stored, if any.
 pub fn lead_of(kept: Kept) -> Option<u8>
     ensures { result ≡ lead_of kept }
 {
@@ -20,14 +20,14 @@ pub fn lead_of(kept: Kept) -> Option<u8>
     }
 }
 
-/// The half-width katakana of a byte from A1 to DF.
+/// Returns the half-width katakana of a byte from 0xA1 to 0xDF.
 pub fn katakana(byte: u8) -> char
     ensures { result ≡ katakana byte }
 {
     char::from_u32(0xFF61 + (byte as u32).saturating_sub(0xA1)).unwrap()
 }
 
-// What an index has at a pointer: U+0000 behind its end.
+// Returns the entry of an index at a pointer, or U+0000 after its end.
 fn entry(index: &[char], pointer: usize) -> char
     ensures { result ≡ slice_index index.now pointer }
 {
@@ -38,7 +38,7 @@ fn entry(index: &[char], pointer: usize) -> char
     }
 }
 
-// U+0000 in an index says that there is no code point.
+// U+0000 in an index means that the pointer has no code point.
 fn not_null(character: char) -> Option<char>
     ensures { result ≡ not_null character }
 {
@@ -49,7 +49,7 @@ fn not_null(character: char) -> Option<char>
     }
 }
 
-/// The index code point of a pointer, if there is one (Encoding Standard, section 5, "index code point").
+/// Returns the index code point of a pointer, if there is one (Encoding Standard, section 5, "index code point").
 pub fn code_point(index: &[char], pointer: Option<usize>) -> Option<char>
     ensures { result ≡ code_point index.now pointer }
 {
@@ -59,7 +59,7 @@ pub fn code_point(index: &[char], pointer: Option<usize>) -> Option<char>
     }
 }
 
-/// The step of a byte that begins a character.
+/// The step of the first byte of a character.
 pub fn first_byte(is_lead: bool, byte: u8) -> Step
     ensures { result ≡ first_byte is_lead byte }
 {
@@ -73,7 +73,8 @@ pub fn first_byte(is_lead: bool, byte: u8) -> Step
     }
 }
 
-/// The step of the last byte of a code point. Where there is none, it shows an error, and an ASCII byte stands for itself.
+/// The step of the last byte of a code point. Without a code point, the output is an error, and then the byte itself if it is
+/// ASCII.
 pub fn last_byte(code_point: Option<char>, byte: u8) -> Step
     ensures { result ≡ last_byte code_point byte }
 {
@@ -90,7 +91,7 @@ pub fn last_byte(code_point: Option<char>, byte: u8) -> Step
     Step::of(shown, Kept::Nothing)
 }
 
-/// Whether the end comes behind a lead.
+/// Returns true if an end here is after a lead byte.
 pub fn lead_breaks_off(lead: Option<u8>) -> bool
     ensures { result ≡ lead_breaks_off lead }
 {

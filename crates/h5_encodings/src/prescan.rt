@@ -1,4 +1,4 @@
-//! The encoding that the first bytes of a page name.
+//! The prescan: finds the encoding that the first bytes of a page declare.
 ghost use Rattle.std.specs.Prelude.{◌≡◌, IfOk};
 ghost use Rattle.h5_encodings.specs.Prescan.{found_here, here_in, here_of, inside_tag, inside_of, is_declaration, is_meta, is_tag, kind_of, past_meta, past_tag, prescan, scan};
 
@@ -10,7 +10,7 @@ use super::said::Said;
 use super::xml::xml_encoding;
 use std::alloc::{AllocError, Global};
 
-/// What stands at the front of bytes.
+/// What the prescan finds at a position.
 #[derive(Clone, Copy, Debug, PartialEq, Eq)]
 pub enum Kind {
     Comment,
@@ -18,28 +18,28 @@ pub enum Kind {
     Meta,
     /// Another start tag, or an end tag.
     Tag,
-    /// What `<!`, `</` or `<?` begins, up to its `>`.
+    /// `<!`, `</` or `<?`, up to the next `>`.
     Declaration,
-    /// A byte by itself.
+    /// A single byte.
     Text,
 }
 
-/// What stands behind a tag's name.
+/// The attributes of a tag.
 #[derive(Clone, Copy)]
 pub enum Inside<'a> {
-    /// The bytes ran out.
+    /// The bytes end first.
     CutOff,
-    /// What the attributes say, and what follows from the `>` on.
+    /// What the attributes declare, and the bytes from the `>` on.
     Ended(Said, &'a [u8]),
 }
 
-/// What is found where something stands.
+/// The result of reading what is at one position.
 #[derive(Clone, Copy)]
 pub enum Here<'a> {
-    /// The bytes ran out.
+    /// The bytes end first.
     Over,
     Names(Encoding),
-    /// Nothing, and this is read next.
+    /// No encoding. The prescan continues with these bytes.
     Passes(&'a [u8]),
 }
 
@@ -83,7 +83,7 @@ fn kind_of(text: &[u8]) -> Kind
     }
 }
 
-// What the attributes of a tag say.
+// Reads the attributes of a tag.
 fn inside_tag(alloc: Global, text: &[u8]) -> Result<Inside<'_>, AllocError>
     ensures { IfOk result (λ found. inside_of found ≡ inside_tag text.now) }
 {
@@ -102,7 +102,7 @@ fn inside_tag(alloc: Global, text: &[u8]) -> Result<Inside<'_>, AllocError>
     Ok(Inside::CutOff)
 }
 
-// What a `meta` names, by its attributes.
+// Returns the result for a `meta` with these attributes.
 fn past_meta(found: Inside<'_>) -> Here<'_>
     ensures { here_of result ≡ past_meta (inside_of found.entry) }
 {
@@ -124,7 +124,7 @@ fn past_tag(found: Inside<'_>) -> Here<'_>
     }
 }
 
-// What is found where this stands.
+// Reads what is at the start, by its kind.
 fn here_in(alloc: Global, kind: Kind, text: &[u8]) -> Result<Here<'_>, AllocError>
     ensures { IfOk result (λ found. here_of found ≡ here_in kind text.now) }
 {
@@ -149,7 +149,7 @@ fn here_in(alloc: Global, kind: Kind, text: &[u8]) -> Result<Here<'_>, AllocErro
     }
 }
 
-// What is found at the front.
+// Reads what is at the start.
 #[tactic(auto, unfolding(crate::specs::Prescan::found_here))]
 fn found_here(alloc: Global, text: &[u8]) -> Result<Here<'_>, AllocError>
     ensures { IfOk result (λ found. here_of found ≡ found_here text.now) }
@@ -157,7 +157,7 @@ fn found_here(alloc: Global, text: &[u8]) -> Result<Here<'_>, AllocError>
     here_in(alloc, kind_of(text), text)
 }
 
-// The encoding that a `meta` names.
+// Finds the encoding that a `meta` declares.
 fn scan(alloc: Global, bytes: &[u8]) -> Result<Option<Encoding>, AllocError>
     ensures { IfOk result (λ named. named ≡ scan 0 bytes.now) }
 {
@@ -177,8 +177,9 @@ fn scan(alloc: Global, bytes: &[u8]) -> Result<Option<Encoding>, AllocError>
     Ok(None)
 }
 
-/// The encoding that bytes name: by `<?x` in UTF-16 at the front, by a `meta`, or by an XML declaration at the front. `AllocError`
-/// where memory is refused (HTML standard, section 13.2.3.2, "prescan a byte stream to determine its encoding").
+/// Returns the encoding that bytes declare: by `<?x` in UTF-16 at the start, by a `meta`, or by an XML declaration at the start
+/// (HTML standard, section 13.2.3.2, "prescan a byte stream to determine its encoding"). Fails with `AllocError` if an
+/// allocation fails.
 #[tactic(auto, unfolding(crate::specs::Prescan::prescan))]
 pub fn prescan(alloc: Global, bytes: &[u8]) -> Result<Option<Encoding>, AllocError>
     ensures { IfOk result (λ named. named ≡ prescan bytes.now) }

@@ -1,4 +1,4 @@
-//! Bytes that are read in steps.
+//! Bytes that are decoded in steps.
 ghost use Rattle.std.specs.Prelude.{◌≡◌, ◌≤◌, ◌++◌, string_bytes, IfOk};
 ghost use Rattle.h5_encodings.specs.Decoding.{reading_of};
 ghost use Rattle.std.specs.Io.Iter.{u64_saturate};
@@ -19,7 +19,7 @@ use super::user_defined::user_defined_step;
 use super::utf16::{utf_16_breaks_off, utf_16_step};
 use std::alloc::AllocError;
 
-// The step of a byte. UTF-8 has none, and shows nothing here.
+// The step of a byte. UTF-8 has no steps; its output is empty here.
 #[tactic(auto, unfolding(crate::specs::Decoding::reading_of))]
 fn step(encoding: Encoding, kept: Kept, byte: u8) -> Step
     ensures { result ≡ (reading_of encoding).step kept byte }
@@ -40,7 +40,7 @@ fn step(encoding: Encoding, kept: Kept, byte: u8) -> Step
     }
 }
 
-/// The text of the end, behind what is kept.
+/// Returns the text of the end, after what is stored.
 #[tactic(auto, unfolding(crate::specs::Decoding::reading_of))]
 pub fn text_at_end(encoding: Encoding, kept: Kept) -> &'static str
     ensures { result.now ≡ text_shown ((reading_of encoding).ending kept) }
@@ -58,7 +58,7 @@ pub fn text_at_end(encoding: Encoding, kept: Kept) -> &'static str
     }
 }
 
-// How many U+FFFD stand for bytes in it.
+// Returns how many U+FFFD in an output replace bytes.
 fn errors_shown(shown: Shown) -> u64
     ensures count { result ≡ errors_shown shown }
     ensures few { result ≤ 2 }
@@ -70,7 +70,7 @@ fn errors_shown(shown: Shown) -> u64
     }
 }
 
-// Appends what is shown.
+// Appends an output.
 fn push_shown(text: &mut String, shown: Shown) -> Result<(), AllocError>
     ensures { IfOk result (λ _. string_bytes text.new ≡ string_bytes text.old ++ text_shown shown) }
 {
@@ -93,14 +93,14 @@ fn push_shown(text: &mut String, shown: Shown) -> Result<(), AllocError>
     }
 }
 
-// How many U+FFFD stand for bytes in what a step shows.
+// Returns how many U+FFFD in the output of a step replace bytes.
 fn step_errors(step: Step) -> u64
     ensures { result ≡ step_errors step }
 {
     errors_shown(step.before) + errors_shown(step.shown)
 }
 
-// Appends what a step shows.
+// Appends the output of a step.
 fn push_step(text: &mut String, step: Step) -> Result<(), AllocError>
     ensures { IfOk result (λ _. string_bytes text.new ≡ string_bytes text.old ++ text_of_step step) }
 {
@@ -108,7 +108,7 @@ fn push_step(text: &mut String, step: Step) -> Result<(), AllocError>
     push_shown(text, step.shown)
 }
 
-/// What is kept behind bytes, and how many U+FFFD stand for some of them, at most as many as a u64 holds.
+/// What is stored after bytes, and how many U+FFFD have replaced some of them; this count stops at the maximum of `u64`.
 #[derive(Clone, Copy, Debug, PartialEq, Eq)]
 pub struct Behind {
     pub kept: Kept,

@@ -1,4 +1,4 @@
-//! What the attributes of a `meta` say of its encoding.
+//! The encoding that the attributes of a `meta` declare.
 ghost use Rattle.std.specs.Prelude.{◌≡◌, IfOk, string_bytes};
 ghost use Rattle.h5_encodings.specs.Said.{by_charset, by_content, declared_by, encoding_in_content, instead_of, instead_of_utf16, isomorphic, named_by, nothing_said, says};
 
@@ -14,11 +14,11 @@ pub enum Declared {
     Nothing,
     /// By a `content`, which needs the pragma.
     ByContent(Encoding),
-    /// By a `charset`, which may name none.
+    /// By a `charset`; `None` if its value isn't a label.
     ByCharset(Option<Encoding>),
 }
 
-/// What the attributes of a `meta` have said so far.
+/// What the attributes of a `meta` have declared so far.
 #[derive(Clone, Copy, Debug, PartialEq, Eq)]
 pub struct Said {
     /// There was an `http-equiv`.
@@ -30,7 +30,7 @@ pub struct Said {
     pub declared: Declared,
 }
 
-// Bytes as a text: each stands for the character of its number.
+// Converts each byte to the character with its number.
 fn isomorphic(alloc: Global, bytes: &[u8]) -> Result<String, AllocError>
     ensures { IfOk result (λ text. string_bytes text ≡ isomorphic bytes.now) }
 {
@@ -41,7 +41,7 @@ fn isomorphic(alloc: Global, bytes: &[u8]) -> Result<String, AllocError>
     Ok(text)
 }
 
-// The encoding that a `content` names.
+// Returns the encoding that a `content` declares.
 #[tactic(auto, unfolding(crate::specs::Said::encoding_in_content))]
 fn encoding_in_content(alloc: Global, value: &[u8]) -> Result<Option<Encoding>, AllocError>
     ensures { IfOk result (λ named. named ≡ encoding_in_content value.now) }
@@ -84,7 +84,8 @@ fn declared_by(has_pragma: bool, declared: Declared) -> Option<Encoding>
     }
 }
 
-/// What is read where an XML declaration names an encoding: UTF-8 in place of UTF-16, which bytes that could be read so far are not.
+/// Returns the encoding that is used if an XML declaration declares this one. UTF-8 replaces UTF-16: bytes in which the
+/// declaration was found aren't UTF-16.
 pub fn instead_of_utf16(encoding: Encoding) -> Encoding
     ensures { result ≡ instead_of_utf16 encoding }
 {
@@ -104,7 +105,7 @@ pub fn instead_of_utf16(encoding: Encoding) -> Encoding
     }
 }
 
-// What is read where a `meta` names an encoding.
+// Returns the encoding that is used if a `meta` declares this one.
 fn instead_of(encoding: Encoding) -> Encoding
     ensures { result ≡ instead_of encoding }
 {
@@ -125,7 +126,7 @@ fn instead_of(encoding: Encoding) -> Encoding
 }
 
 impl Said {
-    /// Nothing was said yet.
+    /// Returns the state before any attribute.
     pub fn new() -> Said
         ensures { result ≡ nothing_said }
     {
@@ -137,7 +138,7 @@ impl Said {
         }
     }
 
-    /// What has been said behind one more attribute.
+    /// Adds an attribute.
     pub fn with(self, alloc: Global, name: Name, value: &[u8]) -> Result<Said, AllocError>
         ensures { IfOk result (λ said. said ≡ says self name value.now) }
     {
@@ -171,7 +172,7 @@ impl Said {
         }
     }
 
-    /// The encoding that the `meta` names.
+    /// Returns the encoding that the `meta` declares.
     pub fn encoding(self) -> Option<Encoding>
         ensures { result ≡ named_by self }
     {

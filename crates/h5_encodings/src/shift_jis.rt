@@ -18,7 +18,7 @@ fn lead_offset(lead: u8) -> usize
     if lead < 0xA0 { 0x81 } else { 0xC1 }
 }
 
-// Where a lead and a byte stand in the index. A lead is no less than its offset.
+// Returns the pointer of a lead byte and the next byte. A lead byte is at least its offset.
 fn pointer(lead: u8, byte: u8) -> Option<usize>
     ensures { result ≡ pointer lead byte }
 {
@@ -30,7 +30,7 @@ fn pointer(lead: u8, byte: u8) -> Option<usize>
     }
 }
 
-// The private character of a pointer from 8836 to 10715.
+// Returns the private-use character of a pointer from 8836 to 10715.
 fn private(pointer: usize) -> char
     requires lower { 8836 ≤ pointer }
     requires upper { pointer ≤ 10715 }
@@ -39,7 +39,7 @@ fn private(pointer: usize) -> char
     char::from_u32(0xE000 + (pointer - 8836) as u32).unwrap()
 }
 
-// The character of a pointer, if it has one.
+// Returns the character of a pointer, if it has one.
 fn character(pointer: Option<usize>) -> Option<char>
     ensures { result ≡ character pointer }
 {
@@ -55,7 +55,7 @@ fn character(pointer: Option<usize>) -> Option<char>
     }
 }
 
-// The step of a byte that no lead is before.
+// The step of a byte that doesn't follow a lead byte.
 fn first(byte: u8) -> Step
     ensures { result ≡ first byte }
 {

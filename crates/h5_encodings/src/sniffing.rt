@@ -7,12 +7,12 @@ use super::encoding::{Encoding, SingleByte};
 use super::prescan::prescan;
 use std::alloc::{AllocError, Global};
 
-/// What is known of a page's encoding besides its bytes.
+/// What is known about a page's encoding apart from its bytes.
 #[derive(Clone, Copy, Debug, PartialEq, Eq)]
 pub struct EncodingOpts {
-    /// What the transport says, as the header `Content-Type`.
+    /// The encoding that the transport declares, for example in a `Content-Type` header.
     pub transport: Option<Encoding>,
-    /// Where neither it nor the page says anything.
+    /// The encoding to use if neither the transport nor the page declares one.
     pub default: Encoding,
 }
 
@@ -22,7 +22,7 @@ impl Default for EncodingOpts {
 
     ghost is_default = { λ opts. opts ≡ default_opts };
 
-    /// The transport says nothing, and the default is windows-1252.
+    /// No transport encoding; the default is windows-1252.
     fn default() -> EncodingOpts {
         EncodingOpts {
             transport: None,
@@ -31,20 +31,20 @@ impl Default for EncodingOpts {
     }
 }
 
-/// What an encoding is known by.
+/// Where a page's encoding comes from.
 #[derive(Clone, Copy, Debug, PartialEq, Eq)]
 pub enum Source {
     /// A byte order mark.
     Mark,
-    /// What the transport says.
+    /// The transport.
     Transport,
-    /// What the page says of itself.
+    /// A declaration in the page.
     Meta,
-    /// Nothing.
+    /// The default.
     Default,
 }
 
-// The encoding of a byte order mark.
+// Returns the encoding of a byte order mark at the start.
 fn marked(bytes: &[u8]) -> Option<Encoding>
     ensures { result ≡ marked bytes.now }
 {
@@ -59,7 +59,7 @@ fn marked(bytes: &[u8]) -> Option<Encoding>
     }
 }
 
-// The encoding of a page with these first bytes.
+// Returns the encoding of a page with these first bytes.
 #[tactic(auto, unfolding(crate::specs::Sniffing::encoding_of))]
 fn encoding_of(
     alloc: Global,
@@ -80,7 +80,7 @@ fn encoding_of(
     }
 }
 
-// The first bytes, as many as are asked for.
+// Returns the first `count` bytes.
 fn first(bytes: &[u8], count: usize) -> &[u8]
     ensures { result.now ≡ take count bytes.now }
 {
@@ -92,9 +92,9 @@ fn first(bytes: &[u8], count: usize) -> &[u8]
     }
 }
 
-/// The encoding of a page by its first 1,024 bytes, and what it is known by: a byte order mark, the transport, what the page says
-/// of itself, or the default. Further bytes don't matter. `AllocError` where memory is refused (HTML standard, section 13.2.3.2,
-/// "Determining the character encoding").
+/// Returns the encoding of a page, determined by its first 1,024 bytes, and where the encoding comes from: a byte order mark,
+/// the transport, a declaration in the page, or the default. Later bytes don't matter (HTML standard, section 13.2.3.2,
+/// "Determining the character encoding"). Fails with `AllocError` if an allocation fails.
 pub fn sniff(
     alloc: Global,
     opts: EncodingOpts,

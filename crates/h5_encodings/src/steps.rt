@@ -1,8 +1,8 @@
-//! What a byte shows, and what is kept for the bytes behind it.
+//! The output of a byte, and what is stored for the bytes that follow.
 ghost use Rattle.std.specs.Prelude.{◌≡◌};
 ghost use Rattle.h5_encodings.specs.Steps.{after, broken_off, shows, text_shown};
 
-/// What bytes stand for in ISO-2022-JP, until an escape tells otherwise: the output state of its decoder.
+/// How ISO-2022-JP decodes bytes until the next escape: the decoder's output state.
 #[derive(Clone, Copy, Debug, PartialEq, Eq)]
 pub enum JpMode {
     Ascii,
@@ -11,11 +11,11 @@ pub enum JpMode {
     TwoBytes,
 }
 
-/// What is kept of a character or of an escape in ISO-2022-JP.
+/// The part of a character or of an escape that is stored in ISO-2022-JP.
 #[derive(Clone, Copy, Debug, PartialEq, Eq)]
 pub enum JpPart {
     Nothing,
-    /// The first byte of a character of two.
+    /// The first byte of a two-byte character.
     Lead(u8),
     /// ESC.
     Escape,
@@ -25,16 +25,16 @@ pub enum JpPart {
     EscapeParenthesis,
 }
 
-/// Where a decoder of ISO-2022-JP stands.
+/// The state of an ISO-2022-JP decoder.
 #[derive(Clone, Copy, Debug, PartialEq, Eq)]
 pub struct JpState {
     pub mode: JpMode,
-    /// There was an escape, and neither a character nor an error behind it.
+    /// There was an escape, and neither a character nor an error since.
     pub output_flag: bool,
     pub part: JpPart,
 }
 
-/// What a decoder keeps of bytes whose text isn't decided yet.
+/// What a decoder stores of bytes whose text isn't decided yet.
 #[derive(Clone, Copy, Debug, PartialEq, Eq)]
 pub enum Kept {
     Nothing,
@@ -42,38 +42,38 @@ pub enum Kept {
     Half(u8),
     /// A leading surrogate, in UTF-16.
     Leading(u16),
-    /// A leading surrogate, and the first byte of the code unit behind it.
+    /// A leading surrogate, and the first byte of the next code unit.
     LeadingHalf(u16, u8),
-    /// The first byte of a character of several bytes.
+    /// The lead byte of a character of several bytes.
     Lead(u8),
-    /// The byte behind 8F, in EUC-JP.
+    /// The byte after 0x8F, in EUC-JP.
     Jis0212(u8),
-    /// The first two bytes of a character of four, in gb18030.
+    /// The first two of four bytes, in gb18030.
     TwoOfFour(u8, u8),
-    /// The first three.
+    /// The first three of four bytes.
     ThreeOfFour(u8, u8, u8),
-    /// Where a decoder of ISO-2022-JP stands.
+    /// The state of an ISO-2022-JP decoder.
     Jp(JpState),
-    /// That the one error of "replacement" has been told.
+    /// The single error of "replacement" was output.
     Told,
 }
 
-/// What a byte shows.
+/// The output of a byte.
 #[derive(Clone, Copy, Debug, PartialEq, Eq)]
 pub enum Shown {
     Nothing,
     Character(char),
     Two(char, char),
-    /// U+FFFD, which stands for bytes that are no character.
+    /// U+FFFD, which replaces bytes that aren't a character.
     Error,
-    /// That, and a character behind it.
+    /// U+FFFD for an error, followed by a character.
     ErrorAnd(char),
-    /// That twice, which only an end shows.
+    /// U+FFFD for two errors, which only an end outputs.
     TwoErrors,
 }
 
-/// A step: what is shown of bytes that were kept and are no character by themselves, what the byte shows behind that, and what is
-/// kept behind it.
+/// A step: the output of stored bytes that aren't a character by themselves, then the output of the byte, and what is stored
+/// after it.
 #[derive(Clone, Copy, Debug, PartialEq, Eq)]
 pub struct Step {
     pub before: Shown,
@@ -82,7 +82,7 @@ pub struct Step {
 }
 
 impl Step {
-    /// A step that shows nothing of what was kept.
+    /// Returns a step without output of stored bytes.
     pub fn of(shown: Shown, kept: Kept) -> Step
         ensures { result ≡ shows shown kept }
     {
@@ -93,7 +93,7 @@ impl Step {
         }
     }
 
-    /// The step, with what is shown of bytes that were kept before it.
+    /// Returns the step with this output of stored bytes before it.
     pub fn after(self, before: Shown) -> Step
         ensures { result ≡ after before self }
     {
@@ -101,7 +101,7 @@ impl Step {
     }
 }
 
-/// The text of an end that breaks a character off, or doesn't.
+/// Returns the text of an end that is inside a character, or isn't.
 pub fn broken_off(is_broken_off: bool) -> &'static str
     ensures { result.now ≡ text_shown (broken_off is_broken_off) }
 {

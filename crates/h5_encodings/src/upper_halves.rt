@@ -1,4 +1,4 @@
-//! The characters of the bytes from 128 on in the single-byte encodings. U+FFFD stands where there is no character.
+//! The characters of the bytes from 128 on in the single-byte encodings. A byte without a character has U+FFFD.
 //! `write_tables.py` writes this file.
 ghost use Rattle.std.specs.Prelude.{◌≡◌};
 ghost use Rattle.h5_encodings.specs.UpperHalf.{upper_half};

@@ -4,7 +4,7 @@ ghost use Rattle.h5_encodings.specs.UserDefined.{user_defined_step};
 
 use super::steps::{Kept, Shown, Step};
 
-// The character of a byte: from 128 on a private one.
+// Returns the character of a byte: from 0x80 on a private-use character.
 fn character(byte: u8) -> char
     ensures { result ≡ (if nat_lt byte 128 then byte else 0xF780 + (byte - 128)) }
 {

@@ -4,7 +4,7 @@ ghost use Rattle.h5_encodings.specs.Utf16.{behind_leading, of_unit, pair, unit_o
 
 use super::steps::{Kept, Shown, Step};
 
-// The code unit of two bytes.
+// Returns the code unit of two bytes.
 fn unit_of(is_big_endian: bool, first: u8, second: u8) -> u16
     ensures { result ≡ unit_of is_big_endian first second }
 {
@@ -15,7 +15,7 @@ fn unit_of(is_big_endian: bool, first: u8, second: u8) -> u16
     }
 }
 
-// A code unit that nothing is kept before.
+// The step of a code unit if nothing is stored.
 fn of_unit(unit: u16) -> Step
     ensures { result ≡ of_unit unit }
 {
@@ -31,7 +31,7 @@ fn of_unit(unit: u16) -> Step
     }
 }
 
-// The character of two surrogates.
+// Returns the character of a surrogate pair.
 fn pair(leading: u16, trailing: u16) -> char
     ensures { result ≡ pair leading trailing }
 {
@@ -40,7 +40,7 @@ fn pair(leading: u16, trailing: u16) -> char
     char::from_u32(0x10000 + high + low).unwrap()
 }
 
-// A code unit behind a leading surrogate.
+// The step of a code unit after a leading surrogate.
 fn behind_leading(leading: u16, unit: u16) -> Step
     ensures { result ≡ behind_leading leading unit }
 {
@@ -73,7 +73,7 @@ pub fn utf_16_step(is_big_endian: bool, kept: Kept, byte: u8) -> Step
     }
 }
 
-/// Whether the end comes inside a character in UTF-16 (Encoding Standard, section 14.2.1, "shared UTF-16 decoder").
+/// Returns true if an end here is inside a character in UTF-16 (Encoding Standard, section 14.2.1, "shared UTF-16 decoder").
 pub fn utf_16_breaks_off(kept: Kept) -> bool
     ensures { result ≡ utf_16_breaks_off kept }
 {

@@ -1,4 +1,4 @@
-//! The encoding that an XML declaration names.
+//! The encoding that an XML declaration declares.
 ghost use Rattle.std.specs.Prelude.{◌≡◌};
 ghost use Rattle.h5_markup.specs.Cuts.{before, from};
 ghost use Rattle.h5_encodings.specs.Cuts.{is_in};
@@ -8,7 +8,7 @@ use super::cut::{Class, begins, behind, cut_at, skip};
 use super::encoding::Encoding;
 use super::said::instead_of_utf16;
 
-// What is read where this label stands in a declaration.
+// Returns the encoding that is used for a declared one.
 fn read_as(named: Option<Encoding>) -> Option<Encoding>
     ensures { result ≡ read_as named }
 {
@@ -18,7 +18,7 @@ fn read_as(named: Option<Encoding>) -> Option<Encoding>
     }
 }
 
-// A label up to a quote, if the quote is there.
+// Reads a label up to its closing quote, if there is one.
 fn in_quotes(text: &[u8], quote: u8) -> Option<Encoding>
     ensures { result ≡ in_quotes (before (is_in (Class.Byte quote)) text.now) (from (is_in (Class.Byte quote)) text.now) }
 {
@@ -31,7 +31,7 @@ fn in_quotes(text: &[u8], quote: u8) -> Option<Encoding>
     }
 }
 
-// What follows the `=` and bytes up to SPACE.
+// Reads what follows the `=` and bytes up to SPACE.
 fn quote_at(text: &[u8]) -> Option<Encoding>
     ensures { result ≡ quote_at text.now }
 {
@@ -43,7 +43,7 @@ fn quote_at(text: &[u8]) -> Option<Encoding>
     }
 }
 
-// What follows `encoding` and bytes up to SPACE.
+// Reads what follows `encoding` and bytes up to SPACE.
 fn equals_at(text: &[u8]) -> Option<Encoding>
     ensures { result ≡ equals_at text.now }
 {
@@ -55,8 +55,8 @@ fn equals_at(text: &[u8]) -> Option<Encoding>
     }
 }
 
-/// The encoding that the XML declaration at the front names: UTF-8 where it names UTF-16 (HTML standard, section 13.2.3.2, "get an
-/// XML encoding").
+/// Returns the encoding that the XML declaration at the start declares, or UTF-8 if it declares UTF-16 (HTML standard, section
+/// 13.2.3.2, "get an XML encoding").
 #[tactic(auto, unfolding(crate::specs::XmlDeclaration::xml_encoding))]
 pub fn xml_encoding(text: &[u8]) -> Option<Encoding>
     ensures { result ≡ xml_encoding text.now }

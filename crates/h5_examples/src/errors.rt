@@ -1,7 +1,7 @@
 //! Parse errors and their places.
 use html_tree_builder::Arena;
 use html_tree_builder::standard::{
-    BufferQueue, Errors, TellingTokenizer, TokenizerOpts, TokenizerResult,
+    BufferQueue, Errors, ReportingTokenizer, TokenizerOpts, TokenizerResult,
 };
 use html_tree_builder::tree_builder::{TreeBuilder, TreeBuilderOpts};
 use std::alloc::{AllocError, Global};
@@ -13,7 +13,7 @@ pub fn errors_in(alloc: Global, text: &str) -> anyhow::Result<Errors> {
     queue.push_back(String::from_str(alloc, text)?)?;
     let builder = TreeBuilder::new(alloc, Arena::new(alloc)?, TreeBuilderOpts::default());
     let errors = Errors::new(alloc, 100);
-    let mut reader = TellingTokenizer::new(alloc, builder, errors, TokenizerOpts::default());
+    let mut reader = ReportingTokenizer::new(alloc, builder, errors, TokenizerOpts::default());
     // A `script` or the encoding of a `meta` stops the reader before all is read.
     for _ in 0..u64::MAX {
         if let TokenizerResult::Done = reader.feed(&mut queue)? {

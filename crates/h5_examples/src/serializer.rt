@@ -1,6 +1,6 @@
 //! A serializer that counts.
 use html_tree_builder::serialize::{
-    AttrRef, Serialize, SerializeFault, TraversalScope, Visit, Visiting,
+    AttrRef, Serialize, SerializeFault, TraversalScope, Visit, VisitSerializer,
 };
 use html_tree_builder::{Arena, QualName};
 use std::alloc::AllocError;
@@ -24,7 +24,7 @@ impl Visit for Counter {
 
 /// Counts the elements of a document.
 pub fn count_elements(arena: &Arena) -> Result<u64, SerializeFault> {
-    let mut counting = Visiting {
+    let mut counting = VisitSerializer {
         visitor: Counter { elements: 0 },
     };
     let document = arena.at(arena.document());

@@ -1,4 +1,4 @@
--- What is held between two calls.
+-- The data between two calls.
 use Rattle.std.proofs.Common.{◌≡◌, List, [], ◌∷◌, ◌++◌, refl}
 use Rattle.h5_names.specs.AttributeText.{AttributeText}
 use Rattle.h5_flat.specs.Columns.{Held, with_attribute, with_attributes}

@@ -21,7 +21,7 @@ use Rattle.h5_flat.specs.Block.{end_in, kind_in, name_in, nodes_in}
 use Rattle.h5_flat.specs.Html.{AreTold, begin_calls, calls_from, calls_in, calls_of, end_calls, ends_before, html_of, open_at, scope_in}
 use Rattle.h5_flat.specs.Read.{attributes_of, name_of, text_of, value_of}
 
--- a call that was made on the serializer of HTML
+-- a call on the HTML serializer
 abbrev pub IsCall : Call → HtmlState → Result (Unit {0}) SerializeFault → HtmlState → Type 0
 IsCall call old result new = Makes answer_to standing_after text_written IsBrokenBy call old.standing old.contents result new.standing new.contents
 
@@ -35,7 +35,7 @@ none_told calls old e = subst (λ l. AreTold l old old) (sym e) NoCall
 pub told_join : (xs ys : List Call) (old mid new : HtmlState) → AreTold xs old mid → AreTold ys mid new → AreTold (xs ++ ys) old new
 told_join xs ys old mid new h g = made_join answer_to standing_after text_written IsBrokenBy h g
 
--- what each kind begins with, and ends with
+-- the first and the last calls of each kind
 module _ (b : List ℕ) (n : ℕ) where
   pub element_begins : kind_in b n ≡ 1 → begin_calls b n ≡ StartOf (name_of b (name_in b n)) (attributes_of b n) ∷ []
   unfolding begin_calls
@@ -78,7 +78,7 @@ start_told it items attrs name named result old new e same is made =
     one_told (StartOf named attrs ∷ []) (StartOf name attrs) result old new (ap (λ x. StartOf x attrs ∷ []) (sym is))
     (start_made answer_to standing_after text_written IsBrokenBy (λ a. attribute_text a.now) (Drains iter_steps it) name attrs (λ all drains. slice_attributes all it items e drains ∙ same) made)
 
--- nodes are ended, innermost first, as far as some are left
+-- nodes are ended, innermost first, as long as some are left
 pub record AreEnded (b : List ℕ) (n : ℕ) (begun : List ℕ) (old : HtmlState) (left : List ℕ) (mid : HtmlState) : Type 0 where
   pub told : (new : HtmlState) → AreTold (ends_before b n (reverse left)) mid new → AreTold (ends_before b n (reverse begun)) old new
   pub same : open_at b n (reverse left) ≡ open_at b n (reverse begun)
@@ -181,12 +181,12 @@ module _ (b : List ℕ) (from to : ℕ) (old : HtmlState) where
       let left = ap (calls_from b n (reverse begun)) none ∙ no_calls n (reverse begun) ∙ ap (λ k. ends_before b k (reverse begun)) e in
       h.told new (subst (λ l. AreTold l mid new) (sym left) ends)
 
--- what holds where calls were made holds behind them
+-- a fact about the calls before holds after them
 pub where_ok : {P Q : Type 0} (result : Result (Unit {0}) SerializeFault) → (P → Q) → OnOk result P → OnOk result Q
 where_ok (Ok done) follows h = follows h
 where_ok (Err fault) follows h = tt
 
--- what is written of a node
+-- the HTML of a node
 pub html_written : (b : List ℕ) (n : ℕ) (is_outer : Bool) (opts : SerializeOpts) (old new : HtmlState) (html : List ℕ) → opts ≡ opts_for (scope_in b n is_outer) → old.standing ≡ new_standing opts → old.contents ≡ Some [] → new.contents ≡ Some html
     → AreTold (calls_in b n is_outer) old new → html ≡ html_of b n is_outer
 unfolding html_of

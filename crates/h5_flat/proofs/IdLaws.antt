@@ -12,7 +12,7 @@ at_first : (f : Forest) (c : forest.Child) (cs : List forest.Child) → ids_amon
 unfolding ids_among
 at_first f c cs = refl
 
--- those that are left begin with the next one
+-- the remaining children begin with the next one
 left : (f : Forest) (cs : List Child) (i : ℕ) (c : Child) → i < length cs → c ≡ get_or cs i c
     → ids_among f (child_views (drop i cs)) ≡ unwrap_or (ids_of_child f (child_view c)) (ids_among f (child_views (drop (i + 1) cs)))
 left f cs i c lt is =

@@ -27,7 +27,7 @@ prefix_ties None (Some y) = refl
 prefix_ties (Some x) None = refl
 prefix_ties (Some x) (Some y) = texts_ties x y
 
--- the order of names tells the same names apart as their equality
+-- the order of names distinguishes the same names as their equality
 name_ties : (x y : QualName) → is_same_name x y ≡ is_eq (name_cmp x y)
 name_ties x y =
     both_tied _ _ _ _ (prefix_ties x.prefix y.prefix) (both_tied _ _ _ _ (texts_ties x.ns y.ns) (texts_ties x.local y.local))
@@ -57,7 +57,7 @@ not_before p xs y e =
     position_or_len_push p xs y
     ∙ ap (λ t. cond t (length xs + cond (p y) 0 1) (position_or_len p xs)) (eq-eqb (position_or_len p xs) (length xs) e)
 
--- it changes nothing for what isn't the same
+-- it changes nothing for other names
 place_stays : {X : Type 0} (p : X → Bool) (xs : List X) (y : X) → p y ≡ false → position p (xs ++ y ∷ []) ≡ position p xs
 place_stays p xs y other = elim (eq-or-lt_of_le (prefix_len-le-length (λ x. not (p x)) xs)) [
   | inl e ↦ (
@@ -73,7 +73,7 @@ numbered_none names numbers none empty = subst (λ n. AreNumbered n numbers) (sy
   once = λ k name lt same. absurd (omega (arith, lt));
 })
 
--- what changes neither changes the numbers
+-- a change of something else doesn't change the numbers
 pub numbered_same : (names again : List QualName) (old new : BTreeMap QualName ℕ) → again ≡ names → IsUnchanged old new → AreNumbered names old → AreNumbered again new
 numbered_same names again old new same unchanged k = subst (λ n. AreNumbered n new) (sym same) (record {
   kept = λ name. ap (λ es. lookup (is_at (name_cmp name)) es) unchanged ∙ k.kept name;
@@ -107,7 +107,7 @@ module _ (names : List QualName) (one : QualName) (next : number_of names one �
   pub numbered_more : (old new : BTreeMap QualName ℕ) → Updates name_cmp old new one (Some (length names)) → AreNumbered names old → AreNumbered (names ++ one ∷ []) new
   numbered_more old new put h = record { kept = kept_more old new put h; once = once_more old h }
 
--- the same where the name was copied, once for its place and once for its number
+-- as above, where the name was copied, once for its index and once for its number
 pub numbered_put : (names again : List QualName) (name one key : QualName) (old new : BTreeMap QualName ℕ) (number : ℕ) → number_of names name ≡ length names → again ≡ names ++ one ∷ [] → one ≡ name → key ≡ name → number ≡ length names
     → Updates name_cmp old new key (Some number) → AreNumbered names old → AreNumbered again new
 numbered_put names again name one key old new number next grown same_one same_key count put h =
@@ -115,7 +115,7 @@ numbered_put names again name one key old new number next grown same_one same_ke
     subst (λ k. Updates name_cmp old new k (Some (length names))) same_key (subst (λ n. Updates name_cmp old new key (Some n)) count put) in
     subst (λ ns. AreNumbered ns new) (sym (grown ∙ ap (λ o. names ++ o ∷ []) same_one)) (numbered_more names name next old new put_here h)
 
--- what a search says
+-- the result of a search
 pub is_new : {X : Type 0} (p : X → Bool) (xs : List X) → position p xs ≡ None → position_or_len p xs ≡ length xs
 is_new p xs none = elim (eq-or-lt_of_le (prefix_len-le-length (λ x. not (p x)) xs)) [
   | inl e ↦ e
@@ -128,7 +128,7 @@ is_known p xs n some = elim (eq-or-lt_of_le (prefix_len-le-length (λ x. not (p 
   | inr lt ↦ lt
 ]
 
--- a name that was met, and one that is new
+-- a name that occurred before, and a new one
 pub name_is_known : (name : QualName) (n : HeldNames) → number_of n.met name < length n.met → with_name name n ≡ n
 unfolding with_name
 name_is_known name n lt =

@@ -55,11 +55,11 @@ pub length-bytes : (ws rest : List ℕ) → length (bytes_of_words ws ++ rest) �
 length-bytes [] rest = omega arith
 length-bytes (w ∷ ws) rest = omega (arith, length-bytes ws rest)
 
--- the four bytes from a place on, as a word
+-- the four bytes from an offset on, as a word
 abbrev four_at : (b : List ℕ) → (at : ℕ) → ℕ
 four_at b at = from_le_bytes w32 (get_or b at 0 ∷ get_or b (at + 1) 0 ∷ get_or b (at + 2) 0 ∷ get_or b (at + 3) 0 ∷ [])
 
--- behind a word
+-- after a word
 four_behind : (w : ℕ) (more : List ℕ) (j : ℕ) → four_at (to_le_bytes w32 w ++ more) (suc j * 4) ≡ four_at more (j * 4)
 four_behind w more j =
     let b = to_le_bytes w32 w ++ more in

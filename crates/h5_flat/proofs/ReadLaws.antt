@@ -16,11 +16,11 @@ both x y one two = ap (λ z. z && y) one ∙ two
 word_if : (t : Bool) (word : ℕ) → t ≡ true → (if t then word else 0) ≡ word
 word_if t word e = ap (λ z. if z then word else 0) e
 
--- words are read from a place on
+-- words are read from an index on
 abbrev StandAt : (block : List ℕ) → (place : ℕ) → (words : List ℕ) → Type 0
 StandAt b at words = (i : ℕ) → i < length words → word_in b (at + i) ≡ get_or words i 0
 
--- where joined words stand, the first of them do, and the others behind them
+-- where joined words are, the first of them come first, and the others after them
 first : (b : List ℕ) (at : ℕ) (xs ys : List ℕ) → StandAt b at (xs ++ ys) → StandAt b at xs
 first b at xs ys h = λ i lt. h i (omega (arith, lt, length-append xs ys)) ∙ get_or_append_left xs ys 0 i lt
 
@@ -30,7 +30,7 @@ behind b at place xs ys same h = λ i lt.
     ∙ h (length xs + i) (omega (arith, lt, length-append xs ys))
     ∙ get_or-append-add xs ys i 0
 
--- a column has one word of each, and one word can stand behind it
+-- a column has one word for each entry, and one word can follow it
 column_read : {X : Type 0} (f : X → ℕ) (xs : List X) (b : List ℕ) (at : ℕ) → StandAt b at (map f xs)
     → (n : ℕ) (d : X) → n < length xs → word_in b (at + n) ≡ f (get_or xs n d)
 column_read f xs b at h n d lt = h n (omega (arith, lt, length-map xs f)) ∙ get_or-map f xs n d 0 lt
@@ -47,7 +47,7 @@ end_read : (xs : List Ended) (b : List ℕ) (at : ℕ) → StandAt b at (ends_in
     → (k : ℕ) (d : Ended) → k < length xs → word_in b (at + k) ≡ (get_or xs k d).end
 end_read xs b at h = column_read {X = Ended} (λ row. row.end) xs b at h
 
--- how many words the columns have, and how many bytes the block
+-- the number of words of the columns, and of bytes of the block
 module _ (c : Columns) where
   abbrev node_count : ℕ
   node_count = length c.nodes.items
@@ -135,7 +135,7 @@ module _ (c : Columns) where
         length-append c.names.text.items c.values.items,
       )
 
--- where the columns stand
+-- the indices of the columns
 module _ (b : List ℕ) (c : Columns) (h : StandAt b 9 (column_words c)) where
   before_names_stand : StandAt b 9 (before_names c)
   before_names_stand = first b 9 (before_names c) (name_words c) h
@@ -234,7 +234,7 @@ module _ (b : List ℕ) (c : Columns) (h : StandAt b 9 (column_words c)) where
       (omega (arith, length-map {A = Ended} c.names.list.items (λ row. row.word)))
       names_stand
 
--- what is read of a block of these words and of this length
+-- the parts of a block of these words and of this length
 module _ (b : List ℕ) (c : Columns) (reads : AreWordsOf b (words_of c)) (long : length b ≡ length_of c) where
   front_read : (i : ℕ) → i < 9 → word_in b i ≡ get_or (front_words c) i 0
   front_read i lt =

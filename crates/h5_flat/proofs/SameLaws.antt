@@ -1,4 +1,4 @@
--- What is known of the parts of a node is known of the node.
+-- The facts about the parts of a node are facts about the node.
 use Rattle.std.proofs.Common.{◌≡◌, ◌≤◌, ℕ, Bool, List, Option, None, Some, ap, false, length, option_map, slice_get, sym}
 use Rattle.std.specs.Option.{option_map_or}
 use Rattle.std.proofs.lemmas.Option.{none-some, slice_get_past}
@@ -15,7 +15,7 @@ by_parts test None kind attrs contents children k a co ch = absurd (none-some ki
 by_parts test (Some d) kind attrs contents children k a co ch = cc
 
 module _ (b : List ℕ) (u : Unpacked) (n at : ℕ) where
-  -- where there is no node, none is the same
+  -- if there is no node, none is equal
   pub nowhere : length u.arena.nodes ≤ at → false ≡ is_same_in b u n at
   unfolding is_same_in
   nowhere le = sym (ap (λ node. option_map_or (λ (d : Node). is_same_node b u n d.kind d.attrs d.contents d.children) node false) (slice_get_past u.arena.nodes at le))

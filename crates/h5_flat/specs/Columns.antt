@@ -1,4 +1,4 @@
--- The columns that are made of the calls that tell of a tree: what is held between two calls, and what each call adds.
+-- The columns of a walk's calls: the data between two calls, and the effect of each call.
 use Rattle.std.specs.Prelude.{ℕ, ◌+◌, ◌*◌, ◌&&◌, Bool, if◌then◌else◌, List, [], ◌∷◌, ◌++◌, Option, None, Some, codes, length, slice_get, slice_set, nat_lt}
 use Rattle.std.specs.List.{position_or_len}
 use Rattle.std.specs.Option.{option_and_then, option_map_or, unwrap_or}
@@ -19,7 +19,7 @@ use Rattle.h5_flat.specs.declared.columns.Ended.{Ended}
 use Rattle.h5_flat.specs.declared.columns.FlatNode.{FlatNode}
 use Rattle.h5_flat.specs.declared.names.Names.{Names}
 
--- words, each with a text: of each the word and where its text ends, and the texts, one behind the other
+-- words, each with a text: each word with the end of its text, and the texts, one after the other
 pub record Texts : Type 0 where
   pub list : List Ended
   pub bytes : List ℕ
@@ -30,7 +30,7 @@ no_texts = record { list = []; bytes = [] }
 unfoldable pub with_text : (word : ℕ) → (text : List ℕ) → Texts → Texts
 with_text word text t = record { list = t.list ++ (record { word = word; end = length (t.bytes ++ text) }) ∷ []; bytes = t.bytes ++ text }
 
--- the names that were met, and their texts
+-- the names so far, and their texts
 pub record HeldNames : Type 0 where
   pub met : List QualName
   pub texts : Texts
@@ -43,8 +43,8 @@ pub record DoctypeIds : Type 0 where
 abbrev pub no_ids : DoctypeIds
 no_ids = record { public_id = []; system_id = [] }
 
--- what is held between two calls: the nodes, the rows, the names and the texts so far, the node below which the next ones stand, and the
--- identifiers of a doctype to come
+-- the data between two calls: the nodes, rows, names and texts so far, the parent of the next nodes, and the identifiers of the next
+-- doctype
 pub record Held : Type 0 where
   pub quirks : ℕ
   pub nodes : List FlatNode
@@ -68,7 +68,7 @@ held c = record {
   ids = record { public_id = c.public_id.items; system_id = c.system_id.items };
 }
 
--- the number of a namespace: 0 for none, 7 for one that HTML doesn't know
+-- the number of a namespace: 0 for no namespace, 7 for one that HTML doesn't know
 unfoldable pub namespace_number : List ℕ → ℕ
 namespace_number ns =
     if is_same_text ns html_text then 1
@@ -88,15 +88,15 @@ prefix_number prefix =
     else (if is_same_text prefix (codes "xmlns") then 3
     else 4))
 
--- both in one word, where 0 stands for no prefix
+-- both in one word; 0 means no prefix
 unfoldable pub name_word : QualName → ℕ
 name_word name = namespace_number name.ns + option_map_or prefix_number name.prefix 0 * 256
 
--- the number of a name: the place of the first that is the same among those met, or how many these are, where it is new
+-- the number of a name: the index of the first equal one among those so far or, if it is new, their number
 abbrev pub number_of : List QualName → QualName → ℕ
 number_of met name = position_or_len (λ one. is_same_name one name) met
 
--- a name is met: one that is new is the next
+-- a name occurs; a new one gets the next number
 unfoldable pub with_name : QualName → HeldNames → HeldNames
 with_name name n =
     if nat_lt (number_of n.met name) (length n.met) then n
@@ -111,11 +111,11 @@ with_node kind h = record h {
   nodes = h.nodes ++ (record { kind = kind; parent = h.current; end = length h.nodes + 1; text = length h.text; row = length h.rows.list }) ∷ [];
 }
 
--- a node below which the next ones stand
+-- a node that becomes the parent of the next ones
 unfoldable pub opened : (kind : ℕ) → Held → Held
 opened kind h = record (with_node kind h) { current = length h.nodes }
 
--- the current node ends here, and the next ones stand where it does
+-- the current node ends here, and its parent becomes the current node
 unfoldable pub closed : Held → Held
 closed h =
     option_map_or (λ node. record h { nodes = slice_set h.nodes h.current (record node { end = length h.nodes }); current = node.parent })
@@ -132,11 +132,11 @@ unfoldable pub with_attributes : Held → List AttributeText → Held
 with_attributes h [] = h
 with_attributes h (a ∷ attrs) = with_attributes (with_attribute h a) attrs
 
--- an element is opened: its kind is 1, with the number of its name above
+-- an element is opened: its kind is 1, with the number of its name in the upper bits
 unfoldable pub element_opened : QualName → Held → Held
 element_opened name h = opened (number_of h.names.met name * 256 + 1) (named name h)
 
--- what stands in a template stands below its contents, a fragment
+-- the content of a template is below its contents, a fragment
 abbrev pub is_template : QualName → Bool
 is_template name = is_same_text name.ns html_text && is_same_text name.local (codes "template")
 
@@ -150,11 +150,11 @@ element_closed name h = if is_template name then closed (closed h) else closed h
 unfoldable pub with_bytes : List ℕ → Held → Held
 with_bytes text h = record h { text = h.text ++ text }
 
--- the identifiers of the doctype as its rows; no other doctype has any
+-- the identifiers of the doctype as its rows; any other doctype has none
 unfoldable pub with_ids : Held → Held
 with_ids h = with_row nothing h.ids.system_id (with_row nothing h.ids.public_id (record h { ids = no_ids }))
 
--- a call: an element is opened, with its attributes as rows, and closed; all else is a node with its text, or with rows
+-- a call: an element is opened, with its attributes as rows, and closed; any other call is a node with its text, or with rows
 abbrev pub after_call : Held → Call → Held
 after_call h (StartOf name attrs) = contents_opened name (with_attributes (element_opened name h) attrs)
 after_call h (EndOf name) = element_closed name h
@@ -169,7 +169,7 @@ quirks_number NoQuirks = 0
 quirks_number LimitedQuirks = 1
 quirks_number Quirks = 2
 
--- nothing is held yet
+-- no data yet
 abbrev pub nothing_held : (quirks : QuirksMode) → DoctypeIds → Held
 nothing_held quirks ids = record {
   quirks = quirks_number quirks;
@@ -198,11 +198,11 @@ unfoldable pub ids_among : Forest → List Child → DoctypeIds
 ids_among f [] = no_ids
 ids_among f (c ∷ cs) = unwrap_or (ids_of_child f c) (ids_among f cs)
 
--- the columns of a document: those of the calls of what stands below it
+-- the columns of a document: those of the calls of everything below it
 unfoldable pub document_columns : ArenaView → Held
 document_columns a =
     let f = forest_seen a in columns_of 9 a.quirks (ids_among f (children_of f 0)) (walk_of f 0 (ChildrenOnly None))
 
--- the columns of a fragment: those of the calls of what stands below its root, if it has one
+-- the columns of a fragment: those of the calls of everything below its root, if there is one
 unfoldable pub fragment_columns : ArenaView → Held
 fragment_columns a = columns_of 11 a.quirks no_ids (option_map_or (λ root. walk_of (forest_seen a) root (ChildrenOnly None)) (fragment_root a) [])

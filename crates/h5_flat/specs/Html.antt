@@ -1,4 +1,4 @@
--- A node of a block as HTML (HTML standard, section 13.3, "Serializing HTML fragments"): the calls that tell of it, and what is written for them.
+-- A node of a block as HTML (HTML standard, section 13.3, "Serializing HTML fragments"): its calls, and their text.
 use Rattle.std.specs.Prelude.{ℕ, ◌+◌, ◌-◌, ◌==◌, Bool, if◌then◌else◌, List, [], ◌∷◌, ◌++◌, None, Some, nat_le, nat_lt}
 use Prim.Native.Nat.{zero, suc}
 use Rattle.h5_serialize.specs.Call.{Call, CommentOf, DoctypeOf, EndOf, InstructionOf, StartOf, TextOf}
@@ -11,7 +11,7 @@ use Rattle.h5_flat.specs.Block.{end_in, kind_in, name_in, nodes_in}
 use Rattle.h5_flat.specs.Read.{attributes_of, name_of, text_of, value_of}
 
 module _ (b : List ℕ) where
-  -- a node begins with the start of an element, or is told whole; a document and a fragment make no call of their own
+  -- the first calls of a node: the start of an element, or all of another node; a document and a fragment have no calls themselves
   unfoldable pub begin_calls : (node : ℕ) → List Call
   begin_calls n =
       if kind_in b n == 1 then StartOf (name_of b (name_in b n)) (attributes_of b n) ∷ []
@@ -21,11 +21,11 @@ module _ (b : List ℕ) where
       else (if kind_in b n == 10 then DoctypeOf (value_of b n 0) ∷ []
       else []))))
 
-  -- and ends with the end of an element
+  -- the last calls of a node: the end of an element
   unfoldable pub end_calls : (node : ℕ) → List Call
   end_calls n = if kind_in b n == 1 then EndOf (name_of b (name_in b n)) ∷ [] else []
 
-  -- the ends of the nodes that were begun, innermost first, where another node begins, and those that stay open there
+  -- the ends of the open nodes, innermost first, that end before another node; and those that stay open there
   unfoldable pub ends_before : (node : ℕ) → (begun : List ℕ) → List Call
   ends_before n [] = []
   ends_before n (inner ∷ begun) = if nat_le (end_in b inner) n then end_calls inner ++ ends_before n begun else []
@@ -34,7 +34,7 @@ module _ (b : List ℕ) where
   open_at n [] = []
   open_at n (inner ∷ begun) = if nat_le (end_in b inner) n then open_at n begun else inner ∷ begun
 
-  -- the calls of so many nodes from one on, where these were begun, and of the ends behind the last
+  -- the calls of this number of nodes from one on, with these nodes open, and of the ends after the last
   unfoldable pub calls_from : (node : ℕ) → (begun : List ℕ) → (count : ℕ) → List Call
   calls_from n begun zero = ends_before n begun
   calls_from n begun (suc count) = ends_before n begun ++ (begin_calls n ++ calls_from (n + 1) (n ∷ open_at n begun) count)
@@ -43,18 +43,18 @@ module _ (b : List ℕ) where
   abbrev pub calls_of : (from to : ℕ) → List Call
   calls_of from to = calls_from from [] (to - from)
 
-  -- those of a node with what stands below it, or of what stands below it alone; none where there is no such node
+  -- the calls of a node with its subtree, or only of its subtree; none if there is no such node
   unfoldable pub calls_in : (node : ℕ) → (is_outer : Bool) → List Call
   calls_in n is_outer = if nat_lt n (nodes_in b) then calls_of (if is_outer then n else n + 1) (end_in b n) else []
 
-  -- what stands below an element alone is written as inside of it
+  -- the content of an element alone is written as inside it
   unfoldable pub scope_in : (node : ℕ) → (is_outer : Bool) → TraversalScope
   scope_in n is_outer = if is_outer then ChildrenOnly None else (if kind_in b n == 1 then ChildrenOnly (Some (name_of b (name_in b n))) else ChildrenOnly None)
 
-  -- what is written of a node
+  -- the HTML of a node
   unfoldable pub html_of : (node : ℕ) → (is_outer : Bool) → List ℕ
   html_of n is_outer = walk_text (new_standing (opts_for (scope_in n is_outer))) (calls_in n is_outer)
 
--- calls were made on the serializer of HTML, and none met a fault
+-- calls were made on the HTML serializer, and all succeeded
 abbrev pub AreTold : List Call → (old new : HtmlState) → Type 0
 AreTold calls old new = AreMade answer_to standing_after text_written IsBrokenBy old.standing old.contents calls new.standing new.contents

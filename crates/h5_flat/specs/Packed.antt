@@ -12,7 +12,7 @@ use Rattle.h5_flat.specs.declared.columns.FlatNode.{FlatNode}
 use Rattle.h5_flat.specs.declared.columns.NodeWord.{NodeWord}
 use Rattle.h5_flat.specs.declared.columns.NodeWord.TheVariants.{End, Kind, Parent, Row, Text}
 
--- words as bytes, the least byte of each first
+-- words as bytes, in little-endian order
 abbrev pub bytes_of_words : (words : List ℕ) → List ℕ
 bytes_of_words = flat_map (to_le_bytes w32)
 
@@ -30,7 +30,7 @@ word_of Row node = node.row
 abbrev pub column : NodeWord → List FlatNode → List ℕ
 column which = map (word_of which)
 
--- and one word of each row or name, and where its bytes end
+-- and one word of each row or name, and the end of its bytes
 abbrev pub ended_word : EndedWord → Ended → ℕ
 ended_word About row = row.word
 ended_word ended.End row = row.end
@@ -44,7 +44,7 @@ words_in = ended_column About
 abbrev pub ends_in : List Ended → List ℕ
 ends_in = ended_column ended.End
 
--- the columns of nodes, of which texts and rows have one word more, those of rows, and those of names
+-- the columns of nodes (those of texts and of rows have one word more), those of rows, and those of names
 abbrev pub node_words : Columns → List ℕ
 node_words c = column Kind c.nodes.items ++ column Parent c.nodes.items ++ column End c.nodes.items
 
@@ -57,18 +57,18 @@ row_words c = words_in c.rows.items ++ ends_in c.rows.items
 abbrev pub name_words : Columns → List ℕ
 name_words c = words_in c.names.list.items ++ ends_in c.names.list.items
 
--- the columns, one behind the other, and the bytes behind them
+-- the columns, one after the other, and the bytes after them
 abbrev pub column_words : Columns → List ℕ
 column_words c = node_words c ++ place_words c ++ row_words c ++ name_words c
 
 abbrev pub column_bytes : Columns → List ℕ
 column_bytes c = c.names.text.items ++ c.values.items ++ c.text.items
 
--- how many bytes all that takes, with nine words in front
+-- the number of bytes of all that, with the first nine words
 abbrev pub length_of : Columns → ℕ
 length_of c = (11 + 5 * length c.nodes.items + 2 * length c.rows.items + 2 * length c.names.list.items) * 4 + length c.names.text.items + length c.values.items + length c.text.items
 
--- the nine words in front of them
+-- the first nine words
 abbrev pub front_words : Columns → List ℕ
 front_words c =
     0x31544748 ∷ length_of c ∷ c.quirks

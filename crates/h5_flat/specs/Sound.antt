@@ -1,10 +1,10 @@
--- A block is sound if its nodes are a tree in tree order, of which node 0 is the root, and if the columns of texts, rows and names are in
--- order, too.
+-- A block is sound if its nodes are a tree in tree order, with node 0 as the root, and if the columns of texts, rows and names are in order
+-- as well.
 use Rattle.std.specs.Prelude.{ℕ, ◌+◌, ◌-◌, ◌==◌, ◌&&◌, ◌||◌, Bool, true, if◌then◌else◌, List, nat_le, nat_lt}
 use Prim.Native.Nat.{zero, suc}
 use Rattle.h5_flat.specs.Block.{end_before, ends_at, first_row_in, kind_in, name_ends_at, name_in, names_in, nodes_in, nothing, parents_at, row_ends_at, rows_in, texts_at, word_in}
 
--- whether a test passes on each number below a limit
+-- true if a test passes for each number below a limit
 abbrev pub all_below : (test : ℕ → Bool) → (limit : ℕ) → Bool
 all_below test zero = true
 all_below test (suc n) = all_below test n && test n
@@ -19,7 +19,7 @@ module _ (b : List ℕ) where
   abbrev pub text_word : ℕ → ℕ
   text_word n = word_in b (texts_at (nodes_in b) + n)
 
-  -- a node ends behind itself, and inside of its parent
+  -- a node ends after it begins, and within its parent
   abbrev pub stands : ℕ → Bool
   stands n =
       if n == 0 then parent_word 0 == nothing && end_word 0 == nodes_in b
@@ -48,7 +48,7 @@ module _ (b : List ℕ) where
       stands n && (is_in_order n && (has_kind n && (nat_le (text_word n) (text_word (n + 1)) && (nat_le (first_row_in b n) (first_row_in b (n + 1))
       && (name_in b n == nothing || nat_lt (name_in b n) (names_in b))))))
 
-  -- whether an end in a column comes behind the one before
+  -- true if an end in a column isn't before the one before
   abbrev pub does_grow : (column index : ℕ) → Bool
   does_grow column index = nat_le (end_before b column index) (word_in b (column + index))
 

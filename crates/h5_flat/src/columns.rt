@@ -1,4 +1,4 @@
-//! What takes the calls that tell of a tree, and keeps its nodes.
+//! A serializer that stores the nodes of a walk in columns.
 ghost use Rattle.std.specs.Prelude.{◌≡◌, List, IfOk, OnOk, length, map};
 ghost use Rattle.std.specs.Iterator.{Drains, IsFinite};
 ghost use Rattle.h5_serialize.specs.Call.{StartOf};
@@ -19,12 +19,12 @@ use std::alloc::{AllocError, Global};
 /// A node of a tree, as words.
 #[derive(Clone, Copy)]
 pub(crate) struct FlatNode {
-    // The kind, with the number of the name of an element above.
+    // The kind, with the number of an element's name in the upper bits.
     pub(crate) kind: u32,
     pub(crate) parent: u32,
-    // The first node behind all that stands below this one.
+    // The first node after the subtree.
     pub(crate) end: u32,
-    // Where the texts from this node on begin, and the first row from it on.
+    // The offset of the texts from this node on, and the index of its first row.
     pub(crate) text: u32,
     pub(crate) row: u32,
 }
@@ -53,7 +53,7 @@ impl FlatNode {
     }
 }
 
-/// A row, or a name: a word about it, and where its bytes end.
+/// A row or a name: a word about it, and the end of its bytes.
 #[derive(Clone, Copy)]
 pub(crate) struct Ended {
     pub(crate) word: u32,
@@ -83,19 +83,19 @@ impl Ended {
 pub struct Columns {
     pub(crate) quirks: u32,
     pub(crate) nodes: Vec<FlatNode>,
-    // Of each row the number of its name, and where its value ends.
+    // For each row, the number of its name, and the end of its value.
     pub(crate) rows: Vec<Ended>,
     pub(crate) names: Names,
     pub(crate) values: Vec<u8>,
     pub(crate) text: Vec<u8>,
-    // The node below which the next ones stand.
+    // The parent of the next nodes.
     current: u32,
-    // The identifiers of a doctype to come, of which the calls don't tell.
+    // The identifiers of the next doctype, which the calls don't have.
     public_id: Vec<u8>,
     system_id: Vec<u8>,
 }
 
-// Whether what stands below an element stands in its contents.
+// Returns true if the children of an element are in its template contents.
 fn is_template(name: &QualName) -> bool
     ensures { result ≡ c.is_template name.now }
 {
@@ -103,7 +103,7 @@ fn is_template(name: &QualName) -> bool
 }
 
 impl Columns {
-    /// Nothing yet, but the identifiers of a doctype to come.
+    /// Empty columns, with the identifiers of the next doctype.
     #[tactic(auto, unfolding(crate::specs::Columns::held))]
     pub(crate) fn new(
         alloc: Global,
@@ -126,7 +126,7 @@ impl Columns {
         })
     }
 
-    // The number of a name. One that is new gets the next one.
+    // The number of a name. A new name gets the next number.
     #[tactic(auto, unfolding(crate::specs::Columns::held, crate::specs::Columns::named))]
     fn number(&mut self, name: &QualName) -> Result<u32, AllocError>
         ensures number { IfOk result (λ number. number ≡ c.number_of (held self.old).names.met name.now) }
@@ -135,7 +135,7 @@ impl Columns {
         self.names.number(name)
     }
 
-    // A new node below the current one, with nothing below it.
+    // Adds a node below the current one, with nothing below it.
     #[tactic(auto, unfolding(crate::specs::Columns::held, crate::specs::Columns::with_node))]
     fn add(&mut self, kind: u32) -> Result<u32, AllocError>
         ensures index { IfOk result (λ index. index ≡ length self.old.nodes.items) }
@@ -152,7 +152,7 @@ impl Columns {
         Ok(index)
     }
 
-    /// A new node, below which the next ones stand.
+    /// Adds a node that becomes the parent of the next ones.
     #[tactic(auto, unfolding(crate::specs::Columns::held, crate::specs::Columns::opened))]
     pub(crate) fn open(&mut self, kind: u32) -> Result<(), AllocError>
         ensures { OnOk result (held self.new ≡ c.opened kind (held self.old)) }
@@ -161,7 +161,7 @@ impl Columns {
         Ok(())
     }
 
-    /// All that stands below the current node was told.
+    /// Ends the current node.
     #[tactic(auto, unfolding(crate::specs::Columns::held, crate::specs::Columns::closed))]
     pub(crate) fn close(&mut self) -> Result<(), AllocError>
         ensures { OnOk result (held self.new ≡ c.closed (held self.old)) }
@@ -175,7 +175,7 @@ impl Columns {
         Ok(())
     }
 
-    // A row of the newest node.
+    // Adds a row to the newest node.
     #[tactic(auto, unfolding(crate::specs::Columns::held, crate::specs::Columns::with_row, crate::specs::Columns::with_text))]
     fn add_row(&mut self, name: u32, value: &[u8]) -> Result<(), AllocError>
         ensures { OnOk result (held self.new ≡ c.with_row name value.now (held self.old)) }
@@ -220,7 +220,7 @@ impl Columns {
         Ok(())
     }
 
-    // What stands in a template stands below its contents.
+    // The content of a template is below its contents.
     #[tactic(auto, unfolding(crate::specs::Columns::contents_opened))]
     fn open_contents(&mut self, name: &QualName) -> Result<(), AllocError>
         ensures { OnOk result (held self.new ≡ c.contents_opened name.now (held self.old)) }
@@ -231,7 +231,7 @@ impl Columns {
         Ok(())
     }
 
-    // The start of an element.
+    // Adds the start of an element.
     fn start<T: AttrRef, I: Iterator<Item = T> + Drop>(
         &mut self,
         name: &QualName,
@@ -257,7 +257,7 @@ impl Columns {
         self.close()
     }
 
-    // The identifiers of the doctype that was to come. No other has any.
+    // Takes the identifiers of the next doctype. Any other doctype has none.
     #[tactic(auto, unfolding(crate::specs::Columns::held))]
     fn take_ids(&mut self) -> (Vec<u8>, Vec<u8>)
         ensures public_id { result.0.items ≡ (held self.old).ids.public_id }
@@ -270,7 +270,7 @@ impl Columns {
         (public_id, system_id)
     }
 
-    // The identifiers of the doctype, as its rows.
+    // Adds the identifiers of the doctype as rows.
     #[tactic(auto, unfolding(crate::specs::Columns::with_ids))]
     fn add_ids(&mut self) -> Result<(), AllocError>
         ensures { OnOk result (held self.new ≡ c.with_ids (held self.old)) }
@@ -280,7 +280,7 @@ impl Columns {
         self.add_row(NOTHING, system_id.as_slice())
     }
 
-    // A node that has no name, with its first row.
+    // Adds a node without a name, with its first row.
     fn add_with_row(&mut self, kind: u32, row: &str) -> Result<(), AllocError>
         ensures { OnOk result (held self.new ≡ c.with_row b.nothing row.now (c.with_node kind (held self.old))) }
     {
@@ -288,7 +288,7 @@ impl Columns {
         self.add_row(NOTHING, row.as_bytes())
     }
 
-    // The text of the newest node.
+    // Adds the text of the newest node.
     #[tactic(auto, unfolding(crate::specs::Columns::held, crate::specs::Columns::with_bytes))]
     fn add_bytes(&mut self, text: &str) -> Result<(), AllocError>
         ensures { OnOk result (held self.new ≡ c.with_bytes text.now (held self.old)) }

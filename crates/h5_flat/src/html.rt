@@ -1,4 +1,4 @@
-//! A node of a block, written as HTML.
+//! Serializes a node of a block as HTML.
 ghost use Rattle.std.specs.Prelude.{◌≡◌, ◌≤◌, [], ◌∷◌, IfOk, OnOk, reverse};
 ghost use Rattle.h5_names.specs.AttributeText.{attribute_text, attribute_texts};
 ghost use Rattle.h5_serialize.specs.Call.{StartOf};
@@ -18,7 +18,7 @@ use std::alloc::{AllocError, Global};
 type Html = HtmlSerializer<Vec<u8>>;
 
 impl<'a> View<'a> {
-    /// The text of a text and of what stands below another node.
+    /// The text of a text node, or the text below another node.
     #[tactic(auto, unfolding(crate::specs::Read::text_of))]
     pub(crate) fn text_of(&self, node: u32) -> &'a str
         ensures { result.now ≡ r.text_of self.now.block.now node }
@@ -59,7 +59,7 @@ impl<'a> View<'a> {
         }
     }
 
-    /// The name of a number.
+    /// The name with this number.
     #[tactic(auto, unfolding(crate::specs::Read::name_of))]
     pub(crate) fn qual_name(&self, alloc: Global, name: u32) -> Result<QualName, AllocError>
         ensures { IfOk result (λ result. result ≡ r.name_of self.now.block.now name) }
@@ -70,7 +70,7 @@ impl<'a> View<'a> {
         Ok(QualName::new(prefix, ns, local))
     }
 
-    // The number of the name of a row.
+    // The number of a row's name.
     pub(crate) fn row_name(&self, node: u32, index: u32) -> u32
         ensures { result ≡ r.row_name_of self.now.block.now node index }
     {
@@ -108,7 +108,7 @@ impl<'a> View<'a> {
         html.start_elem(self.qual_name(alloc, self.name(node))?, attrs.iter())
     }
 
-    // Writes the begin of a node: the start of an element, or all of another node.
+    // Writes the start of an element, or all of another node.
     fn begin(&self, alloc: Global, node: u32, html: &mut Html) -> Result<(), SerializeFault>
         ensures { OnOk result (h.AreTold (h.begin_calls self.now.block.now node) html.old html.new) }
     {
@@ -133,7 +133,7 @@ impl<'a> View<'a> {
         Ok(())
     }
 
-    // Ends the open nodes behind which a node stands.
+    // Ends the open nodes that end before a node.
     fn close_before(
         &self,
         alloc: Global,
@@ -177,7 +177,7 @@ impl<'a> View<'a> {
         self.close_before(alloc, &mut begun, to, html)
     }
 
-    // Writes a node with what stands below it, or what stands below it alone.
+    // Writes a node with its subtree, or only its subtree.
     #[tactic(auto, unfolding(crate::specs::Html::calls_in))]
     fn write_node(
         &self,
@@ -195,7 +195,7 @@ impl<'a> View<'a> {
         self.write(alloc, from, self.end(node), html)
     }
 
-    // The options for what stands below a node, or for all.
+    // The options for a node, or for its subtree only.
     #[tactic(auto, unfolding(crate::specs::Html::scope_in))]
     fn options(&self, alloc: Global, node: u32, is_outer: bool) -> Result<SerializeOpts, AllocError>
         ensures { IfOk result (λ opts. opts ≡ opts_for (h.scope_in self.now.block.now node is_outer)) }
@@ -218,8 +218,8 @@ impl<'a> View<'a> {
     }
 }
 
-/// The HTML of a node with itself, or of what stands below it (HTML standard, section 13.3, "Serializing HTML fragments"). Nothing is
-/// written where there is no such node. An `AllocError` where memory is refused.
+/// Returns the HTML of a node, or only of its content (HTML standard, section 13.3, "Serializing HTML fragments"); nothing if there is no
+/// such node. Fails with `AllocError` if an allocation fails.
 pub fn html_of(
     alloc: Global,
     view: &View<'_>,

@@ -1,10 +1,15 @@
 //! A tree as one block of bytes.
 //!
-//! `columns` takes the calls that tell of a tree and keeps its nodes as columns of words, in tree order, and `of_arena` takes those of an
-//! arena. `pack` writes the columns into one block, and `view` reads such a block: each read is checked, so any bytes may be read as a
-//! tree, and `soundness` tells whether they are one. `names` keeps names, `numbered_names` numbers them, and `numbers` numbers kinds and
-//! namespaces. `html` writes a node of a block. `unpack` makes an arena of a block again, and `same_tree` tells whether it has the tree of
-//! the block.
+//! `columns` stores the nodes of a walk as columns of words, in tree order, and `of_arena` does this for an arena. `pack` writes the
+//! columns as one block. `view` reads a block: each read is checked, so any bytes can be read, and `soundness` decides if they are a tree.
+//! `names` stores names, `numbered_names` numbers them, and `numbers` numbers kinds and namespaces. `html` serializes a node of a block.
+//! `unpack` makes an arena from a block, and `same_tree` compares the two.
+//!
+//! It is proved that a packed block is read as its columns (`IsReadAs` in `specs/Packed.antt`), and that an arena made from a block has the
+//! block's tree (`IsTreeOf` in `specs/SameTree.antt`).
+//!
+//! This crate depends on h5_names, h5_interface, h5_serialize and h5_arena. Begin with `specs/Columns.antt` and `specs/Block.antt`; then
+//! read `specs/Packed.antt`.
 #![tactic(auto)]
 
 mod columns;

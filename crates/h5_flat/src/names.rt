@@ -8,21 +8,21 @@ use super::numbers::{NOTHING, name_word, namespace_number, short};
 use h5_names::{KnownName, QualName};
 use std::alloc::{AllocError, Global};
 
-// Room for each known name in each of eight namespaces.
+// A slot for each known name in each of eight namespaces.
 const KNOWN: usize = 8192;
 
-/// The names that were met, in the order in which they were.
+/// The names so far, in the order in which they occurred.
 #[derive(Drop)]
 pub(crate) struct Names {
-    // Of each name its namespace, with its prefix above, and where its text ends.
+    // For each name its namespace, with its prefix in the upper bits, and the end of its text.
     pub(crate) list: Vec<Ended>,
     pub(crate) text: Vec<u8>,
     numbered: NumberedNames,
-    // The number that a known name without a prefix had last, where its search is spared if it has it yet.
+    // The last number of a known name without a prefix, by its slot: it avoids a search if it is still right.
     known: Vec<u32>,
 }
 
-// Where the number of a name is looked for first. Nothing for a name with a prefix, and for one that HTML doesn't know.
+// The slot of a name. `None` for a name with a prefix, and for one that HTML doesn't know.
 fn slot(name: &QualName) -> Option<usize> {
     let known = name.local.known();
     if name.prefix.is_some() || known == KnownName::Other {
@@ -33,7 +33,7 @@ fn slot(name: &QualName) -> Option<usize> {
 }
 
 impl Names {
-    /// No name yet.
+    /// No names yet.
     pub(crate) fn new(alloc: Global) -> Result<Names, AllocError>
         ensures { IfOk result (λ names. names_held names ≡ record { met = []; texts = no_texts }) }
     {
@@ -45,7 +45,7 @@ impl Names {
         })
     }
 
-    // A name that is new.
+    // Adds a new name.
     fn add(&mut self, name: &QualName) -> Result<u32, AllocError>
         requires { number_of (names_held self.old).met name.now ≡ length (names_held self.old).met }
         ensures number { IfOk result (λ number. number ≡ length (names_held self.old).met) }
@@ -88,7 +88,7 @@ impl Names {
         Ok(number)
     }
 
-    /// The number of a name. One that is new gets the next one.
+    /// The number of a name. A new name gets the next number.
     pub(crate) fn number(&mut self, name: &QualName) -> Result<u32, AllocError>
         ensures number { IfOk result (λ number. number ≡ number_of (names_held self.old).met name.now) }
         ensures names { OnOk result (names_held self.new ≡ with_name name.now (names_held self.old)) }

@@ -10,7 +10,7 @@ use std::alloc::{AllocError, Global};
 use std::collections::BTreeMap;
 use std::marker::Model;
 
-/// Names that were met, in the order in which they were. The number of a name is its place.
+/// The names so far, in the order in which they occurred. The number of a name is its index.
 #[derive(Drop)]
 pub(crate) struct NumberedNames {
     names: Vec<QualName>,
@@ -30,7 +30,7 @@ impl Model for NumberedNames {
 }
 
 impl NumberedNames {
-    /// None yet.
+    /// No names yet.
     pub(crate) fn new(alloc: Global) -> NumberedNames
         ensures { result ≡ [] }
     {
@@ -40,7 +40,7 @@ impl NumberedNames {
         }
     }
 
-    /// Whether this is the number of a name, without a search.
+    /// Returns true if this is the number of a name. Doesn't search.
     pub(crate) fn is(&self, number: u32, name: &QualName) -> bool
         ensures number { result ≡ true → number_of self.now name.now ≡ number }
         ensures known { result ≡ true → number < length self.now }
@@ -51,14 +51,14 @@ impl NumberedNames {
         }
     }
 
-    /// The number of a name, or nothing where it is new.
+    /// The number of a name, or `None` if it is new.
     pub(crate) fn find(&self, name: &QualName) -> Option<u32>
         ensures { result ≡ position (λ one. is_same_name one name.now) self.now }
     {
         self.numbers.get(name).copied()
     }
 
-    /// Another name, which is new, gets the next number. It is refused where memory is, and nothing changes then.
+    /// Adds a name, which must be new, and returns its number. Changes nothing if an allocation fails.
     pub(crate) fn add(&mut self, name: &QualName) -> Result<u32, AllocError>
         requires { number_of self.old name.now ≡ length self.old }
         ensures number { IfOk result (λ number. number ≡ length self.old) }

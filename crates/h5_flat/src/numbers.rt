@@ -21,13 +21,13 @@ pub const DOCTYPE: u32 = 10;
 
 pub const FRAGMENT: u32 = 11;
 
-/// No node, and no name.
+/// No node, or no name.
 pub const NOTHING: u32 = 0xffff_ffff;
 
-/// Names lie above the kind in a word, so there are as many as it has room for.
+/// Names are in the bits of a word above the kind; this limits their number.
 pub(crate) const KINDS: u32 = 256;
 
-/// The number of a namespace: 0 for none, 7 for one that HTML doesn't know.
+/// The number of a namespace: 0 for no namespace, 7 for one that HTML doesn't know.
 #[tactic(auto, unfolding(crate::specs::Columns::namespace_number))]
 pub(crate) fn namespace_number(ns: &Namespace) -> u32
     ensures number { result ≡ c.namespace_number ns.now }
@@ -47,7 +47,7 @@ pub(crate) fn namespace_number(ns: &Namespace) -> u32
     }
 }
 
-/// The namespace of a number.
+/// The namespace with this number.
 #[tactic(auto, unfolding(crate::specs::Read::namespace_named))]
 pub(crate) fn namespace_url(number: u32) -> &'static str
     ensures { result.now ≡ r.namespace_named number }
@@ -77,7 +77,7 @@ pub(crate) fn prefix_number(prefix: &str) -> u32
     }
 }
 
-/// The numbers of the namespace and the prefix of a name in one word. No prefix is 0.
+/// The numbers of a name's namespace and prefix in one word; 0 means no prefix.
 #[tactic(auto, unfolding(crate::specs::Columns::name_word))]
 pub(crate) fn name_word(name: &QualName) -> u32
     ensures { result ≡ c.name_word name.now }
@@ -89,7 +89,7 @@ pub(crate) fn name_word(name: &QualName) -> u32
     namespace_number(&name.ns) + prefix * 256
 }
 
-/// The prefix of a number.
+/// The prefix with this number.
 #[tactic(auto, unfolding(crate::specs::Read::prefix_named))]
 pub(crate) fn prefix_text(number: u32) -> Option<&'static str>
     ensures { option_copied result ≡ r.prefix_named number }
@@ -113,7 +113,7 @@ pub(crate) fn quirks_number(quirks: QuirksMode) -> u32
     }
 }
 
-/// A length as a word. The last word stands for nothing, so it is refused as want of memory, and so is what is longer.
+/// A length as a word. A length that doesn't fit fails as a failed allocation does; so does the greatest word, which means nothing.
 pub(crate) fn short(length: usize) -> Result<u32, AllocError>
     ensures length { IfOk result (λ word. word ≡ length) }
     ensures fits { IfOk result (λ word. word < 4294967295) }

@@ -24,7 +24,7 @@ struct Ids<'a> {
     system_id: &'a str,
 }
 
-// Those of a node, if it is a doctype.
+// The identifiers of a node, if it is a doctype.
 fn ids_of(kind: &Kind) -> Option<Ids<'_>>
     ensures { option_map lent result ≡ c.ids_of_kind (kind_view kind.now) }
 {
@@ -41,7 +41,7 @@ fn ids_of(kind: &Kind) -> Option<Ids<'_>>
     }
 }
 
-// Those of a child, if it is a doctype.
+// The identifiers of a child, if it is a doctype.
 fn ids_of_child<'a>(arena: &'a Arena, child: &'a Child) -> Option<Ids<'a>>
     requires { IsChildHeld arena.now child.now }
     ensures { option_map lent result ≡ c.ids_of_child (forest_seen arena.now) (child_view child.now) }
@@ -52,7 +52,7 @@ fn ids_of_child<'a>(arena: &'a Arena, child: &'a Child) -> Option<Ids<'a>>
     }
 }
 
-// Those of the first doctype among children. They are empty where there is none.
+// The identifiers of the first doctype among children; empty if there is none.
 fn ids_among<'a>(arena: &'a Arena, children: &'a [Child]) -> Ids<'a>
     requires { All (IsChildHeld arena.now) children.now }
     ensures { lent result ≡ c.ids_among (forest_seen arena.now) (child_views children.now) }
@@ -68,14 +68,14 @@ fn ids_among<'a>(arena: &'a Arena, children: &'a [Child]) -> Ids<'a>
     }
 }
 
-// Those of the doctype of a document.
+// The identifiers of a document's doctype.
 fn doctype_ids(arena: &Arena) -> Ids<'_>
     ensures { lent result ≡ c.ids_among (forest_seen arena.now) (children_of (forest_seen arena.now) 0) }
 {
     ids_among(arena, arena.children(arena.document()))
 }
 
-// Takes what stands below a node, and ends the root.
+// Stores everything below a node, and ends the root.
 fn take_below(columns: &mut Columns, arena: &Arena, root: NodeId) -> Result<(), AllocError>
     requires { IsHeld arena.now root }
     ensures { OnOk result (held columns.new ≡ c.closed (after_each c.after_call (held columns.old) (walk_of (forest_seen arena.now) root.index (ChildrenOnly None)))) }
@@ -88,8 +88,8 @@ fn take_below(columns: &mut Columns, arena: &Arena, root: NodeId) -> Result<(), 
     columns.close()
 }
 
-/// The columns of a document. An `AllocError` where memory is refused, and where a column has more than 4,294,967,294 entries or
-/// bytes, or the tree more than 16,777,214 names.
+/// Returns the columns of a document. Fails with `AllocError` if an allocation fails, if a column has more than 4,294,967,294 entries or
+/// bytes, or if the tree has more than 16,777,214 names.
 #[tactic(auto, unfolding(crate::specs::Columns::document_columns))]
 pub fn columns_of_document(alloc: Global, arena: &Arena) -> Result<Columns, AllocError>
     ensures { IfOk result (λ columns. held columns ≡ c.document_columns arena.now) }
@@ -101,8 +101,8 @@ pub fn columns_of_document(alloc: Global, arena: &Arena) -> Result<Columns, Allo
     Ok(columns)
 }
 
-/// The columns of the fragment that stands below the root which the parser of a fragment made. Where there is none, it is empty. An
-/// `AllocError` as of [`columns_of_document`].
+/// Returns the columns of a fragment, which is below the root that a fragment parser makes; an empty fragment if there is no root. Fails as
+/// [`columns_of_document`] does.
 #[tactic(auto, unfolding(crate::specs::Columns::fragment_columns))]
 pub fn columns_of_fragment(alloc: Global, arena: &Arena) -> Result<Columns, AllocError>
     ensures { IfOk result (λ columns. held columns ≡ c.fragment_columns arena.now) }

@@ -7,7 +7,7 @@ use super::columns::{Columns, Ended, EndedWord, FlatNode, NodeWord};
 use super::numbers::{NOTHING, short};
 use std::alloc::{AllocError, Global};
 
-/// How many words stand in front of the columns.
+/// The number of words before the columns.
 pub(crate) const FRONT: usize = 9;
 
 /// The first word: the letters HGT1.
@@ -20,7 +20,7 @@ fn put(block: &mut Vec<u8>, word: u32) -> Result<(), AllocError>
     block.extend_from_slice(&word.to_le_bytes())
 }
 
-// A length behind a column of places.
+// The length that follows a column of offsets.
 fn put_length(block: &mut Vec<u8>, length: usize) -> Result<(), AllocError>
     ensures bytes { OnOk result (block.new.items ≡ block.old.items ++ bytes_of_words (length ∷ [])) }
     ensures words { OnOk result (AreWords (length ∷ [])) }
@@ -61,7 +61,7 @@ fn put_ended(block: &mut Vec<u8>, list: &[Ended], which: EndedWord) -> Result<()
 }
 
 impl Columns {
-    // How many bytes the block has.
+    // The length of the block in bytes.
     fn block_length(&self) -> Result<u32, AllocError>
         ensures { IfOk result (λ n. n ≡ length_of self.now) }
     {
@@ -153,7 +153,7 @@ impl Columns {
         block.extend_from_slice(self.text.as_slice())
     }
 
-    /// The tree as one block. An `AllocError` where memory is refused, and where the block has more than 4,294,967,294 bytes.
+    /// Returns the tree as one block. Fails with `AllocError` if an allocation fails, or if the block has more than 4,294,967,294 bytes.
     #[tactic(auto, using(crate::proofs::PackLaws::bytes_append))]
     pub fn pack(&self, alloc: Global) -> Result<Vec<u8>, AllocError>
         ensures block { IfOk result (λ block. block.items ≡ block_of self.now) }

@@ -1,4 +1,4 @@
-//! Whether the tree that was made of a block is the block's.
+//! Compares the tree made from a block with the block.
 ghost use Rattle.std.specs.Prelude.{◌≡◌, option_copied};
 ghost use Rattle.std.specs.Option.{option_eq};
 ghost use Rattle.h5_names.specs.AttributeText.{attribute_text, attribute_texts, is_same_attribute, is_same_name, is_same_text};
@@ -17,7 +17,7 @@ use super::view::View;
 use h5_arena::{Child, Kind, NodeId};
 use h5_names::{Attribute, Prefix, QualName};
 
-// What a node of an arena is, and what it has.
+// The data of a node of an arena.
 #[derive(Clone, Copy)]
 struct Parts<'a> {
     kind: &'a Kind,
@@ -26,7 +26,7 @@ struct Parts<'a> {
     children: &'a [Child],
 }
 
-// Whether a prefix has a text.
+// Returns true if a prefix has this text.
 fn is_prefix(prefix: &Option<Prefix>, text: Option<&str>) -> bool
     ensures { result ≡ option_eq is_same_text prefix.now (option_copied text.entry) }
 {
@@ -38,7 +38,7 @@ fn is_prefix(prefix: &Option<Prefix>, text: Option<&str>) -> bool
 }
 
 impl<'a> View<'a> {
-    // Whether a name is that of a number.
+    // Returns true if a name has this number.
     #[tactic(auto, unfolding(crate::specs::Read::name_of))]
     fn is_name(&self, number: u32, name: &QualName) -> bool
         ensures { result ≡ is_same_name name.now (r.name_of self.now.block.now number) }
@@ -48,7 +48,7 @@ impl<'a> View<'a> {
             && name.local.as_str() == self.local_of(number)
     }
 
-    // Whether an attribute is a row of a node.
+    // Returns true if an attribute equals a row of a node.
     #[tactic(auto, unfolding(crate::specs::Read::attribute_of))]
     fn is_row(&self, node: u32, index: u32, attribute: &Attribute) -> bool
         ensures { result ≡ is_same_attribute (attribute_text attribute.now) (r.attribute_of self.now.block.now node index) }
@@ -57,7 +57,7 @@ impl<'a> View<'a> {
             && attribute.value.as_str() == self.value_of(node, index)
     }
 
-    // Whether attributes are the rows of a node.
+    // Returns true if attributes equal the rows of a node.
     fn are_rows(&self, node: u32, attrs: &[Attribute]) -> bool
         ensures { result ≡ t.are_same_rows self.now.block.now node 0 (attribute_texts attrs.now) }
     {
@@ -72,7 +72,7 @@ impl<'a> View<'a> {
         index == count
     }
 
-    // Whether a node has these attributes. One that is no element has none.
+    // Returns true if a node has these attributes. Only elements have any.
     #[tactic(auto, unfolding(crate::specs::SameTree::are_same_attributes))]
     fn are_attributes(&self, node: u32, attrs: &[Attribute]) -> bool
         ensures { result ≡ t.are_same_attributes self.now.block.now node (attribute_texts attrs.now) }
@@ -84,7 +84,7 @@ impl<'a> View<'a> {
         }
     }
 
-    // Whether an element is that of a number. That of number 0 stands above a fragment.
+    // Returns true if an element has this number. Number 0 is that of the root of a fragment.
     #[tactic(auto, unfolding(crate::specs::SameTree::is_same_element))]
     fn is_element(&self, node: u32, name: &QualName) -> bool
         ensures { result ≡ t.is_same_element self.now.block.now node name.now }
@@ -95,7 +95,7 @@ impl<'a> View<'a> {
         self.kind(node) == ELEMENT && self.is_name(self.name(node), name)
     }
 
-    // Whether a node is what its number says.
+    // Returns true if the kind of a node is that of its number.
     #[tactic(auto, unfolding(crate::specs::SameTree::is_same_kind))]
     fn is_kind(&self, node: u32, kind: &Kind) -> bool
         ensures { result ≡ t.is_same_kind self.now.block.now node (kind_view kind.now) }
@@ -138,7 +138,7 @@ impl<'a> View<'a> {
 }
 
 impl Unpacked {
-    // Whether a child is the node of a number, or its text.
+    // Returns true if a child is the node with this number, or its text.
     #[tactic(auto, unfolding(crate::specs::SameTree::is_same_child))]
     fn is_child(&self, view: &View<'_>, number: u32, child: &Child) -> bool
         ensures { result ≡ t.is_same_child view.now.block.now self.now number (child_view child.now) }
@@ -149,7 +149,7 @@ impl Unpacked {
         }
     }
 
-    // Whether children are those of the numbers from one on, each the next sibling of the one before.
+    // Returns true if children are the nodes from a number on, each the next sibling of the one before.
     fn are_children(&self, view: &View<'_>, first: u32, children: &[Child]) -> bool
         ensures { result ≡ t.are_same_children view.now.block.now self.now first (child_views children.now) }
     {
@@ -163,7 +163,7 @@ impl Unpacked {
         number == NOTHING
     }
 
-    // Whether a node that has such parts is what its number says.
+    // Returns true if the data of a node is that of its number.
     #[tactic(auto, unfolding(crate::specs::SameTree::is_same_node))]
     fn are_parts(&self, view: &View<'_>, number: u32, parts: &Parts<'_>) -> bool
         ensures { result ≡ t.is_same_node view.now.block.now self.now number (kind_view parts.now.kind.now) (attribute_texts parts.now.attrs.now) (optional_place parts.now.contents) (child_views parts.now.children.now) }
@@ -174,7 +174,7 @@ impl Unpacked {
             && self.are_children(view, view.first_behind_contents(number), parts.children)
     }
 
-    // The same of a node of the arena.
+    // Returns true if a node of the arena is that of a number.
     fn is_node(&self, view: &View<'_>, number: u32, id: NodeId) -> bool
         ensures { result ≡ t.is_same_in view.now.block.now self.now number id.index }
     {
@@ -190,7 +190,7 @@ impl Unpacked {
         self.are_parts(view, number, &parts)
     }
 
-    // The same of any number. A text has no node of its own.
+    // Returns true if the node made for a number is right. A text has no separate node.
     #[tactic(auto, unfolding(crate::specs::SameTree::is_same_at))]
     fn is_same_at(&self, view: &View<'_>, number: u32) -> bool
         ensures { result ≡ t.is_same_at view.now.block.now self.now number }
@@ -201,7 +201,7 @@ impl Unpacked {
         }
     }
 
-    // Whether each node of the block has its node.
+    // Returns true if the node of each number is right.
     pub(crate) fn are_nodes_same(&self, view: &View<'_>) -> bool
         ensures { result ≡ s.all_below (t.is_same_at view.now.block.now self.now) (b.nodes_in view.now.block.now) }
     {

@@ -1,4 +1,4 @@
-//! Whether a block is one that a tree was packed into.
+//! Tests if a block is a tree.
 ghost use Rattle.std.specs.Prelude.{◌≡◌, ◌≤◌};
 ghost use Rattle.h5_flat.specs.Block as b;
 ghost use Rattle.h5_flat.specs.Sound as s;
@@ -7,7 +7,7 @@ use super::numbers::{COMMENT, DOCTYPE, DOCUMENT, ELEMENT, FRAGMENT, INSTRUCTION,
 use super::view::{View, word_at};
 
 impl<'a> View<'a> {
-    // Whether a node ends behind itself, and inside of its parent. Node 0 has none, and holds all.
+    // Returns true if a node ends after it begins, and within its parent. Node 0 has no parent, and contains all nodes.
     fn stands(&self, node: u32) -> bool
         ensures { result ≡ s.stands self.now.block.now node }
     {
@@ -63,7 +63,7 @@ impl<'a> View<'a> {
             && (name == NOTHING || name < self.names)
     }
 
-    // Whether each node stands as it has to.
+    // Returns true if each node is sound.
     fn are_nodes_sound(&self) -> bool
         ensures { result ≡ s.all_below (s.is_node_sound self.now.block.now) (b.nodes_in self.now.block.now) }
     {
@@ -75,7 +75,7 @@ impl<'a> View<'a> {
         true
     }
 
-    // Whether the ends of values grow.
+    // Returns true if the ends of values don't decrease.
     fn do_values_grow(&self) -> bool
         ensures { result ≡ s.all_below (s.does_grow self.now.block.now (b.row_ends_at (b.nodes_in self.now.block.now) (b.rows_in self.now.block.now))) (b.rows_in self.now.block.now) }
     {
@@ -87,7 +87,7 @@ impl<'a> View<'a> {
         true
     }
 
-    // The same of the texts of names.
+    // Returns true if the ends of names don't decrease.
     fn do_names_grow(&self) -> bool
         ensures { result ≡ s.all_below (s.does_grow self.now.block.now (b.name_ends_at self.now.block.now)) (b.names_in self.now.block.now) }
     {
@@ -99,7 +99,7 @@ impl<'a> View<'a> {
         true
     }
 
-    // Whether node 0 is a root, from which texts and rows begin.
+    // Returns true if node 0 is a root, where texts and rows begin.
     fn has_root(&self) -> bool
         ensures { result ≡ s.has_root self.now.block.now }
     {
@@ -107,7 +107,7 @@ impl<'a> View<'a> {
         (kind == DOCUMENT || kind == FRAGMENT) && self.text_place(0) == 0 && self.first_row(0) == 0
     }
 
-    // Whether texts and rows, and the bytes of values and names, end where they have to.
+    // Returns true if texts, rows, values and names end where the first words say.
     fn do_ends_fit(&self) -> bool
         ensures { result ≡ s.do_ends_fit self.now.block.now }
     {

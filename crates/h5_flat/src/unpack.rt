@@ -1,20 +1,20 @@
-//! The arena of a block.
+//! Makes an arena from a block.
 ghost use Rattle.std.specs.Prelude.{◌≡◌, IfOk, IfSome, Some, map};
 ghost use Rattle.h5_flat.specs.SameTree.{IsTreeOf, quirks_named};
 ghost use Rattle.h5_flat.specs.Unpacked.{id_of};
 
 use super::numbers::{COMMENT, DOCTYPE, DOCUMENT, ELEMENT, FRAGMENT, INSTRUCTION, TEXT, short};
 use super::view::View;
-use h5_arena::{Arena, Child, NodeId, TreeFault};
+use h5_arena::{Arena, Child, EditError, NodeId};
 use h5_interface::{NodeOrText, QuirksMode, TreeSink, create_element};
 use h5_names::{LocalName, Namespace, QualName, namespaces};
 use std::alloc::{AllocError, Global};
 
-/// A tree that was made of a block. In a fragment an element `html` stands above what node 0 holds, as a parser makes it.
+/// A tree made from a block. In a fragment, the nodes below node 0 are below an `html` element, as a parser makes it.
 #[derive(Drop)]
 pub struct Unpacked {
     pub arena: Arena,
-    // Of each number the node of the arena. A text is none.
+    // For each number, the node of the arena. A text has none.
     ids: Vec<Option<NodeId>>,
 }
 
@@ -29,14 +29,14 @@ fn quirks_of(number: u32) -> QuirksMode
 }
 
 impl Unpacked {
-    /// The node of a number. Nothing for a text, and where there is no such node.
+    /// The node with this number. `None` for a text, and if there is no such node.
     pub fn id(&self, node: u32) -> Option<NodeId>
         ensures { result ≡ id_of self.now node }
     {
         self.ids.as_slice().get(node as usize).copied().flatten()
     }
 
-    /// The numbers of nodes. Nothing where one of them has none, or they don't stand in tree order.
+    /// Returns the numbers of nodes, or `None` if one of them has no number, or if they aren't in tree order.
     pub fn numbers(&self, alloc: Global, found: &[NodeId]) -> Result<Option<Vec<u32>>, AllocError>
         ensures { IfOk result (λ numbers. IfSome numbers (λ numbers. map (id_of self.now) numbers.items ≡ map Some found.now)) }
     {
@@ -54,14 +54,14 @@ impl Unpacked {
         Ok(left.is_empty().then_some(numbers))
     }
 
-    // The element below which a fragment stands.
+    // Makes the root element of a fragment.
     fn make_root(&mut self, alloc: Global) -> Result<NodeId, AllocError> {
         let ns = Namespace::new(alloc, namespaces::HTML)?;
         let name = QualName::new(None, ns, LocalName::new(alloc, "html")?);
         create_element(&mut self.arena, name, Vec::new(alloc))
     }
 
-    // The contents of the template below which a fragment stands, or, where it stands below nothing, a root.
+    // The contents of the template that a fragment belongs to, or a root if it belongs to none.
     fn make_fragment(
         &mut self,
         alloc: Global,
@@ -95,7 +95,7 @@ impl Unpacked {
         self.arena.create_pi(target, text)
     }
 
-    // Makes a doctype. It is the document's last child then.
+    // Makes a doctype, which is then the document's last child.
     fn make_doctype(
         &mut self,
         alloc: Global,
@@ -113,7 +113,7 @@ impl Unpacked {
         }
     }
 
-    // Makes the node of a number. A text is put where it stands, and has none.
+    // Makes the node of a number. A text is inserted where it belongs, and has no node.
     fn make(
         &mut self,
         alloc: Global,
@@ -140,7 +140,7 @@ impl Unpacked {
         }
     }
 
-    // Puts a child below its parent. What can't stand there stands nowhere.
+    // Appends a child to its parent, if it is allowed there.
     fn append(
         &mut self,
         parent: Option<NodeId>,
@@ -150,13 +150,13 @@ impl Unpacked {
             return Ok(());
         };
         match self.arena.try_append(parent, child) {
-            Err(TreeFault::Memory) => Err(AllocError),
+            Err(EditError::Memory) => Err(AllocError),
             _ => Ok(()),
         }
     }
 
-    // Puts the node of a number where it stands, a doctype aside, which does. All that stands below it does, and its parent stands
-    // nowhere yet, so no way up is long.
+    // Appends the node of a number to its parent, except a doctype, which is there already. Its subtree is complete, and its parent isn't
+    // attached yet, so each walk up is short.
     fn attach(&mut self, view: &View<'_>, node: u32) -> Result<(), AllocError> {
         let Some(child) = self.id(node) else {
             return Ok(());
@@ -171,7 +171,7 @@ impl Unpacked {
         self.append(self.id(view.parent(node)), NodeOrText::AppendNode(child))
     }
 
-    // Attaches the open nodes behind which a node stands.
+    // Attaches the open nodes that end before a node.
     fn attach_before(
         &mut self,
         view: &View<'_>,
@@ -203,10 +203,9 @@ impl Unpacked {
     }
 }
 
-/// The tree of a block, in an arena. Nothing where the block isn't one that a tree was packed into. An `AllocError` where memory is
-/// refused.
+/// Returns the tree of a block in an arena, or `None` if the block has no tree. Fails with `AllocError` if an allocation fails.
 ///
-/// The tree is made, and then it is compared with the block: what is given is the block's tree, whatever the bytes are.
+/// The tree is made and then compared with the block, so a tree that is returned is that of the block, for any bytes.
 pub fn arena_of(alloc: Global, view: &View<'_>) -> Result<Option<Unpacked>, AllocError>
     ensures { IfOk result (λ made. IfSome made (IsTreeOf view.now.block.now)) }
 {

@@ -1,4 +1,4 @@
-//! A block, read as a tree. Each read is checked, so any bytes may be a block.
+//! Reads a block as a tree. Each read is checked, so any bytes may be a block.
 ghost use Rattle.std.specs.Prelude.{◌≡◌, ◌≤◌, ◌<◌, ◌⊎◌, ◌+◌, ◌^◌, IfSome, is_some, length};
 ghost use Rattle.h5_flat.specs.Block as b;
 ghost use Rattle.h5_flat.specs.Read as r;
@@ -6,7 +6,7 @@ ghost use Rattle.h5_flat.specs.Read as r;
 use super::numbers::{ELEMENT, FRAGMENT, KINDS, NOTHING};
 use super::pack::{FRONT, MAGIC};
 
-/// The word with this index, or 0 where the block ends before it.
+/// The word with this index, or 0 if the block ends before it.
 pub(crate) fn word_at(block: &[u8], index: usize) -> u32
     requires { index < 2 ^ 60 }
     ensures { result ≡ b.word_in block.now index }
@@ -18,7 +18,7 @@ pub(crate) fn word_at(block: &[u8], index: usize) -> u32
     u32::from_le_bytes([block[at], block[at + 1], block[at + 2], block[at + 3]])
 }
 
-/// Bytes of a block: where they begin, and how many they are.
+/// Bytes of a block: their offset and their number.
 #[derive(Clone, Copy, Debug, PartialEq, Eq)]
 pub struct Span {
     pub at: usize,
@@ -28,19 +28,19 @@ pub struct Span {
 /// A row of a node.
 #[derive(Clone, Copy, Debug, PartialEq, Eq)]
 pub struct Row {
-    /// The number of the name of an attribute, or `NOTHING`.
+    /// The number of an attribute's name, or `NOTHING`.
     pub name: u32,
     pub value: Span,
 }
 
-/// A block whose front fits its length.
+/// A block whose first words agree with its length.
 #[derive(Clone, Copy)]
 pub struct View<'a> {
     pub(crate) block: &'a [u8],
     pub(crate) nodes: u32,
     pub(crate) rows: u32,
     pub(crate) names: u32,
-    // Where the bytes of names, of values and of texts begin.
+    // The offsets of the bytes of names, of values and of texts.
     pub(crate) names_begin: usize,
     pub(crate) values_begin: usize,
     pub(crate) texts_begin: usize,
@@ -49,7 +49,7 @@ pub struct View<'a> {
     ghost near: { (names_begin < 2 ^ 60) × (values_begin < 2 ^ 60) × (texts_begin < 2 ^ 60) },
 }
 
-// The bytes between two places, behind where such bytes begin.
+// The bytes between two offsets, which count from `begin`.
 fn between(block: &[u8], begin: usize, from: u32, to: u32) -> Option<Span>
     requires { begin < 2 ^ 60 }
     ensures { result ≡ b.between block.now begin from to }
@@ -66,7 +66,7 @@ fn between(block: &[u8], begin: usize, from: u32, to: u32) -> Option<Span>
 }
 
 impl<'a> View<'a> {
-    /// The view of a block. Nothing where it doesn't begin as one, or where its front says that it has another length.
+    /// The view of a block. `None` if it doesn't begin as one, or if its first words give another length.
     pub fn of(block: &'a [u8]) -> Option<View<'a>>
         ensures block { IfSome result (λ view. view.block.now ≡ block.now) }
         ensures is { is_some result ≡ b.is_block block.now }
@@ -100,7 +100,7 @@ impl<'a> View<'a> {
         word_at(self.block, 2)
     }
 
-    /// How many nodes there are.
+    /// The number of nodes.
     pub fn node_count(&self) -> u32
         ensures { result ≡ b.nodes_in self.now.block.now }
     {
@@ -117,14 +117,14 @@ impl<'a> View<'a> {
         }
     }
 
-    /// The kind of a node, or 0 where there is no such node.
+    /// The kind of a node, or 0 if there is no such node.
     pub fn kind(&self, node: u32) -> u32
         ensures { result ≡ b.kind_in self.now.block.now node }
     {
         self.kind_word(node) % KINDS
     }
 
-    /// The number of the name of an element. `NOTHING` for another node, and where there is none.
+    /// The number of an element's name. `NOTHING` for another node, and if there is no such node.
     pub fn name(&self, node: u32) -> u32
         ensures { result ≡ b.name_in self.now.block.now node }
     {
@@ -136,14 +136,14 @@ impl<'a> View<'a> {
         }
     }
 
-    /// The parent of a node as it is written.
+    /// The parent of a node as stored.
     pub(crate) fn parent_word(&self, node: u32) -> u32
         ensures { result ≡ b.word_in self.now.block.now (b.parents_at (b.nodes_in self.now.block.now) + node) }
     {
         word_at(self.block, FRONT + self.nodes as usize + node as usize)
     }
 
-    /// The node below which a node stands: a smaller number, or `NOTHING`.
+    /// The parent of a node: a smaller number, or `NOTHING`.
     pub fn parent(&self, node: u32) -> u32
         ensures parent { result ≡ b.parent_in self.now.block.now node }
         ensures before { (result < node) ⊎ (result ≡ 4294967295) }
@@ -155,14 +155,14 @@ impl<'a> View<'a> {
         if parent < node { parent } else { NOTHING }
     }
 
-    /// The end of a node as it is written.
+    /// The end of a node as stored.
     pub(crate) fn end_word(&self, node: u32) -> u32
         ensures { result ≡ b.word_in self.now.block.now (b.ends_at (b.nodes_in self.now.block.now) + node) }
     {
         word_at(self.block, FRONT + 2 * self.nodes as usize + node as usize)
     }
 
-    /// The first node behind all that stands below a node: a greater number, or `NOTHING`.
+    /// The first node after the subtree of a node: a greater number, or `NOTHING`.
     pub fn end(&self, node: u32) -> u32
         ensures end { result ≡ b.end_in self.now.block.now node }
         ensures behind { (node < result) ⊎ (result ≡ 4294967295) }
@@ -203,7 +203,7 @@ impl<'a> View<'a> {
         }
     }
 
-    /// The fragment that holds what stands in a template, or `NOTHING`.
+    /// The fragment that is the contents of a template, or `NOTHING`.
     pub fn contents(&self, node: u32) -> u32
         ensures { result ≡ b.contents_in self.now.block.now node }
     {
@@ -215,15 +215,14 @@ impl<'a> View<'a> {
         }
     }
 
-    /// Where the texts from a node on begin.
+    /// The offset of the texts from a node on.
     pub(crate) fn text_place(&self, node: u32) -> u32
         ensures { result ≡ b.word_in self.now.block.now (b.texts_at (b.nodes_in self.now.block.now) + node) }
     {
         word_at(self.block, FRONT + 3 * self.nodes as usize + node as usize)
     }
 
-    /// The text of a text; of another node the texts of all that stands below it, also in the contents of templates. Nothing where
-    /// there is no such node.
+    /// The text of a text node; for another node the texts below it, including the contents of templates. `None` if there is no such node.
     pub fn text(&self, node: u32) -> Option<Span>
         ensures { result ≡ b.text_in self.now.block.now node }
     {
@@ -234,7 +233,7 @@ impl<'a> View<'a> {
         between(self.block, self.texts_begin, from, to)
     }
 
-    /// The first row from a node on. The column of texts has one word more than there are nodes.
+    /// The index of the first row from a node on. The column of texts has one word more than there are nodes.
     pub(crate) fn first_row(&self, node: u32) -> u32
         ensures { result ≡ b.first_row_in self.now.block.now node }
     {
@@ -244,7 +243,7 @@ impl<'a> View<'a> {
         )
     }
 
-    /// How many rows a node has: an element its attributes, a doctype three, a comment one, an instruction two.
+    /// The number of rows of a node: an element has its attributes, a doctype three rows, a comment one, a processing instruction two.
     pub fn row_count(&self, node: u32) -> u32
         ensures { result ≡ b.row_count_in self.now.block.now node }
     {
@@ -255,7 +254,7 @@ impl<'a> View<'a> {
         behind.saturating_sub(self.first_row(node))
     }
 
-    // Where the columns of rows begin, and those of names.
+    // The indices of the columns of rows, and of those of names.
     fn row_names_at(&self) -> usize
         ensures { result ≡ b.row_names_at (b.nodes_in self.now.block.now) }
     {
@@ -268,7 +267,7 @@ impl<'a> View<'a> {
         self.row_names_at() + 2 * self.rows as usize
     }
 
-    /// Where the value of a row ends.
+    /// The end of a row's value.
     pub(crate) fn value_end(&self, row: u32) -> u32
         ensures { result ≡ b.word_in self.now.block.now (b.row_ends_at (b.nodes_in self.now.block.now) (b.rows_in self.now.block.now) + row) }
     {
@@ -278,7 +277,7 @@ impl<'a> View<'a> {
         )
     }
 
-    /// Where the value of a row begins.
+    /// The start of a row's value.
     pub(crate) fn value_begin(&self, row: u32) -> u32
         ensures { result ≡ b.end_before self.now.block.now (b.row_ends_at (b.nodes_in self.now.block.now) (b.rows_in self.now.block.now)) row }
     {
@@ -292,7 +291,7 @@ impl<'a> View<'a> {
         between(self.block, self.values_begin, from, to)
     }
 
-    /// A row of a node. Nothing where it has no such row.
+    /// A row of a node. `None` if there is no such row.
     pub fn row(&self, node: u32, index: u32) -> Option<Row>
         ensures { result ≡ b.row_in self.now.block.now node index }
     {
@@ -331,7 +330,7 @@ impl<'a> View<'a> {
         self.space_word(name) / 256
     }
 
-    /// Where the text of a name ends.
+    /// The end of a name's text.
     pub(crate) fn name_end(&self, name: u32) -> u32
         ensures { result ≡ b.word_in self.now.block.now (b.name_ends_at self.now.block.now + name) }
     {
@@ -341,7 +340,7 @@ impl<'a> View<'a> {
         )
     }
 
-    /// Where the text of a name begins.
+    /// The start of a name's text.
     pub(crate) fn name_begin(&self, name: u32) -> u32
         ensures { result ≡ b.end_before self.now.block.now (b.name_ends_at self.now.block.now) name }
     {
@@ -352,7 +351,7 @@ impl<'a> View<'a> {
         }
     }
 
-    /// The local name of a name. Nothing where there is no such name.
+    /// The local name of a name. `None` if there is no such name.
     pub fn name_text(&self, name: u32) -> Option<Span>
         ensures { result ≡ b.name_text_in self.now.block.now name }
     {
@@ -363,7 +362,7 @@ impl<'a> View<'a> {
         between(self.block, self.names_begin, from, to)
     }
 
-    // The bytes of a span. There are none where it doesn't lie in the block.
+    // The bytes of a span; none if it isn't within the block.
     #[tactic(auto, unfolding(crate::specs::Read::bytes_in))]
     fn bytes_at(&self, span: Span) -> &'a [u8]
         ensures { result.now ≡ r.bytes_in self.now.block.now span }
@@ -375,7 +374,7 @@ impl<'a> View<'a> {
         &block[span.at..span.at + span.count]
     }
 
-    /// The text of a span. It is empty where the span doesn't lie in the block, or isn't UTF-8.
+    /// The text of a span; empty if the span isn't within the block, or isn't UTF-8.
     pub fn str_at(&self, span: Span) -> &'a str
         ensures { result.now ≡ r.str_in self.now.block.now span }
     {

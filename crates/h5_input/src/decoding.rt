@@ -106,7 +106,7 @@ impl PageText {
             replaced,
         } = self;
         let encoding = decoder.encoding();
-        let replaced = replaced.saturating_add(decoder.replaced());
+        let replaced = replaced.saturating_add(decoder.replacement_count());
         let rest = decoder.finish();
         let how = HowRead {
             encoding,

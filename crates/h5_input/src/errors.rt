@@ -1,7 +1,7 @@
 //! The parse errors of a page, in the order of their lines.
 use super::page::Builder;
 use html_tree_builder::Arena;
-use html_tree_builder::standard::{Errors, ToldError};
+use html_tree_builder::standard::{Errors, LocatedError};
 use html_tree_builder::token::{BuildFault, Token, TokenSink, TokenSinkResult};
 use html_tree_builder::types::TreeError;
 use std::alloc::{AllocError, Global};
@@ -152,7 +152,7 @@ impl PageErrors {
 // Errors that are still to be printed, in their order.
 #[derive(Drop)]
 struct Waiting<'a> {
-    told: &'a [ToldError],
+    told: &'a [LocatedError],
     messages: &'a [String],
     lines: &'a [u64],
 }
@@ -161,7 +161,7 @@ struct Waiting<'a> {
 #[derive(Clone, Copy)]
 pub enum PageError<'a> {
     /// One of tokenization, with its place.
-    Text(ToldError),
+    Text(LocatedError),
     /// One of tree construction: the line of its token, and its message.
     Tree { line: u64, message: &'a str },
 }

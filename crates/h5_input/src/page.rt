@@ -8,7 +8,7 @@ use super::tokens::Written;
 use html_tree_builder::encodings::EncodingOpts;
 use html_tree_builder::interface::{TreeSink, create_element};
 use html_tree_builder::standard::{
-    BufferQueue, Errors, Parser, TellingTokenizer, Tokenizer, TokenizerOpts, parse_document,
+    BufferQueue, Errors, Parser, ReportingTokenizer, Tokenizer, TokenizerOpts, parse_document,
     parse_fragment,
 };
 use html_tree_builder::token::BuildFault;
@@ -116,7 +116,7 @@ pub fn errors_of<R: Read>(
     let (builder, begins) = builder_for(alloc, Arena::new(alloc)?, context)?;
     let (lined, errors) = (Lined::new(alloc, builder), Errors::new(alloc, limit));
     let mut fed = Fed {
-        tokenizer: TellingTokenizer::new(alloc, lined, errors, begins),
+        tokenizer: ReportingTokenizer::new(alloc, lined, errors, begins),
         queue: BufferQueue::new(alloc),
     };
     let how = read_all(alloc, opts, &mut fed, input)?;

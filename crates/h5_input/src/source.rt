@@ -4,7 +4,7 @@ use super::fault::InputFault;
 use html_tree_builder::Arena;
 use html_tree_builder::encodings::EncodingOpts;
 use html_tree_builder::standard::{
-    BufferQueue, ErrorSink, Parser, TellingTokenizer, Tokenizer, TokenizerResult,
+    BufferQueue, ErrorSink, Parser, ReportingTokenizer, Tokenizer, TokenizerResult,
 };
 use html_tree_builder::token::{BuildFault, TokenSink};
 use std::alloc::Global;
@@ -35,7 +35,7 @@ impl<Sink: TokenSink> Feed for Tokenizer<Sink> {
     }
 }
 
-impl<Sink: TokenSink, E: ErrorSink> Feed for TellingTokenizer<Sink, E> {
+impl<Sink: TokenSink, E: ErrorSink> Feed for ReportingTokenizer<Sink, E> {
     fn feed_once(&mut self, queue: &mut BufferQueue) -> Result<bool, BuildFault> {
         let result = self.feed(queue)?;
         Ok(matches!(result, TokenizerResult::Done))
@@ -67,7 +67,7 @@ fn next_bytes<'c, R: Read>(input: &mut R, chunk: &'c mut Vec<u8>) -> Result<&'c 
     Ok(&chunk.as_slice()[..count])
 }
 
-// So many bytes decide the encoding of a page.
+// The number of bytes that decide the encoding of a page.
 const SNIFFED: usize = 1024;
 
 // The first bytes of an input: as many as decide its encoding or somewhat more, or all.

@@ -85,7 +85,7 @@ module _ {S H O : Type 0} (law : Ghosts S H O) (old : S) (state : State H) {name
       ∙ ap (λ t. put (appropriate_place in_midst t) (ChildNode last) (detach last n.forest)) (some_first (root in_midst) (root start) (older_than f.node start.stack) (older_some start r.may r.ready.sound r.ready.root))
       ∙ ap (λ m. put (appropriate_place in_midst (common_ancestor f start)) (ChildNode m) (detach m n.forest)) h
 
-  -- its children are moved, and the sink is told of the formatting element
+  -- its children are moved, and the sink is notified of the formatting element
   pub refilled_and_told : (moved filled new : S) (b n : ℕ) (tag : TagText) → (law.sees moved).forest ≡ placed f (round_nest law.choices start r) start → b ≡ k.block → tag ≡ f.tag → n ≡ f.node
       → law.sees filled ≡ changed (λ g. with_last_child b (ChildNode (law.choices.fresh g)) (reparent b (law.choices.fresh g) (make_for law.choices tag g))) (law.sees moved)
       → law.sees new ≡ after_pop law.choices n (law.sees filled)
@@ -120,7 +120,7 @@ module _ {S H O : Type 0} (law : Ghosts S H O) (old : S) (state : State H) {name
       ∙ ap (λ s. (k.newer ++ s) ++ older) (h ∙ ap (λ ms. own ∷ k.block ∷ ms) m ∙ ap (λ c. c ∷ k.block ∷ n.clones) o)
       ∙ append_assoc k.newer (own_clone law.choices start r ∷ k.block ∷ n.clones) older
 
-  -- all stands then
+  -- the world is sound then
   pub all_after : AllStand (round_forest law.choices start r) (round_stack k.newer (own_clone law.choices start r) k.block (round_nest law.choices start r).clones (older_than f.node start.stack))
       (round_list f.node f.tag k.between (round_nest law.choices start r).clones (own_clone law.choices start r) start.formatting) start.head start.form start.context
   all_after = (adopt_ready law.choices start r.ready r.may).sound
@@ -135,7 +135,7 @@ module _ {S H O : Type 0} (law : Ghosts S H O) (old : S) (state : State H) {name
       ∙ ap (λ ms. record start { forest = g; formatting = round_list f.node f.tag k.between ms own start.formatting }) m
       ∙ ap (λ c. record start { forest = g; formatting = round_list f.node f.tag k.between (round_nest law.choices start r).clones c start.formatting }) o
 
--- what is told of each round with these places
+-- the statement about each round with these places
 pub adopted_told : {T E : Type 0} (result : Result T E) (choices : SinkChoices) (place at block : ℕ) (w new done : World) → OnOk result (new ≡ done)
     → ((name : List ℕ) (f : FormattingElement) (k : FurthestBlock) → IsRound name f k place at block w → done ≡ adopt choices f k w)
     → OnOk result ((name : List ℕ) (f : FormattingElement) (k : FurthestBlock) → IsRound name f k place at block w → new ≡ adopt choices f k w)

@@ -67,7 +67,7 @@ is_open_round again choices name f w h = ap (λ b. cond (not b) (record w { form
 pub is_closed_round : (again : World → World) (choices : SinkChoices) (name : List ℕ) (f : FormattingElement) (w : World) → is_in f.node w.stack ≡ false → adopt_by again choices name (Some f) w ≡ record w { formatting = without_entry f.node w.formatting }
 is_closed_round again choices name f w h = ap (λ b. cond (not b) (record w { formatting = without_entry f.node w.formatting }) (adopt_open again choices f w)) h
 
--- what a round is told to come to, for an element that is open
+-- the statement about a round for an element that is open
 pub open_told : {E : Type 0} (r : Result Bool E) (choices : SinkChoices) (n at place : ℕ) (w new : World) → is_in n w.stack ≡ true → IsOpenAt n place w
     → IfOk r (λ more. (name : List ℕ) (f : FormattingElement) → IsFound name f at w → IsOpenAt f.node place w → (again : World → World) → adopt_open again choices f w ≡ then_again more again new)
     → IfOk r (λ more. (name : List ℕ) (f : FormattingElement) → IsFound name f at w → f.node ≡ n → (again : World → World) → adopt_by again choices name (Some f) w ≡ then_again more again new)
@@ -94,7 +94,7 @@ pub none_named : (o : Option FormattingElement) → false ≡ is_some o → o �
 none_named None e = refl
 none_named (Some f) e = absurd (cc)
 
--- where no round follows, and where one does
+-- if no round follows, and if one does
 pub stops : (more : Bool) (again : World → World) (v : World) → more ≡ false → then_again more again v ≡ v
 stops true again v h = absurd (cc)
 stops false again v h = refl

@@ -44,7 +44,7 @@ module _ (local : List ℕ) where
           ∙ ap (λ c. cond c ReachesHtml Finds) (lt-leb (length (m ∷ ns) + 1) (html (m ∷ ns)) (omega (arith, less))))
       at false false go = go
 
-  -- the newest of the name is one of MathML or SVG, where no HTML element is newer
+  -- the newest of the name is one of MathML or SVG, if no HTML element is newer
   pub newest_is_foreign : (names : List QualName) → html names < foreign names → newest_where (is_named_in_any_case local) names ≡ foreign names
   newest_is_foreign [] h = refl
   newest_is_foreign (n ∷ ns) h = at (is_html_element n) (is_named_in_any_case local n) (newest_is_foreign ns) h

@@ -1,4 +1,4 @@
--- The stamps of entries, where some come, move or leave.
+-- The stamps of entries when some are added, moved or removed.
 use Rattle.std.proofs.Common.{◌≡◌, ◌<◌, ◌≤◌, ℕ, suc, List, [], ◌∷◌, ◌++◌, drop, get_or, length, set, take, ◌⊎◌, inl, inr, refl, sym, subst}
 use Rattle.std.specs.List.{All, insert, remove}
 use Rattle.std.proofs.Math.Seq.{take-append_seam}
@@ -19,7 +19,7 @@ use Rattle.h5_insertion.proofs.ListLaws.{entries_cut}
 use Rattle.h5_insertion.proofs.NodeLaws.{entry_in}
 
 module _ {X : Type 0} (P : X → Type 0) where
-  -- what holds of all, where one is taken out, or comes to stand elsewhere
+  -- what holds for all, where one is taken out, or comes to stand elsewhere
   pub all_removed : (xs : List X) (i : ℕ) → All P xs → All P (remove xs i)
   all_removed xs i h = All-append P (take i xs) (drop (suc i) xs) (All-take P i xs h) (All-drop P (suc i) xs h)
 

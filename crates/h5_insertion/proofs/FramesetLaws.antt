@@ -1,4 +1,4 @@
--- The element below the current node, and the root alone, as they are kept and as they are seen.
+-- The element next older than the current node, and the root alone, as they are stored and as contracts see them.
 use Rattle.std.proofs.Common.{◌≡◌, ℕ, ◌-◌, ◌<◌, ◌≤◌, suc, List, [], ◌∷◌, ◌++◌, length, map, reverse, take, get_or, codes, refl, ap, sym, ◌∙◌, arith}
 use Rattle.std.proofs.lemmas.List.{length-map, length-reverse, map-append, reverse-append}
 use Rattle.h5_names.specs.declared.qualified.QualName.{QualName}

@@ -1,5 +1,5 @@
--- After the adoption agency the entry of the formatting element stands where it stood, or it is gone; then the element is
--- closed.
+-- After the adoption agency the entry of the formatting element is at its old place, or it was removed; then the
+-- element is closed.
 use Rattle.std.proofs.Common.{◌≡◌, ◌≢◌, ◌⊎◌, inl, inr, ◌<◌, ◌≤◌, ℕ, zero, suc, Bool, true, false, not, cond, List, [], ◌∷◌, ◌++◌, append_assoc, length, Option, Some, None, refl, ap, sym, subst, ◌∙◌, arith}
 use Rattle.std.specs.Prelude.{◌==◌}
 use Rattle.std.specs.List.{list_any}
@@ -100,7 +100,7 @@ module _ {name : List ℕ} {f : FormattingElement} {k : FurthestBlock} (choices 
       apart : GiveApart gives (nodes_of w.formatting) []
       apart n m z i j e v = replaced_by_apart k.between (to_clone w.formatting k.between) made.clones n m z (λ x h. fresh.distinct x (inr h)) (no_clone n i) (no_clone m j) e v
 
-  -- and the formatting element's entry goes
+  -- and the formatting element's entry is removed
   pub entry_gone : IsIn f.node (nodes_of w.formatting) → ¬ (IsIn f.node (nodes_of (adopt choices f k w).formatting))
   entry_gone listed =
       gone_inserted f.node (first_or f.node made.clones) own f.tag (replaced gives w.formatting)
@@ -235,7 +235,7 @@ rounds_still_gone zero choices name n w ready there out = out
 rounds_still_gone (suc count) choices name n w ready there out =
     round_still_gone (adopt_within count choices name) n (λ v r t o. rounds_still_gone count choices name n v r t o) choices name w ready there out
 
--- the same of an element that isn't open
+-- as above, for an element that isn't open
 round_still_closed : (again : World → World) (n : ℕ) → ((v : World) → HasHtmlRoot v → IsNode v.forest n → ¬ (IsIn n v.stack) → ¬ (IsIn n (again v).stack))
     → (choices : SinkChoices) (name : List ℕ) (w : World) → HasHtmlRoot w → IsNode w.forest n → ¬ (IsIn n w.stack) → ¬ (IsIn n (adopt_by again choices name (newest_named name w.formatting) w).stack)
 round_still_closed again n go choices name w ready there out = at (newest_named name w.formatting) refl
@@ -358,7 +358,7 @@ entry_is_inside n i (e ∷ l) h = at (length l == i) refl h (entry_is_inside n i
     at true same k go = let here = eqb-true (length l) i same in omega (arith, here)
     at false same k go = let inside = go k in omega (arith, inside)
 
--- and where it is listed only there, the entry there tells
+-- if it is listed only there, the entry there is that of the element
 pub entry_tells : (n i : ℕ) (w : World) → IsEntryAt n i w → is_entry_of n (entry_at i w.formatting) ≡ true
 entry_tells n i w k =
     ap (λ l. is_entry_of n (entry_at i l)) k.cut ∙ ap (is_entry_of n) (entry_at_cut i k.newer (ElementEntry n k.tag) k.older (sym k.here)) ∙ eq-eqb n n refl

@@ -30,7 +30,7 @@ unfolding list_item_names description_names special_names
 special_items kinds.ListItem = refl
 special_items kinds.Description = refl
 
--- where none of some names is among others, what is one of those is none of these
+-- if none of some names is among others, what is one of those is none of these
 none_apart : (set other : List (List ℕ)) (l : List ℕ) → list_any (λ s. is_one_of other s) set ≡ false → is_one_of other l ≡ true → is_one_of set l ≡ false
 none_apart [] other l h e = refl
 none_apart (s ∷ set) other l h e = at (is_one_of other s) refl (is_same_text s l) refl h (none_apart set other l)

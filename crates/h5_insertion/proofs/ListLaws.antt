@@ -1,4 +1,4 @@
--- The list as it is kept, and as it is seen.
+-- The list as it is stored, and as contracts see it.
 use Rattle.std.proofs.Common.{◌≡◌, ◌+◌, ◌-◌, ◌<◌, ◌≤◌, ◌==◌, ℕ, suc, Bool, true, false, cond, get_or, set, take, drop, List, [], ◌∷◌, ◌++◌, length, length-append, map, reverse, refl, ap, sym, subst, ◌∙◌, arith}
 use Rattle.std.specs.List.{remove}
 use Rattle.std.proofs.lemmas.Bool.{eq-eqb, ne_eqb}
@@ -48,7 +48,7 @@ module _ {H : Type 0} (node : H → ℕ) where
   pub entries_step : (xs : List (FormatEntry H)) (i : ℕ) (x : FormatEntry H) → i < length xs → x ≡ get_or xs i x → entries_of node (take (i + 1) xs) ≡ entry_of node x ∷ entries_of node (take i xs)
   entries_step xs i x h e = entries_pushed (take i xs) (take (i + 1) xs) x (take_more xs i x h ∙ ap (λ z. take i xs ++ z ∷ []) (sym e))
 
-  -- the same, from the place above
+  -- as above, from the place above
   pub entries_below : (xs : List (FormatEntry H)) (i : ℕ) (x : FormatEntry H) → 0 < i → i ≤ length xs → x ≡ get_or xs (i - 1) x → entries_of node (take i xs) ≡ entry_of node x ∷ entries_of node (take (i - 1) xs)
   entries_below xs i x some h e =
       let back : i ≡ i - 1 + 1 = omega (arith, some) in
@@ -115,7 +115,7 @@ module _ {H : Type 0} (node : H → ℕ) where
       ∙ ap (λ z. entries_of node (drop (i + 1) xs) ++ z ∷ entries_of node (take i xs)) same
       ∙ sym (entries_cut xs i x h e)
 
--- something holds of each entry, also of one whose element gave way
+-- something holds for each entry, also of one whose element gave way
 pub each_with_node : (P : ℕ → TagText → Type 0) (i n : ℕ) (l : List Entry) → ((m : ℕ) (t : TagText) → entry_at i l ≡ ElementEntry m t → P n t) → EachEntry P l → EachEntry P (with_node_at i n l)
 each_with_node P i n [] new h = h
 each_with_node P i n (MarkerEntry ∷ l) new h = at (length l == i) refl (each_with_node P i n l)
@@ -131,7 +131,7 @@ each_with_node P i n (ElementEntry m t ∷ l) new h = at (length l == i) refl (e
     at true e go = (new m t (ap (λ b. cond b (ElementEntry m t) (entry_at i l)) e), h.1)
     at false e go = (h.0, go (λ k u d. new k u (ap (λ b. cond b (ElementEntry m t) (entry_at i l)) e ∙ d)) h.1)
 
--- it holds of the entry at a place
+-- it holds for the entry at a place
 pub each_entry_at : (P : ℕ → TagText → Type 0) (i : ℕ) (l : List Entry) (m : ℕ) (t : TagText) → EachEntry P l → entry_at i l ≡ ElementEntry m t → P m t
 each_entry_at P i [] m t h e = absurd (cc)
 each_entry_at P i (MarkerEntry ∷ l) m t h e = at (length l == i) e (each_entry_at P i l m t h)

@@ -1,4 +1,4 @@
--- Where the furthest block goes, by the place of the formatting element.
+-- The new place of the furthest block, by the place of the formatting element.
 use Rattle.std.proofs.Common.{◌≡◌, ◌+◌, ◌-◌, ◌<◌, ◌≤◌, ℕ, List, [], ◌∷◌, ◌++◌, append_assoc, length, map, reverse, inl, refl, ap, sym, subst, ◌∙◌, arith}
 use Rattle.h5_interface.specs.declared.sink.TreeSink.{Ghosts}
 use Rattle.h5_rules.specs.formatting.Adoption.{newer_than, older_than}

@@ -19,7 +19,7 @@ use Rattle.h5_state.proofs.ListWalkLaws.{cut_at, under, under_more}
 use Rattle.h5_insertion.specs.EntryPlaces.{is_entry_of}
 use Rattle.h5_insertion.proofs.EntryLaws.{other_entry}
 
--- what holds of each entry holds of each older one
+-- what holds for each entry holds for each older one
 each_older : (P : ℕ → TagText → Type 0) (newer older : List Entry) → EachEntry P (newer ++ older) → EachEntry P older
 each_older P [] older h = h
 each_older P (MarkerEntry ∷ newer) older h = each_older P newer older h

@@ -67,7 +67,7 @@ between_none node state first place h = let none : place - first ≡ 0 = omega (
 pub grown_first : (choices : SinkChoices) (l : List Entry) (ms made : List ℕ) (last n : ℕ) (f : Forest) → made ≡ [] → last ≡ n → grown choices l ms (record { forest = f; clones = made; outermost = last }) ≡ nest choices l ms n f
 grown_first choices l ms made last n f e h = ap (λ c. grown choices l ms (record { forest = f; clones = c; outermost = last })) e ∙ ap (λ m. nest choices l ms m f) h
 
--- where nothing is left to be made
+-- if nothing is left to be made
 pub picked_gone : (k : ℕ) (l : List Entry) (ms : List ℕ) → (k ≡ 0) ⊎ (ms ≡ []) → picked k l ms ≡ []
 picked_gone k l ms (inl e) = ap (λ j. picked j l ms) e
 picked_gone zero l ms (inr e) = refl

@@ -52,7 +52,7 @@ pub entry_is_node : (f : Forest) (ns : List ℕ) (e : Entry) → AreNodes f ns �
 entry_is_node f ns MarkerEntry k h = tt
 entry_is_node f ns (ElementEntry n t) k h = k n (h n t refl)
 
--- an entry goes, or becomes that of another node
+-- an entry is removed, or becomes that of another node
 pub nodes_dropped : (f : Forest) (newer older : List Entry) (e : Entry) → AreNodes f (nodes_of (newer ++ e ∷ older)) → AreNodes f (nodes_of (newer ++ older))
 nodes_dropped f [] older MarkerEntry k = k
 nodes_dropped f [] older (ElementEntry m t) k = λ n i. k n (inr i)

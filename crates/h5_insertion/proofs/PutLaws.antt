@@ -95,7 +95,7 @@ comment_or_not (Ok x) choices old mid new p n t k there m h ok er =
 comment_or_not (Err x) choices old mid new p n t k there m h ok er =
     same_seen old mid new er (seen_rearranged old mid (make choices (plain (CommentNode t))) m (make_rearranges choices old.forest (plain (CommentNode t)) k (record { children = refl; contents = refl; parent = refl })))
 
--- what holds of a world where there is a result, and what follows from it
+-- what holds for a world if there is a result, and what follows from it
 pub onok_then : {T E A : Type 0} (r : Result T E) (x y z : A) → OnOk r (x ≡ y) → y ≡ z → OnOk r (x ≡ z)
 onok_then (Ok t) x y z p q = p ∙ q
 onok_then (Err e) x y z p q = tt

@@ -1,4 +1,4 @@
--- The list of active formatting elements, as a round goes over it.
+-- The list of active formatting elements while a round walks over it.
 use Rattle.std.proofs.Common.{◌≡◌, ◌≢◌, inl, inr, ℕ, zero, suc, Bool, true, false, cond, List, [], ◌∷◌, ◌++◌, append_assoc, length, filter, Some, refl, ap, sym, subst, ◌∙◌, arith}
 use Rattle.std.specs.Prelude.{◌==◌}
 use Rattle.std.proofs.lemmas.Bool.{eq-eqb, ne_eqb}
@@ -64,7 +64,7 @@ walked_above (suc k) (m ∷ ms) (y ∷ ys) p r out =
     at true e d = e
     at false e d = d
 
--- what holds of each entry and of the clones holds after the walk
+-- what holds for each entry and for the clones holds after the walk
 each_swapped : (P : ℕ → TagText → Type 0) (m y : ℕ) (l : List Entry) → ((t : TagText) → P y t) → EachEntry P l → EachEntry P (swapped m y l)
 each_swapped P m y [] new h = h
 each_swapped P m y (MarkerEntry ∷ l) new h = each_swapped P m y l new h

@@ -1,4 +1,4 @@
--- A round goes over the list.
+-- A round changes the list.
 use Rattle.std.proofs.Common.{◌≡◌, ◌+◌, ◌-◌, ◌<◌, ◌≤◌, ℕ, List, [], ◌∷◌, ◌++◌, append_assoc, length, length-append, map, reverse, take, inl, inr, ap, sym, subst, ◌∙◌, arith}
 use Rattle.std.specs.Prelude.{Some}
 use Rattle.std.proofs.Math.Seq.{take-append_seam}
@@ -23,7 +23,7 @@ use Rattle.h5_insertion.specs.Relists.{Relists}
 use Rattle.h5_insertion.proofs.RelistLaws.{first_walked, list_walked, round_above, round_alone}
 use Rattle.h5_state.proofs.SeenLaws.{seen_at}
 
--- all stands still, where the list alone changed
+-- the world is still sound, where the list alone changed
 pub sound_relisted : {S H O : Type 0} (law : Ghosts S H O) (sink : S) (old new : State H) (l : List Entry) → new.open_elems ≡ old.open_elems
     → world_of law sink new ≡ record (world_of law sink old) { formatting = l } → IsSound law sink old → Sound (record (world_of law sink old) { formatting = l }) → AreStamped law.node old.open_elems new.active_formatting → IsSound law sink new
 unfolding names_of
@@ -81,7 +81,7 @@ module _ (f : FormattingElement) (between clones : List ℕ) (clone at first blo
       ap (round_list f.node f.tag between clones clone) r.cut
       ∙ round_above f.node clone f.tag between clones r.newer r.older may r.above new y ys k.tag k.front k.rest some k.cut k.first
 
-  -- all stands after it
+  -- the world is sound after it
   pub sound_round : Sound w → Sound (record w { formatting = round_list f.node f.tag between clones clone w.formatting })
   sound_round k = record {
     stands = k.stands;

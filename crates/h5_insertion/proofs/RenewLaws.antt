@@ -1,4 +1,4 @@
--- Elements that are made anew one by one, each at the place of its entry.
+-- New elements for entries, one by one, each at the place of its entry.
 use Rattle.std.proofs.Common.{◌≡◌, ◌+◌, ◌<◌, ◌≤◌, ℕ, suc, Result, Ok, Err, OnOk, OnErr, List, [], ◌∷◌, ◌++◌, get_or, length, length-append, IsTrue, refl, ap, sym, subst, ◌∙◌, arith}
 use Rattle.std.proofs.lemmas.List.{append-nil, append_assoc}
 use Rattle.h5_token.specs.TokenText.{TagText, tag_text}
@@ -75,7 +75,7 @@ module _ {S H O : Type 0} (law : Ghosts S H O) (sink : S) (old : State H) (place
       subst (AreStamped law.node old.open_elems) (sym over.is)
       (stamped_entry_set law.node old.open_elems items place (with_handle given over.entry) (stamped_handed law.node old.open_elems given over.entry (subst (λ m. m ≤ last) (sym stamp) entry.0) above) stamped)
 
--- the element at a place is made anew: the one that became the current node
+-- the entry at a place gets a new element: the one that became the current node
 abbrev pub with_current_at : ℕ → World → World
 with_current_at i v = with_list (with_node_at i (current v) v.formatting) v
 
@@ -106,7 +106,8 @@ module _ (choices : SinkChoices) (t : TagText) (w : World) where
       (subst (λ (v : World). AllFormatting (with_current_at i v).formatting) (sym was) (formatting_with_current i k))
       stamped sound
 
--- WHILE elements are made anew, from the oldest entry on: `done` are the entries whose elements were made, `todo` the newer ones
+-- WHILE new elements are created, from the oldest entry on: `done` are the entries that have new elements, `todo` the
+-- newer ones
 abbrev pub partly : SinkChoices → List Entry → List Entry → World → World
 partly choices todo done w = with_list (todo ++ (made_anew (made_nodes choices done w) done ++ open_rest w.stack w.formatting)) (insert_anew choices done w)
 

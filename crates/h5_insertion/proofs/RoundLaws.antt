@@ -1,4 +1,4 @@
--- What stands where in a round of the adoption agency.
+-- The places of elements and entries in a round of the adoption agency.
 use Rattle.std.proofs.Common.{◌≡◌, ◌+◌, ◌-◌, ◌<◌, ◌≤◌, ℕ, List, [], ◌∷◌, ◌++◌, append_assoc, length, length-append, map, reverse, take, Some, inl, inr, refl, ap, sym, subst, ◌∙◌, arith}
 use Rattle.std.proofs.lemmas.List.{take-append-le, take_all}
 use Rattle.h5_token.specs.TokenText.{TagText}

@@ -7,7 +7,7 @@ use Rattle.h5_rules.specs.Changes.{insert_element, pop, with_forest}
 use Rattle.h5_rules.specs.insertion.Templates.{attach_or_put, push_loose_template}
 use Rattle.h5_rules.specs.World.{World}
 
--- what holds of a result holds of what is made of it
+-- what holds for a result holds for what is made of it
 pub onok_ap : {T E A B : Type 0} (r : Result T E) (f : A → B) (x y : A) → OnOk r (x ≡ y) → OnOk r (f x ≡ f y)
 onok_ap (Ok t) f x y e = ap f e
 onok_ap (Err t) f x y e = tt

@@ -1,4 +1,4 @@
--- Where a template would stand, and what is open.
+-- The place where a template would be inserted, and the open elements.
 use Rattle.std.proofs.Common.{◌≡◌, ℕ, nat_eq, nat_lt, List, [], ◌∷◌, length, map, reverse, refl, ap, sym, ◌∙◌, rules}
 use Rattle.std.proofs.lemmas.List.{length-map}
 use Rattle.h5_names.specs.declared.qualified.QualName.{QualName}

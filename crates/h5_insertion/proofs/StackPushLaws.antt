@@ -1,4 +1,4 @@
--- Open elements are pushed anew.
+-- New open elements are pushed.
 use Rattle.std.proofs.Common.{◌≡◌, ℕ, List, [], ◌∷◌, ◌++◌, append_assoc, map, reverse, ap, sym, ◌∙◌}
 use Rattle.std.proofs.lemmas.List.{append_cancel_right}
 use Rattle.h5_rules.specs.World.{World}

@@ -1,4 +1,4 @@
--- Which entries stay where elements are made anew, found from the newest entry on.
+-- The entries that stay when formatting elements are reconstructed, found from the newest entry on.
 use Rattle.std.proofs.Common.{◌≡◌, ◌-◌, ◌<◌, ℕ, true, false, cond, List, [], ◌∷◌, ◌++◌, length, length-append, append_assoc, refl, ap, sym, ◌∙◌, arith}
 use Rattle.h5_rules.specs.formatting.FormattingList.{ElementEntry, Entry, MarkerEntry, open_rest}
 use Rattle.h5_insertion.specs.EntryPlaces.{entry_at, is_staying}

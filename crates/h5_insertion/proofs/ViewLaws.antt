@@ -20,7 +20,7 @@ names_same f g (n ∷ s) k same =
     ap (λ x. x ∷ map (name_in g) s) (ap name_of_found (same n (element_is_node f n (k n (inl refl)))))
     ∙ ap (λ xs. name_in f n ∷ xs) (names_same f g s (λ m h. k m (inr h)) same)
 
--- all stands in the new forest, and old nodes are what they were
+-- the world is sound in the new forest, and old nodes are what they were
 pub sound_rehung : {S H O : Type 0} (law : Ghosts S H O) (old new : S) (state : State H) → IsSound law old state
     → (let w = world_of law old state in AllStand (law.sees new).forest w.stack w.formatting w.head w.form w.context)
     → KeepsKinds (law.sees old).forest (law.sees new).forest → IsSound law new state

@@ -1,4 +1,4 @@
--- The list of active formatting elements as the code has it, by places that are counted from its oldest entry.
+-- The list of active formatting elements in the form of the code, by places that are counted from its oldest entry.
 use Rattle.std.specs.Prelude.{ℕ, ◌==◌, Bool, false, true, if◌then◌else◌, List, [], ◌∷◌, length}
 use Rattle.h5_interface.specs.SinkChoices.{SinkChoices}
 use Rattle.h5_rules.specs.formatting.FormattingList.{Entry, ElementEntry, MarkerEntry}
@@ -6,33 +6,33 @@ use Rattle.h5_rules.specs.formatting.Formatting.{insert_for}
 use Rattle.h5_rules.specs.stack.Order.{is_in}
 use Rattle.h5_rules.specs.World.{World, current}
 
--- the entry at a place, below which so many are older; a marker, where there is none
+-- the entry at a place, which is the number of older entries; a marker if there is none
 abbrev pub entry_at : ℕ → List Entry → Entry
 entry_at place [] = MarkerEntry
 entry_at place (e ∷ l) = if length l == place then e else entry_at place l
 
--- whether an entry is that of an element
+-- the entry is that of an element
 abbrev pub is_entry_of : ℕ → Entry → Bool
 is_entry_of n MarkerEntry = false
 is_entry_of n (ElementEntry m tag) = n == m
 
--- whether an entry stays where elements are made anew: a marker does, and that of an element which is open (`s`: the open
+-- the entry stays when formatting elements are reconstructed: it is a marker, or its element is open (`s`: the open
 -- elements)
 abbrev pub is_staying : List ℕ → Entry → Bool
 is_staying s MarkerEntry = true
 is_staying s (ElementEntry n tag) = is_in n s
 
--- an entry for another element
+-- the entry with another element
 abbrev pub entry_for : ℕ → Entry → Entry
 entry_for n MarkerEntry = MarkerEntry
 entry_for n (ElementEntry m tag) = ElementEntry n tag
 
--- the list where the entry at a place is for another element
+-- the list with another element for the entry at a place
 abbrev pub with_node_at : ℕ → ℕ → List Entry → List Entry
 with_node_at place n [] = []
 with_node_at place n (e ∷ l) = if length l == place then entry_for n e ∷ l else e ∷ with_node_at place n l
 
--- an entry's element is made anew
+-- an entry gets a new element
 abbrev pub renewed_by : SinkChoices → ℕ → Entry → World → World
 renewed_by choices place MarkerEntry w = w
 renewed_by choices place (ElementEntry n tag) w =

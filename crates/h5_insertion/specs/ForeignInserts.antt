@@ -6,6 +6,6 @@ use Rattle.h5_rules.specs.Rows.{Row}
 use Rattle.h5_rules.specs.modes.Shared.{inserts_foreign}
 use Rattle.h5_rules.specs.World.{World}
 
--- an element for a tag, its attributes adjusted
+-- an element for a tag, with adjusted attributes
 abbrev pub inserts_foreign_in : (namespace : List ℕ) → TagText → World → Row
 inserts_foreign_in namespace tag w = inserts_foreign (foreign_name namespace tag.name) (adjusted_attributes namespace tag.attrs) [] tag

@@ -1,5 +1,4 @@
--- Where open elements and entries stand: places of the stack are counted from the root, those of the list from the oldest
--- entry.
+-- Places of open elements, counted from the root, and of entries, counted from the oldest.
 use Rattle.std.specs.Prelude.{◌≡◌, ◌⊎◌, ℕ, ◌+◌, List, ◌∷◌, ◌++◌, length, Some}
 use Rattle.h5_token.specs.TokenText.{TagText}
 use Rattle.h5_interface.specs.Forest.{Forest, IsNode}
@@ -10,7 +9,7 @@ use Rattle.h5_rules.specs.stack.Order.{IsIn}
 use Rattle.h5_state.specs.Listed.{IsNewestNamedAt}
 use Rattle.h5_rules.specs.World.{World, name_in}
 
--- the entry of an element, the newest one where it has more, stands at this place
+-- the entry of an element, the newest one if there are more, is at this place
 pub record IsEntryAt (n place : ℕ) (w : World) : Type 0 where
   pub tag : TagText
   pub newer : List Entry
@@ -27,11 +26,11 @@ IsListedOnlyAt n place w = IsEntryAt n place w ⊎ (¬ (IsIn n (nodes_of w.forma
 abbrev pub IsOpenOnlyListed : ℕ → World → Type 0
 IsOpenOnlyListed n w = IsIn n w.stack → IsIn n (nodes_of w.formatting)
 
--- the entry of the formatting element of a name stands at this place
+-- the entry of the formatting element of a name is at this place
 abbrev pub IsListedAt : List ℕ → ℕ → World → Type 0
 IsListedAt name place w = IsNewestNamedAt name place w.formatting
 
--- the furthest block of an element, which stands at the first place, stands at the second
+-- the furthest block of the element at the first place is at the second
 pub record IsBlockAt (n place at : ℕ) (w : World) : Type 0 where
   pub furthest : FurthestBlock
   pub found : furthest_block (λ m. is_special (name_in w.forest m)) (newer_than n w.stack) ≡ Some furthest

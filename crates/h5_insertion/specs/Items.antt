@@ -1,4 +1,4 @@
--- Items of lists, as the code has them.
+-- Kinds of list items, in the form of the code.
 use Rattle.std.specs.Prelude.{ℕ, List}
 use Rattle.h5_rules.specs.modes.InBody.{description_names, list_item_names}
 use Rattle.h5_insertion.specs.declared.list_items.ItemKind.{ItemKind}

@@ -1,11 +1,11 @@
--- Foreign content is left one element after the other, as the code has it.
+-- Foreign content is left one element after the other, in the form of the code.
 use Rattle.std.specs.Prelude.{ℕ, Bool, false, List, [], ◌∷◌}
 use Rattle.h5_interface.specs.Forest.{Forest}
 use Rattle.h5_interface.specs.SinkChoices.{SinkChoices}
 use Rattle.h5_rules.specs.insertion.Foreign.{is_left}
 use Rattle.h5_rules.specs.World.{World}
 
--- the first of these nodes is left
+-- the first of these nodes is popped when foreign content is left
 abbrev pub is_first_left : SinkChoices → Forest → List ℕ → Bool
 is_first_left choices f [] = false
 is_first_left choices f (n ∷ s) = is_left choices f n

@@ -1,4 +1,4 @@
--- What a sink is told of a new element before it is put in its place, as the code has it.
+-- Notices to the sink before a new element is inserted, in the form of the code.
 use Rattle.std.specs.Prelude.{ℕ, None, Some}
 use Rattle.h5_interface.specs.Forest.{Forest, IsNode}
 use Rattle.h5_interface.specs.SinkChoices.{SinkChoices}
@@ -7,13 +7,13 @@ use Rattle.h5_rules.specs.insertion.Place.{Place}
 use Rattle.h5_insertion.specs.declared.put.Notice.{Notice}
 use Rattle.h5_insertion.specs.declared.put.Notice.TheVariants.{AlreadyStarted, FormOwner, Nothing}
 
--- what the sink marks then
+-- the marks that the sink then sets
 abbrev pub marking_of : {H : Type 0} → (H → ℕ) → SinkChoices → Notice H → (element : ℕ) → Place → Marking
 marking_of node choices Nothing element p = None
 marking_of node choices (FormOwner form) element p = associates choices element p (Some (node form))
 marking_of node choices AlreadyStarted element p = Some (λ f. choices.marks_after_started f element)
 
--- a form that is told is a node
+-- the form of a notice is a node
 abbrev pub IsNodeIfTold : {H : Type 0} → (H → ℕ) → Forest → Notice H → Type 0
 IsNodeIfTold node f Nothing = Unit {0}
 IsNodeIfTold node f (FormOwner form) = IsNode f (node form)

@@ -1,4 +1,4 @@
--- The place of insertion, as the code has it.
+-- The place of insertion, in the form of the code.
 use Rattle.std.specs.Prelude.{ℕ}
 use Rattle.h5_rules.specs.insertion.Place.{LastChild, Place, TableFosterParenting}
 use Rattle.h5_insertion.specs.declared.place.InsertionPoint.{InsertionPoint}

@@ -1,4 +1,4 @@
--- What a round of the adoption agency finds where it goes over the list of active formatting elements.
+-- The premises under which a round of the adoption agency changes the list of active formatting elements.
 use Rattle.std.specs.Prelude.{◌≡◌, ℕ, ◌+◌, List, ◌∷◌, ◌++◌, length}
 use Rattle.h5_interface.specs.Forest.{kind_of}
 use Rattle.h5_rules.specs.formatting.Adoption.{FormattingElement, IsCloneOf, to_clone}
@@ -7,9 +7,9 @@ use Rattle.h5_rules.specs.formatting.InnerLoop.{MayWalk}
 use Rattle.h5_rules.specs.stack.Order.{IsIn}
 use Rattle.h5_rules.specs.World.{World}
 
--- The formatting element's entry stands at a place of the list. Of the stack, these elements are between it, which is right
--- below the first place, and its furthest block. There are clones of those that are to have one, and one of it; each is of
--- its original's kind, and none is listed or open.
+-- The formatting element's entry is at a place of the list. On the stack, these elements are between it, which is right
+-- below the first place, and its furthest block. There is a clone of each of those that needs one, and one of the
+-- formatting element; each is of its original's kind, and none is listed or open.
 pub record Relists (f : FormattingElement) (between clones : List ℕ) (clone at first block : ℕ) (w : World) : Type 0 where
   pub newer : List Entry
   pub older : List Entry

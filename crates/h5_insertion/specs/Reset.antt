@@ -1,4 +1,4 @@
--- The roles of names to a reset of the insertion mode, as the code has them.
+-- The roles of names for a reset of the insertion mode, in the form of the code.
 use Rattle.h5_rules.specs.fitting.Roles.{BodyRole, CaptionRole, CellRole, ColgroupRole, FramesetRole, HeadRole, HtmlRole, PlainRole, Role, RowRole, SectionRole, TableRole, TemplateRole}
 use Rattle.h5_insertion.specs.declared.reset.Role.{Role as Kept}
 use Rattle.h5_insertion.specs.declared.reset.Role.TheVariants as kept

@@ -11,8 +11,8 @@ use Rattle.h5_rules.specs.Sound.{HasHtmlRoot}
 use Rattle.h5_rules.specs.World.{World, name_in}
 use Rattle.h5_state.specs.OpenPlaces.{IsOpenAt}
 
--- a round for a name may be made: the formatting element and its furthest block stand at these places of the stack, and its
--- entry at this place of the list
+-- the premises of a round for a name: the formatting element and its furthest block are at these places of the stack,
+-- and its entry is at this place of the list
 pub record IsRound (name : List ℕ) (f : FormattingElement) (k : FurthestBlock) (place at block : ℕ) (w : World) : Type 0 where
   pub may : MayAdopt name f k w
   pub ready : HasHtmlRoot w
@@ -30,7 +30,7 @@ pub record SomeRound (place at block : ℕ) (w : World) : Type 0 where
   pub furthest : FurthestBlock
   pub round : IsRound name element furthest place at block w
 
--- an element's entry stands at a place of the list
+-- an element's entry is at a place of the list
 pub record IsElementEntry (at : ℕ) (w : World) : Type 0 where
   pub node : ℕ
   pub tag : TagText
@@ -54,18 +54,18 @@ pub record SomeFound (node at : ℕ) (w : World) : Type 0 where
   pub found : IsFound name element at w
   pub same : element.node ≡ node
 
--- and it is open at this one
+-- the formatting element of some name is listed at the second place, and open at the first
 pub record SomeOpen (place at : ℕ) (w : World) : Type 0 where
   pub name : List ℕ
   pub element : FormattingElement
   pub found : IsFound name element at w
   pub open_at : IsOpenAt element.node place w
 
--- what a round leaves, where another may follow: the world after all of them is that after those that follow
+-- a round that another may follow: the world after all rounds is that after the following ones
 abbrev pub then_again : Bool → (World → World) → World → World
 then_again more again w = if more then again w else w
 
--- where the formatting element is open
+-- a round if the formatting element is open
 abbrev pub adopt_open : (World → World) → SinkChoices → FormattingElement → World → World
 adopt_open again choices f w =
     if list_any (λ n. is_default_scope (name_in w.forest n)) (newer_than f.node w.stack) then w

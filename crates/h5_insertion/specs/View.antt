@@ -1,10 +1,10 @@
--- The list of active formatting elements, and what is kept beside open elements, as far as some place.
+-- The oldest entries of the list of active formatting elements, and the summaries of the oldest open elements.
 use Rattle.std.specs.Prelude.{ℕ, List, take}
 use Rattle.h5_rules.specs.formatting.FormattingList.{Entry}
 use Rattle.h5_state.specs.Listed.{entries_of}
 use Rattle.h5_state.specs.View.{listed_node}
 use Rattle.h5_state.specs.declared.state.State.{State}
 
--- the oldest entries, so many of them, the newest first
+-- the `count` oldest entries, the newest first
 unfoldable pub list_under : {H : Type 0} → (H → ℕ) → State H → ℕ → List Entry
 list_under node state count = entries_of (listed_node node) (take count state.active_formatting)

@@ -1,4 +1,4 @@
-//! The adoption agency, and what calls it (HTML standard, section 13.2.6.4.7, "adoption agency algorithm").
+//! The adoption agency, and the rules that call it (HTML standard, section 13.2.6.4.7, "adoption agency algorithm").
 ghost use Rattle.std.specs.Prelude.{◌≡◌, ◌≢◌, ◌<◌, ℕ, Bool, List, IfOk, OnOk, Some, codes, false, length};
 ghost use Rattle.h5_names.specs.AttributeText.{is_same_text};
 ghost use Rattle.h5_interface.specs.Forest.{IsElement};
@@ -25,7 +25,8 @@ use h5_names::{KnownName, LocalName};
 use h5_state::{Listed, State, find_listed, pop};
 use std::alloc::AllocError;
 
-// Where the formatting element has no furthest block, the elements up to and with it are popped, and its entry goes.
+// A round without a furthest block: the elements up to and including the formatting element are popped, and its entry
+// is removed.
 fn close_at<S: TreeSink>(sink: &S, state: &mut State<S::Handle>, at: usize, place: usize)
     requires sound { IsSound S.TreeSink sink.now state.old }
     requires found { SomeOpen place at (world_of S.TreeSink sink.now state.old) }
@@ -36,7 +37,8 @@ fn close_at<S: TreeSink>(sink: &S, state: &mut State<S::Handle>, at: usize, plac
     unlist(sink, state, at);
 }
 
-// A round for the formatting element that is open at a place and listed at another. Whether another may follow.
+// A round for the formatting element that is open at `place` and listed at `at`. Returns true if another round may
+// follow.
 fn round_open<S: TreeSink>(
     sink: &mut S,
     state: &mut State<S::Handle>,
@@ -65,7 +67,7 @@ fn round_open<S: TreeSink>(
     }
 }
 
-// A round for the formatting element that is listed at a place.
+// A round for the formatting element that is listed at `at`.
 fn round_listed<S: TreeSink>(
     sink: &mut S,
     state: &mut State<S::Handle>,
@@ -89,7 +91,8 @@ fn round_listed<S: TreeSink>(
     }
 }
 
-// A round for a name: where no formatting element of it is listed after the last marker, it is as any other end tag.
+// A round for a name; if no formatting element of the name is listed after the last marker, it is that of any other end
+// tag.
 fn round<S: TreeSink>(
     sink: &mut S,
     state: &mut State<S::Handle>,
@@ -119,7 +122,7 @@ fn round<S: TreeSink>(
     }
 }
 
-// Eight rounds at most.
+// At most eight rounds.
 fn rounds<S: TreeSink>(
     sink: &mut S,
     state: &mut State<S::Handle>,
@@ -140,8 +143,9 @@ fn rounds<S: TreeSink>(
     Ok(())
 }
 
-/// The adoption agency for an end tag of this name, which isn't `html`: the current node is popped where it has the name
-/// and isn't listed, and else there are at most eight rounds. An Err leaves what was done so far.
+/// The adoption agency for an end tag of this name, which must not be `html`: if the current node has the name and
+/// isn't listed, it is popped; otherwise there are at most eight rounds. Fails with `AllocError` if an allocation
+/// fails; the changes made until then stay.
 #[tactic(auto, unfolding(h5_rules::specs::formatting::AdoptionAgency::adoption_agency))]
 pub fn adoption_agency<S: TreeSink>(
     sink: &mut S,
@@ -161,7 +165,8 @@ pub fn adoption_agency<S: TreeSink>(
     }
 }
 
-// An element leaves list and stack, where it still is there: it is listed at this place or nowhere, and open only if listed.
+// Removes an element from list and stack, if it is still there. It must be listed at this place or nowhere, and may be
+// open only if it is listed.
 #[tactic(auto, using(h5_rules::proofs::changes::SoundLaws::element_is_node))]
 fn remove_listed<S: TreeSink>(
     sink: &mut S,
@@ -182,8 +187,9 @@ fn remove_listed<S: TreeSink>(
     }
 }
 
-/// Where an `a` is listed after the last marker: the adoption agency for `a`, and then that element leaves list and stack,
-/// where it still is there (HTML standard, section 13.2.6.4.7, a start tag "a"). An Err leaves what was done so far.
+/// If an `a` is listed after the last marker: the adoption agency runs for `a`, and then that element is removed from
+/// list and stack, if it is still there (HTML standard, section 13.2.6.4.7, a start tag "a"). Fails with `AllocError`
+/// if an allocation fails; the changes made until then stay.
 #[tactic(auto, unfolding(h5_rules::specs::formatting::AdoptionAgency::handle_misnested_a_tags))]
 pub fn handle_misnested_a_tags<S: TreeSink>(
     sink: &mut S,
@@ -198,7 +204,7 @@ pub fn handle_misnested_a_tags<S: TreeSink>(
         Some(at) => {
             let element = sink.clone_handle(element_at(sink, state, at));
             adoption_agency(sink, state, &name)?;
-            // The agency leaves the entry where it stood, or takes it away and closes the element.
+            // The agency leaves the entry at its place, or removes it and closes the element.
             remove_listed(sink, state, at, &element);
             Ok(())
         }

@@ -1,5 +1,4 @@
-//! Attributes that are added where they are missing (HTML standard, section 13.2.6.4.7, start tags "html" and
-//! "body").
+//! Attributes that are added if they are missing (HTML standard, section 13.2.6.4.7, start tags "html" and "body").
 ghost use Rattle.h5_names.specs.AttributeText.{attribute_texts};
 ghost use Rattle.h5_rules.specs.Rows.{AddAttrsToHtml, AddAttrsToSecond};
 ghost use Rattle.h5_state.specs.Steps.{IsOpen, IsSound, MakesIfOk};
@@ -9,7 +8,7 @@ use h5_names::Attribute;
 use h5_state::State;
 use std::alloc::AllocError;
 
-/// The root gets the attributes that it lacks.
+/// Adds the attributes that the root doesn't have. Fails with `AllocError` if an allocation fails.
 #[tactic(auto, unfolding(h5_state::specs::View::world, h5_rules::specs::Changes::add_attrs_to_html))]
 pub fn add_attrs_to_html<S: TreeSink>(
     sink: &mut S,
@@ -22,7 +21,8 @@ pub fn add_attrs_to_html<S: TreeSink>(
     sink.add_attrs_if_missing(&state.open_elems.elements.get(0).handle, attrs)
 }
 
-/// The second open element, from the root on, gets the attributes that it lacks, where there is one.
+/// Adds the attributes that the second open element, from the root on, doesn't have, if there is one. Fails with
+/// `AllocError` if an allocation fails.
 #[tactic(auto, unfolding(h5_state::specs::View::world, h5_rules::specs::Changes::add_attrs_to_second))]
 pub fn add_attrs_to_second<S: TreeSink>(
     sink: &mut S,

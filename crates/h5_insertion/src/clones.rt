@@ -17,15 +17,15 @@ use h5_tables::FormatEntry;
 use h5_token::Tag;
 use std::alloc::AllocError;
 
-/// Clones around a node, that of the element next to it first.
+/// Clones around a node, the innermost first.
 #[derive(Drop)]
 pub struct Clones<Handle> {
     pub made: Vec<Handle>,
-    /// The outermost of them, or the node itself.
+    /// The outermost clone, or the node itself if there are no clones.
     pub outermost: Handle,
 }
 
-// A clone around the outermost one, for this tag.
+// Creates a clone for this tag around the outermost one.
 fn add_clone<S: TreeSink>(
     sink: &mut S,
     state: &State<S::Handle>,
@@ -50,7 +50,7 @@ fn add_clone<S: TreeSink>(
     Ok(())
 }
 
-// The same for the tag that the open element at a place is listed with, if it is.
+// Creates a clone for the tag with which the open element at a place is listed, if it is.
 fn clone_at<S: TreeSink>(
     sink: &mut S,
     state: &State<S::Handle>,
@@ -79,8 +79,9 @@ fn clone_at<S: TreeSink>(
     }
 }
 
-/// Clones around the furthest block, which stands at the second place, of those elements between the first place and it
-/// that are listed and among the three nearest to it. An Err leaves what was made so far.
+/// Creates clones around the furthest block, which is at the second place, of those elements between the first place
+/// and the block that are listed and among the three nearest to it. Fails with `AllocError` if an allocation fails; the
+/// clones made until then stay.
 pub fn make_clones<S: TreeSink>(
     sink: &mut S,
     state: &State<S::Handle>,

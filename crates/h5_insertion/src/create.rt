@@ -15,8 +15,8 @@ use h5_tables::FormatEntry;
 use h5_token::Tag;
 use std::alloc::AllocError;
 
-// Pushes an element and its tag onto the list. Where three after the last marker are alike already, the earliest of them
-// goes.
+// Adds an element and its tag to the list. If three entries after the last marker are alike already, the earliest of
+// them is removed.
 fn push_formatting<Handle: Drop>(
     entries: &mut FormattingList<Handle>,
     handle: Handle,
@@ -34,8 +34,8 @@ fn push_formatting<Handle: Drop>(
     Ok(())
 }
 
-/// An HTML element for a formatting element's tag at the place of insertion; it becomes the current node, and is pushed onto
-/// the list. After an Err the list is what it was.
+/// Inserts an HTML element for a formatting element's tag at the place of insertion, and adds it to the list. It
+/// becomes the current node. Fails with `AllocError` if an allocation fails.
 #[tactic(auto, unfolding(h5_state::specs::View::world, h5_rules::specs::formatting::Formatting::create_formatting_element))]
 pub fn create_formatting_element<S: TreeSink>(
     sink: &mut S,

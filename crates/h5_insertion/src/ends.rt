@@ -1,4 +1,4 @@
-//! What takes elements off the stack and out of the list.
+//! Removes elements from the stack and from the list.
 ghost use Rattle.std.specs.Prelude.{◌<◌, ℕ, length};
 ghost use Rattle.h5_rules.specs.stack.Closing.{close_named};
 ghost use Rattle.h5_rules.specs.formatting.Adoption.{older_than};
@@ -14,8 +14,8 @@ use h5_state::{
     State, find_before_special, generate_implied_end_except, pop_until_named, truncate,
 };
 
-/// Closes the first element of a name from the current node on, if it comes before any special element (HTML standard,
-/// section 13.2.6.4.7, "any other end tag").
+/// Closes the newest open element of a name, if no special element is newer (HTML standard, section 13.2.6.4.7, "any
+/// other end tag").
 #[tactic(auto, unfolding(h5_rules::specs::stack::Closing::close_named))]
 pub fn close_named<S: TreeSink>(sink: &mut S, state: &mut State<S::Handle>, name: &LocalName)
     requires { IsSound S.TreeSink sink.old state.old }
@@ -27,7 +27,7 @@ pub fn close_named<S: TreeSink>(sink: &mut S, state: &mut State<S::Handle>, name
     }
 }
 
-/// The entry at a place leaves the list.
+/// Removes the entry at a place from the list.
 pub fn unlist<S: TreeSink>(sink: &S, state: &mut State<S::Handle>, at: usize)
     requires sound { IsSound S.TreeSink sink.now state.old }
     requires at { at < length (world_of S.TreeSink sink.now state.old).formatting }
@@ -37,7 +37,7 @@ pub fn unlist<S: TreeSink>(sink: &S, state: &mut State<S::Handle>, at: usize)
     drop_entry(sink, state, at);
 }
 
-/// The elements from the one at a place on leave the stack. The sink isn't told.
+/// Removes the elements from the one at a place on from the stack. The sink isn't notified.
 pub fn close_through<S: TreeSink>(sink: &S, state: &mut State<S::Handle>, place: usize)
     requires { IsSound S.TreeSink sink.now state.old }
     ensures { (n : ℕ) → IsOpenAt n place (world_of S.TreeSink sink.now state.old)

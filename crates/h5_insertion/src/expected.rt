@@ -1,18 +1,18 @@
-//! Whether an element that was closed was the current node, as it is expected.
+//! The parse error for an element that was closed and wasn't the current node.
 ghost use Rattle.std.specs.Prelude.{◌≡◌, ◌<◌, false, true};
 ghost use Rattle.h5_state.specs.Steps.{TellsErrors, errors_of};
 
 use h5_interface::TreeSink;
-use h5_state::{State, tell_error};
+use h5_state::{State, report_error};
 use h5_tables::TreeError;
 
-/// An element that was closed is expected to have been the current node: where it wasn't, this is a parse error.
+/// Reports a parse error unless `expected`: an element that was closed was the current node.
 pub fn expect_to_close<S: TreeSink>(sink: &mut S, state: &State<S::Handle>, expected: bool)
     ensures told { TellsErrors S.TreeSink sink.old sink.new state.now }
     ensures noted { expected ≡ false → 0 < errors_of S.TreeSink sink.new }
     ensures quiet { expected ≡ true → errors_of S.TreeSink sink.new ≡ errors_of S.TreeSink sink.old }
 {
     if !expected {
-        tell_error(sink, state, TreeError::UnexpectedOpenElement);
+        report_error(sink, state, TreeError::UnexpectedOpenElement);
     }
 }

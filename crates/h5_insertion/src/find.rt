@@ -1,4 +1,4 @@
-//! What the adoption agency looks for in the stack of open elements and in the list of active formatting elements.
+//! Searches of the adoption agency, on the stack of open elements and in the list of active formatting elements.
 ghost use Rattle.std.specs.Prelude.{◌≡◌, ◌<◌, ◌+◌, ◌∷◌, ℕ, MatchOption, None, is_some, length};
 ghost use Rattle.std.specs.List.{list_any};
 ghost use Rattle.h5_interface.specs.Forest.{IsNode};
@@ -17,7 +17,7 @@ use h5_names::LocalName;
 use h5_state::{State, newest_scope_end, open_at, open_count};
 use h5_tables::FormatEntry;
 
-/// Where the formatting element of a name is listed: the newest entry of the name after the last marker.
+/// Returns the place of the entry of a name's formatting element: the newest entry of the name after the last marker.
 #[tactic(auto, unfolding(h5_state::specs::View::world))]
 pub fn find_formatting_element<S: TreeSink>(
     sink: &S,
@@ -31,7 +31,7 @@ pub fn find_formatting_element<S: TreeSink>(
     state.active_formatting.find_newest_named(name)
 }
 
-/// Where an element is listed: its newest entry.
+/// Returns the place of an element's newest entry.
 pub fn find_entry<S: TreeSink>(
     sink: &S,
     state: &State<S::Handle>,
@@ -55,7 +55,7 @@ pub fn find_entry<S: TreeSink>(
     None
 }
 
-/// Whether the scope ends above the open element at a place, so that the element isn't in scope.
+/// Returns true if the scope ends above the open element at a place, so that the element isn't in scope.
 pub fn scope_ends_above<S: TreeSink>(sink: &S, state: &State<S::Handle>, place: usize) -> bool
     requires sound { IsSound S.TreeSink sink.now state.now }
     requires place { place < length (world_of S.TreeSink sink.now state.now).stack }
@@ -65,7 +65,7 @@ pub fn scope_ends_above<S: TreeSink>(sink: &S, state: &State<S::Handle>, place: 
     newest_scope_end(sink, state) > place + 1
 }
 
-/// Where the furthest block of the open element at a place stands: the oldest special element above it.
+/// Returns the place of the furthest block of the open element at a place: the oldest special element above it.
 pub fn find_block<S: TreeSink>(sink: &S, state: &State<S::Handle>, place: usize) -> Option<usize>
     requires sound { IsSound S.TreeSink sink.now state.now }
     requires place { place < length (world_of S.TreeSink sink.now state.now).stack }

@@ -1,4 +1,4 @@
-//! When a token is for foreign content (HTML standard, section 13.2.6, "Tree construction").
+//! Tests if a token is handled as foreign content (HTML standard, section 13.2.6, "Tree construction").
 ghost use Rattle.std.specs.Prelude.{◌≡◌, ◌&&◌, ◌||◌, [], false, not, option_map, true};
 ghost use Rattle.h5_interface.specs.Forest.{IsElement};
 ghost use Rattle.h5_interface.specs.NewElement.{is_annotation_xml};
@@ -16,7 +16,7 @@ use h5_state::{State, handle_at, is_html_at, open_at, open_count};
 use h5_tables::{SplitStatus, Token, mathml_text_integration_point, svg_html_integration_point};
 use h5_token::TagKind;
 
-/// The adjusted current node: the context where only the root of a fragment is open, else the current node.
+/// Returns the adjusted current node: the context if only the root of a fragment is open, otherwise the current node.
 #[tactic(auto, unfolding(h5_state::specs::View::world))]
 pub fn adjusted_current_node<'a, S: TreeSink>(
     sink: &S,
@@ -35,8 +35,8 @@ pub fn adjusted_current_node<'a, S: TreeSink>(
     }
 }
 
-/// Whether no element is open, or the current node is the adjusted one, and is an element of HTML; no token is for foreign
-/// content then. It may answer no where that holds, too.
+/// If it returns true, no element is open, or the current node is the adjusted one and an element of HTML, so that no
+/// token is foreign. It may also return false then.
 #[tactic(auto, unfolding(h5_state::specs::View::world))]
 pub fn is_current_node_surely_html<S: TreeSink>(sink: &S, state: &State<S::Handle>) -> bool
     requires { IsSound S.TreeSink sink.now state.now }
@@ -53,14 +53,14 @@ pub fn is_current_node_surely_html<S: TreeSink>(sink: &S, state: &State<S::Handl
     }
 }
 
-// Whether an element is a MathML `annotation-xml`.
+// The element is a MathML `annotation-xml`.
 fn is_annotation_xml(name: &QualName) -> bool
     ensures { result ≡ is_annotation_xml name.now }
 {
     name.ns.is_mathml() && name.local.is(KnownName::AnnotationXml)
 }
 
-// Whether a MathML text integration point doesn't take a start tag of this name as HTML.
+// A MathML text integration point doesn't take a start tag of this name as HTML.
 #[tactic(auto, unfolding(h5_rules::specs::insertion::Foreign::glyph_names))]
 fn is_glyph(name: &LocalName) -> bool
     ensures { result ≡ is_one_of glyph_names name.now }
@@ -68,7 +68,8 @@ fn is_glyph(name: &LocalName) -> bool
     name.is(KnownName::Mglyph) || name.is(KnownName::Malignmark)
 }
 
-// Whether an element takes texts as HTML by its name: it is of HTML, or an integration point, whatever its attributes.
+// An element takes texts as HTML by its name alone: it is of HTML, or an integration point regardless of its
+// attributes.
 #[tactic(auto, unfolding(h5_tables::specs::TagSets::html_namespace))]
 fn is_html_or_point(name: &QualName) -> bool
     ensures { result ≡ (is_html_element name.now || (is_mathml_text_point name.now || is_svg_html_point name.now)) }
@@ -76,7 +77,7 @@ fn is_html_or_point(name: &QualName) -> bool
     name.ns.is_html() || mathml_text_integration_point(name) || svg_html_integration_point(name)
 }
 
-// Whether it takes start tags of this name so.
+// An element takes start tags of the local name as HTML by its name alone.
 #[tactic(auto, unfolding(h5_tables::specs::TagSets::html_namespace))]
 fn is_html_or_point_for(name: &QualName, local: &LocalName) -> bool
     ensures { result ≡ (is_html_element name.now || ((is_mathml_text_point name.now && not (is_one_of glyph_names local.now)) || is_svg_html_point name.now)) }
@@ -86,8 +87,8 @@ fn is_html_or_point_for(name: &QualName, local: &LocalName) -> bool
         || svg_html_integration_point(name)
 }
 
-// Whether texts are taken by the rules of HTML in an element: it is of HTML, or an integration point, and so it isn't left
-// with foreign content.
+// Texts are handled by the rules of HTML in an element: it is of HTML, or an integration point. Such an element isn't
+// popped when foreign content is left.
 #[tactic(auto, unfolding(h5_rules::specs::insertion::Foreign::is_left))]
 fn takes_text<S: TreeSink>(sink: &S, node: &S::Handle) -> bool
     requires { IsElement (S.sees sink.now).forest (S.node node.now) }
@@ -99,7 +100,7 @@ fn takes_text<S: TreeSink>(sink: &S, node: &S::Handle) -> bool
         || is_annotation_xml(name) && sink.is_mathml_annotation_xml_integration_point(node)
 }
 
-/// Whether the current node is left with foreign content.
+/// Returns true if the current node is popped when foreign content is left.
 #[tactic(auto, unfolding(h5_state::specs::View::world))]
 pub fn is_current_left<S: TreeSink>(sink: &S, state: &State<S::Handle>) -> bool
     requires { IsSound S.TreeSink sink.now state.now }
@@ -112,7 +113,7 @@ pub fn is_current_left<S: TreeSink>(sink: &S, state: &State<S::Handle>) -> bool
     !takes_text(sink, handle_at(sink, state, count - 1))
 }
 
-// Whether a start tag of this name is.
+// A start tag of this name is handled by the rules of HTML in an element.
 fn takes_start_tag<S: TreeSink>(sink: &S, node: &S::Handle, local: &LocalName) -> bool
     requires { IsElement (S.sees sink.now).forest (S.node node.now) }
     ensures { (tag : TagText) → tag.kind ≡ TagKind.StartTag → tag.name ≡ local.now → result ≡ is_taken_in S.choices (TagTurn tag) (S.sees sink.now).forest (S.node node.now) }
@@ -123,7 +124,7 @@ fn takes_start_tag<S: TreeSink>(sink: &S, node: &S::Handle, local: &LocalName) -
             && (local.is(KnownName::Svg) || sink.is_mathml_annotation_xml_integration_point(node))
 }
 
-// Whether a token is taken by the rules of HTML in an element.
+// A token is handled by the rules of HTML in an element.
 fn is_taken_in<S: TreeSink>(sink: &S, node: &S::Handle, token: &Token) -> bool
     requires { IsElement (S.sees sink.now).forest (S.node node.now) }
     ensures { result ≡ is_taken_in S.choices (turn_text token.now) (S.sees sink.now).forest (S.node node.now) }
@@ -138,7 +139,7 @@ fn is_taken_in<S: TreeSink>(sink: &S, node: &S::Handle, token: &Token) -> bool
     }
 }
 
-// Whether an element is open, and the adjusted current node doesn't take a token as HTML.
+// An element is open, and the adjusted current node doesn't take a token as HTML.
 #[tactic(auto, unfolding(h5_state::specs::View::world))]
 fn is_foreign_here<S: TreeSink>(sink: &S, state: &State<S::Handle>, token: &Token) -> bool
     requires { IsSound S.TreeSink sink.now state.now }
@@ -150,8 +151,8 @@ fn is_foreign_here<S: TreeSink>(sink: &S, state: &State<S::Handle>, token: &Toke
     }
 }
 
-/// Whether a token is for foreign content: an element is open, and the adjusted current node doesn't take it as HTML. The
-/// end of the input never is.
+/// Returns true if a token is foreign: an element is open, and the adjusted current node doesn't take the token as
+/// HTML. The end of the file never is.
 #[tactic(auto, unfolding(h5_rules::specs::insertion::Foreign::is_foreign))]
 pub fn is_foreign<S: TreeSink>(sink: &S, state: &State<S::Handle>, token: &Token) -> bool
     requires { IsSound S.TreeSink sink.now state.now }
@@ -168,7 +169,7 @@ pub fn is_foreign<S: TreeSink>(sink: &S, state: &State<S::Handle>, token: &Token
     }
 }
 
-/// Whether a text is for foreign content, whatever it says.
+/// Returns true if texts are foreign, which doesn't depend on their content.
 #[tactic(auto, unfolding(h5_rules::specs::insertion::Foreign::is_foreign, h5_state::specs::View::world))]
 pub fn is_foreign_text<S: TreeSink>(sink: &S, state: &State<S::Handle>) -> bool
     requires { IsSound S.TreeSink sink.now state.now }

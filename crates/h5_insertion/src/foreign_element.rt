@@ -1,4 +1,4 @@
-//! Elements of SVG and MathML are made (HTML standard, section 13.2.6.1, "Creating and inserting nodes").
+//! Inserts elements of SVG and MathML (HTML standard, section 13.2.6.1, "Creating and inserting nodes").
 ghost use Rattle.std.specs.Prelude.{◌≡◌, IfOk, if◌then◌else◌, map};
 ghost use Rattle.h5_names.specs.AttributeText.{attribute_texts, is_same_text};
 ghost use Rattle.h5_tables.specs.TagSets.{mathml_namespace, svg_namespace};
@@ -20,8 +20,8 @@ use h5_tables::{
 use h5_token::Tag;
 use std::alloc::{AllocError, Global};
 
-/// An element of this name at the place of insertion; it becomes the current node. After an Err it isn't open, and open
-/// elements are what they were (HTML standard, section 13.2.6.1, "insert a foreign element").
+/// Inserts an element of this name at the place of insertion; it becomes the current node (HTML standard, section
+/// 13.2.6.1, "insert a foreign element"). Fails with `AllocError` if an allocation fails.
 #[tactic(auto, unfolding(h5_state::specs::View::world, h5_rules::specs::insertion::Foreign::insert_foreign_element))]
 pub fn insert_foreign_element<S: TreeSink>(
     sink: &mut S,
@@ -45,7 +45,8 @@ pub fn insert_foreign_element<S: TreeSink>(
     push_open(sink, state, handle)
 }
 
-/// An element of this name at the place of insertion, which isn't open. An Err leaves open elements.
+/// Inserts an element of this name at the place of insertion, without pushing it. Fails with `AllocError` if an
+/// allocation fails.
 #[tactic(auto, unfolding(h5_state::specs::View::world, h5_rules::specs::insertion::Foreign::insert_and_pop_foreign_element))]
 pub fn insert_and_pop_foreign_element<S: TreeSink>(
     sink: &mut S,
@@ -69,7 +70,7 @@ pub fn insert_and_pop_foreign_element<S: TreeSink>(
     Ok(())
 }
 
-// Attributes get the names that MathML, or SVG, has for them.
+// Adjusts the names of attributes for MathML or SVG.
 #[tactic(auto, unfolding(h5_tables::specs::TagSets::mathml_namespace, h5_tables::specs::TagSets::svg_namespace))]
 fn adjust_own_attributes(
     alloc: Global,
@@ -89,8 +90,7 @@ fn adjust_own_attributes(
     }
 }
 
-// The attributes of an element in a namespace: those of MathML, or of SVG, are adjusted, and then foreign ones. After an
-// Err they are gone.
+// Adjusts the attributes of an element in a namespace: those of MathML or SVG, and then foreign ones.
 #[tactic(auto, unfolding(h5_rules::specs::insertion::Foreign::adjusted_attributes))]
 fn adjust_attributes(
     alloc: Global,
@@ -103,8 +103,8 @@ fn adjust_attributes(
     adjust_foreign_attributes(alloc, adjusted)
 }
 
-/// An element for a tag, in a namespace, its attributes adjusted. It becomes the current node unless the tag closes
-/// itself. An Err leaves open elements.
+/// Inserts an element for a tag, in a namespace, with adjusted attributes. It becomes the current node unless the tag
+/// is self-closing. Fails with `AllocError` if an allocation fails.
 pub fn insert_foreign_for<S: TreeSink>(
     sink: &mut S,
     state: &mut State<S::Handle>,

@@ -1,4 +1,4 @@
-//! The form that owns a new element (HTML standard, section 13.2.6.1, create an element for a token).
+//! The form owner of a new element (HTML standard, section 13.2.6.1, create an element for a token).
 ghost use Rattle.std.specs.Prelude.{◌≡◌, [], MatchOption, codes, option_map};
 ghost use Rattle.std.specs.List.{list_any};
 ghost use Rattle.h5_names.specs.AttributeText.{attribute_text, attribute_texts, is_same_text};
@@ -13,7 +13,7 @@ use h5_interface::TreeSink;
 use h5_names::{Attribute, KnownName, LocalName};
 use h5_state::{State, has_open_template};
 
-// Whether this is the name that HTML knows as this.
+// The local name is this known name.
 #[tactic(auto, using(crate::proofs::FormLaws::same_turned))]
 fn is_known(local: &LocalName, known: KnownName) -> bool
     ensures { result ≡ is_same_text (name_text known) local.now }
@@ -21,14 +21,14 @@ fn is_known(local: &LocalName, known: KnownName) -> bool
     local.is(known)
 }
 
-// Whether this is the name `output`.
+// The local name is `output`.
 fn is_output(local: &LocalName) -> bool
     ensures { result ≡ is_same_text (codes "output") local.now }
 {
     "output" == local.as_str()
 }
 
-// Whether an element of this name may have a form owner.
+// An element of this name may have a form owner.
 #[tactic(auto, unfolding(h5_rules::specs::insertion::FormOwner::form_associatable_names))]
 fn is_form_associatable(local: &LocalName) -> bool
     ensures { result ≡ is_one_of form_associatable_names local.now }
@@ -43,7 +43,7 @@ fn is_form_associatable(local: &LocalName) -> bool
         || is_known(local, KnownName::Textarea)
 }
 
-// Whether an attribute is `form`, in no namespace.
+// The attribute is `form`, in no namespace.
 fn is_form(attribute: &Attribute) -> bool
     ensures { result ≡ is_expanded [] (codes "form") (attribute_text attribute.now).name }
 {
@@ -56,23 +56,23 @@ fn any_is_form(attrs: &[Attribute]) -> bool
     attrs.iter().any(|attribute| is_form(attribute))
 }
 
-// Whether one of these attributes is `form`.
+// One of these attributes is `form`.
 fn names_a_form(attrs: &[Attribute]) -> bool
     ensures { result ≡ names_a_form (attribute_texts attrs.now) }
 {
     any_is_form(attrs)
 }
 
-// Whether an element of this name, with these attributes, may be owned by the form element: an `img` may, whatever its
-// attributes say.
+// The form element may be the owner of an element of this name, with these attributes; for an `img` regardless of its
+// attributes.
 fn may_have_owner(local: &LocalName, attrs: &[Attribute]) -> bool
     ensures { result ≡ may_have_owner local.now (attribute_texts attrs.now) }
 {
     is_form_associatable(local) && (local.is(KnownName::Img) || !names_a_form(attrs))
 }
 
-/// A handle of the form element, where it owns a new element of this name, with these attributes: not where a template
-/// is open.
+/// Returns a handle of the form element, if it becomes the owner of a new element of this name, with these attributes;
+/// `None` if a template is open.
 #[tactic(auto, unfolding(h5_state::specs::View::world, h5_rules::specs::insertion::FormOwner::form_owner))]
 #[inline(always)]
 pub(crate) fn form_owner<S: TreeSink>(

@@ -1,5 +1,5 @@
-//! What framesets ask of the open elements, and what goes where one takes the place of the body (HTML standard, sections
-//! 13.2.6.4.7 and 13.2.6.4.18).
+//! Tests for framesets, and the removal of the body that a frameset replaces (HTML standard, sections 13.2.6.4.7 and
+//! 13.2.6.4.18).
 ghost use Rattle.std.specs.Prelude.{◌≡◌, OnOk};
 ghost use Rattle.h5_interface.specs.Seen.{changed};
 ghost use Rattle.h5_rules.specs.Changes.{detach_known};
@@ -15,7 +15,7 @@ use h5_state::{State, truncate};
 use h5_tables::is_html_known;
 use std::alloc::AllocError;
 
-/// Whether only the root is open.
+/// Returns true if only the root is open.
 #[tactic(auto, unfolding(h5_state::specs::View::world))]
 pub fn is_root_alone<S: TreeSink>(sink: &S, state: &State<S::Handle>) -> bool
     ensures { result ≡ is_root_alone (names_of (world_of S.TreeSink sink.now state.now)) }
@@ -23,7 +23,7 @@ pub fn is_root_alone<S: TreeSink>(sink: &S, state: &State<S::Handle>) -> bool
     state.open_elems.elements.len() == 1
 }
 
-/// Whether the element below the current node is a `frameset`.
+/// Returns true if the element next older than the current node is a `frameset`.
 #[tactic(auto, unfolding(h5_state::specs::View::world, h5_rules::specs::World::names_of))]
 pub fn is_below_frameset<S: TreeSink>(sink: &S, state: &State<S::Handle>) -> bool
     requires { IsSound S.TreeSink sink.now state.now }
@@ -38,7 +38,7 @@ pub fn is_below_frameset<S: TreeSink>(sink: &S, state: &State<S::Handle>) -> boo
     }
 }
 
-// The body, the second open element, leaves its parent. An Err leaves it.
+// The body, the second open element, leaves its parent.
 #[tactic(auto, unfolding(h5_state::specs::View::world))]
 fn detach_body<S: TreeSink>(sink: &mut S, state: &State<S::Handle>) -> Result<(), AllocError>
     requires { IsSound S.TreeSink sink.old state.now }
@@ -53,8 +53,8 @@ fn detach_body<S: TreeSink>(sink: &mut S, state: &State<S::Handle>) -> Result<()
     }
 }
 
-/// The body, the second open element, leaves its parent, and only the root stays open. The sink isn't told of elements that
-/// were open. An Err leaves them.
+/// Removes the body, the second open element, from its parent; only the root stays open. The sink isn't notified of
+/// pops. Fails with `AllocError` if an allocation fails.
 #[tactic(auto, unfolding(h5_state::specs::View::world, h5_rules::specs::Changes::remove_body))]
 pub fn remove_body<S: TreeSink>(
     sink: &mut S,

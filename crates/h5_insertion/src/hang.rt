@@ -1,4 +1,4 @@
-//! New elements for the tags of listed elements, and what is hung below them.
+//! Creates elements for the tags of listed elements, and moves nodes below them.
 ghost use Rattle.std.specs.Prelude.{◌≡◌, IfOk, OnErr, OnOk, Some};
 ghost use Rattle.h5_token.specs.TokenText.{tag_text};
 ghost use Rattle.h5_interface.specs.Forest.{IsElement, IsForest, IsNode};
@@ -12,7 +12,8 @@ use h5_interface::{NodeOrText, TreeSink, create_element_with_flags};
 use h5_token::Tag;
 use std::alloc::AllocError;
 
-/// A new HTML element for a tag, without parent. An Err leaves the forest.
+/// Creates an HTML element for a tag, without a parent. Fails with `AllocError` if an allocation fails; then nothing
+/// changes.
 pub fn make_for<S: TreeSink>(sink: &mut S, tag: &Tag) -> Result<S::Handle, AllocError>
     ensures handle { IfOk result (λ element. S.node element ≡ S.choices.fresh (S.sees sink.old).forest) }
     ensures element { IfOk result (λ element. IsElement (S.sees sink.new).forest (S.node element)) }
@@ -24,7 +25,8 @@ pub fn make_for<S: TreeSink>(sink: &mut S, tag: &Tag) -> Result<S::Handle, Alloc
     create_element_with_flags(sink, name, copy.attrs, copy.had_duplicate_attributes)
 }
 
-/// A new HTML element for a tag, around a node. An Err leaves the node where it is, or without parent.
+/// Creates an HTML element for a tag, and moves a node below it. Fails with `AllocError` if an allocation fails; the
+/// node may then have no parent.
 pub fn wrap<S: TreeSink>(sink: &mut S, tag: &Tag, last: &S::Handle) -> Result<S::Handle, AllocError>
     requires is_forest { IsForest (S.sees sink.old).forest }
     requires last { MayHang (S.sees sink.old).forest (S.node last.now) }

@@ -1,5 +1,4 @@
-//! The head element, where it comes back to the stack of open elements (HTML standard, section 13.2.6.4.6, start tags
-//! that go by the rules of the head).
+//! The head element, pushed again (HTML standard, section 13.2.6.4.6, start tags that use the rules of "in head").
 ghost use Rattle.std.specs.Prelude.{◌≡◌, MatchOption};
 ghost use Rattle.std.specs.Option.{option_map};
 ghost use Rattle.h5_rules.specs.Changes.{push_head};
@@ -11,7 +10,7 @@ use h5_interface::TreeSink;
 use h5_state::{State, push_open};
 use std::alloc::AllocError;
 
-/// A handle of the head element, where there is one.
+/// Returns a handle of the head element, if there is one.
 #[tactic(auto, unfolding(h5_state::specs::View::world))]
 pub fn known_head<S: TreeSink>(sink: &S, state: &State<S::Handle>) -> Option<S::Handle>
     requires { IsSound S.TreeSink sink.now state.now }
@@ -23,7 +22,7 @@ pub fn known_head<S: TreeSink>(sink: &S, state: &State<S::Handle>) -> Option<S::
     }
 }
 
-/// The head element, where there is one, becomes the current node. An Err leaves open elements.
+/// Pushes the head element, if there is one, as the current node. Fails with `AllocError` if an allocation fails.
 #[tactic(auto, unfolding(h5_state::specs::View::world))]
 pub fn push_head<S: TreeSink>(sink: &S, state: &mut State<S::Handle>) -> Result<(), AllocError>
     requires sound { IsSound S.TreeSink sink.now state.old }

@@ -1,5 +1,4 @@
-//! What closes elements (HTML standard, sections 13.2.6.3, "Closing elements that have implied end tags", and
-//! 13.2.6.4.7).
+//! Closes elements (HTML standard, sections 13.2.6.3, "Closing elements that have implied end tags", and 13.2.6.4.7).
 ghost use Rattle.std.specs.Prelude.{◌≡◌, Bool, MatchOption, codes, false, if◌then◌else◌, is_some, length, true};
 ghost use Rattle.h5_names.specs.declared.qualified.QualName.{QualName as NameText};
 ghost use Rattle.h5_tables.specs.TagSets.{is_default_scope, is_heading, is_html_named, is_implied};
@@ -18,8 +17,8 @@ use h5_state::{
 };
 use h5_tables::ElementSet;
 
-/// Where the first HTML element of this name stands, from the current node on, if it is in scope: so many elements are
-/// older.
+/// Returns the place of the newest open HTML element of this name, which is the number of older elements, if it is in
+/// scope.
 pub fn find_in_default_scope<S: TreeSink>(
     sink: &S,
     state: &State<S::Handle>,
@@ -32,7 +31,8 @@ pub fn find_in_default_scope<S: TreeSink>(
     find_in_scope(sink, state, &Local(local), &ElementSet::DefaultScope)
 }
 
-/// The same of the first heading, `h1` to `h6`.
+/// Returns the place of the newest open heading, `h1` to `h6`, which is the number of older elements, if it is in
+/// scope.
 pub fn find_heading_in_scope<S: TreeSink>(sink: &S, state: &State<S::Handle>) -> Option<usize>
     requires { IsSound S.TreeSink sink.now state.now }
     ensures found { is_some result ≡ in_scope is_heading is_default_scope (names_of (world_of S.TreeSink sink.now state.now)) }
@@ -41,7 +41,7 @@ pub fn find_heading_in_scope<S: TreeSink>(sink: &S, state: &State<S::Handle>) ->
     find_in_scope(sink, state, &ElementSet::Heading, &ElementSet::DefaultScope)
 }
 
-/// Whether the current node is a heading.
+/// Returns true if the current node is a heading.
 pub fn is_current_heading<S: TreeSink>(sink: &S, state: &State<S::Handle>) -> bool
     requires { IsSound S.TreeSink sink.now state.now }
     ensures { result ≡ first_passes is_heading (names_of (world_of S.TreeSink sink.now state.now)) }
@@ -49,8 +49,8 @@ pub fn is_current_heading<S: TreeSink>(sink: &S, state: &State<S::Handle>) -> bo
     is_current(sink, state, &ElementSet::Heading)
 }
 
-/// Pops elements whose end tags are implied (HTML standard, section 13.2.6.3, "generate implied end tags"). What is older
-/// than the first element of a kind that has no implied end tag stays.
+/// Pops elements whose end tags are implied (HTML standard, section 13.2.6.3, "generate implied end tags"). The
+/// elements that are older than the newest one of a kind without implied end tag stay.
 pub fn generate_implied_end_tags<S: TreeSink>(sink: &mut S, state: &mut State<S::Handle>)
     requires { IsSound S.TreeSink sink.old state.old }
     ensures made { Makes S.TreeSink GenerateImpliedEnd sink.old state.old sink.new state.new }
@@ -62,7 +62,7 @@ pub fn generate_implied_end_tags<S: TreeSink>(sink: &mut S, state: &mut State<S:
     pop_while(sink, state, &ElementSet::CursoryImpliedEnd);
 }
 
-/// The same, where an HTML `select` is in scope.
+/// Pops elements whose end tags are implied, if an HTML `select` is in scope.
 #[tactic(auto, unfolding(h5_rules::specs::stack::Closing::generate_implied_end_in_select))]
 pub fn generate_implied_end_in_select<S: TreeSink>(sink: &mut S, state: &mut State<S::Handle>)
     requires { IsSound S.TreeSink sink.old state.old }
@@ -75,8 +75,8 @@ pub fn generate_implied_end_in_select<S: TreeSink>(sink: &mut S, state: &mut Sta
     }
 }
 
-/// Closes the first HTML `p`, from the current node on (HTML standard, section 13.2.6.4.7, "close a p element"). Whether
-/// it was the current node once implied end tags were popped: where it wasn't, this is a parse error.
+/// Closes the newest open HTML `p` (HTML standard, section 13.2.6.4.7, "close a p element"). Returns true if it was the
+/// current node after implied end tags were generated; otherwise this is a parse error.
 #[tactic(auto, unfolding(h5_rules::specs::stack::Closing::close_p_element))]
 pub fn close_p_element<S: TreeSink>(sink: &mut S, state: &mut State<S::Handle>) -> bool
     requires { IsSound S.TreeSink sink.old state.old }
@@ -91,7 +91,8 @@ pub fn close_p_element<S: TreeSink>(sink: &mut S, state: &mut State<S::Handle>) 
     expected
 }
 
-/// The same, where an HTML `p` is in button scope. Where none is, nothing changes, and that is no parse error.
+/// Closes the newest open HTML `p`, if one is in button scope; otherwise nothing changes. Returns false if there is a
+/// parse error.
 #[tactic(auto, unfolding(h5_rules::specs::stack::Closing::close_p_element_in_button_scope, h5_rules::specs::stack::Expected::is_expected_p))]
 pub fn close_p_element_in_button_scope<S: TreeSink>(
     sink: &mut S,
@@ -109,7 +110,7 @@ pub fn close_p_element_in_button_scope<S: TreeSink>(
     }
 }
 
-/// The current node leaves the stack of open elements, where it is a heading.
+/// Pops the current node, if it is a heading.
 #[tactic(auto, unfolding(h5_rules::specs::stack::Closing::pop_heading))]
 pub fn pop_heading<S: TreeSink>(sink: &mut S, state: &mut State<S::Handle>)
     requires { IsSound S.TreeSink sink.old state.old }
@@ -120,7 +121,8 @@ pub fn pop_heading<S: TreeSink>(sink: &mut S, state: &mut State<S::Handle>)
     }
 }
 
-/// Takes elements off the stack until the first heading was taken off, which stands at this place. The sink isn't told.
+/// Removes elements from the stack up to and including the newest heading, which must be at this place. The sink isn't
+/// notified.
 pub fn pop_until_heading<S: TreeSink>(sink: &S, state: &mut State<S::Handle>, place: usize)
     requires sound { IsSound S.TreeSink sink.now state.old }
     requires place { place ≡ length (cut_through is_heading (names_of (world_of S.TreeSink sink.now state.old)) (world_of S.TreeSink sink.now state.old).stack) }

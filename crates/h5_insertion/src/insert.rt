@@ -1,4 +1,5 @@
-//! What is put at the place of insertion (HTML standard, section 13.2.6.1, "Creating and inserting nodes").
+//! Inserts elements, comments and texts (HTML standard, section 13.2.6.1, "Creating and inserting nodes"). Except where
+//! another place is given, they are inserted at the place of insertion.
 ghost use Rattle.std.specs.Prelude.{◌≡◌, ◌≢◌, ℕ, [], false, MatchOption, OnOk, option_map, string_bytes};
 ghost use Rattle.h5_names.specs.AttributeText.{attribute_texts};
 ghost use Rattle.h5_names.specs.KnownNames.{name_text};
@@ -21,14 +22,14 @@ use h5_names::{Attribute, KnownName, LocalName, Namespace, QualName};
 use h5_state::{State, current_node, has_open_template, push_open, root_node};
 use std::alloc::AllocError;
 
-/// The HTML name of this local name.
+/// Returns the HTML name with this local name.
 pub fn html_qual_name(local: LocalName) -> QualName
     ensures { result ≡ html_name local }
 {
     QualName::new(None, Namespace::html(), local)
 }
 
-// A form owner is told, where there is one.
+// The notice of a form owner, if there is one.
 fn associated_with<Handle>(owner: Option<Handle>) -> Notice<Handle>
     ensures marking { (node : Handle → ℕ) (choices : SinkChoices) (element : ℕ) (p : Place) → marking_of node choices result element p ≡ associates choices element p (option_map node owner) }
     ensures form { (node : Handle → ℕ) (f : Forest) → MatchOption owner (Unit {0}) (λ form. IsNode f (node form)) → IsNodeIfTold node f result }
@@ -39,8 +40,8 @@ fn associated_with<Handle>(owner: Option<Handle>) -> Notice<Handle>
     }
 }
 
-// An HTML element of this name at a place, of which the sink is told before it is put there; it becomes the current
-// node. Where none is open, the place is in the document.
+// Inserts an HTML element of this name at a place, after the notice to the sink; it becomes the current node. If no
+// element is open, the place is in the document.
 #[tactic(auto, unfolding(h5_state::specs::View::world))]
 #[inline(always)]
 fn push_element_at<S: TreeSink>(
@@ -67,8 +68,7 @@ fn push_element_at<S: TreeSink>(
     push_open(sink, state, handle)
 }
 
-/// An HTML element of this name at the place of insertion; it becomes the current node. After an Err it
-/// isn't open, and open elements are what they were.
+/// Inserts an HTML element of this name; it becomes the current node. Fails with `AllocError` if an allocation fails.
 #[tactic(auto, unfolding(h5_rules::specs::Changes::insert_element))]
 pub fn insert_element<S: TreeSink>(
     sink: &mut S,
@@ -93,7 +93,7 @@ pub fn insert_element<S: TreeSink>(
     )
 }
 
-/// An HTML element of this name at the place of insertion, which isn't open. An Err leaves open elements.
+/// Inserts an HTML element of this name, without pushing it. Fails with `AllocError` if an allocation fails.
 #[tactic(auto, unfolding(h5_state::specs::View::world, h5_rules::specs::Changes::insert_and_pop_element))]
 pub fn insert_and_pop_element<S: TreeSink>(
     sink: &mut S,
@@ -112,7 +112,8 @@ pub fn insert_and_pop_element<S: TreeSink>(
     Ok(())
 }
 
-/// An HTML `form` at the place of insertion, which isn't open, and is the form element. An Err leaves the form element.
+/// Inserts an HTML `form`, without pushing it; it becomes the form element. Fails with `AllocError` if an allocation
+/// fails.
 #[tactic(auto, unfolding(h5_state::specs::View::world, h5_rules::specs::Changes::insert_and_pop_element, h5_rules::specs::Changes::insert_and_pop_form))]
 pub fn insert_and_pop_form<S: TreeSink>(
     sink: &mut S,
@@ -137,8 +138,8 @@ pub fn insert_and_pop_form<S: TreeSink>(
     Ok(())
 }
 
-/// An HTML `form` at the place of insertion; it becomes the current node, and, unless a template is open, the form
-/// element. An Err leaves the form element.
+/// Inserts an HTML `form`; it becomes the current node and, unless a template is open, the form element. Fails with
+/// `AllocError` if an allocation fails.
 #[tactic(auto, unfolding(h5_state::specs::View::world, h5_rules::specs::Changes::insert_form))]
 pub fn insert_form<S: TreeSink>(
     sink: &mut S,
@@ -158,7 +159,8 @@ pub fn insert_form<S: TreeSink>(
     Ok(())
 }
 
-/// An HTML element of this name, without attributes, at the place of insertion.
+/// Inserts an HTML element of this name, without attributes; it becomes the current node. Fails with `AllocError` if an
+/// allocation fails.
 #[tactic(auto, unfolding(h5_rules::specs::Changes::insert_element))]
 pub fn insert_phantom<S: TreeSink>(
     sink: &mut S,
@@ -172,7 +174,8 @@ pub fn insert_phantom<S: TreeSink>(
     insert_element(sink, state, LocalName::from_known(name), attrs, false)
 }
 
-/// The root, as the document's last child; it becomes the current node.
+/// Inserts the root as the document's last child; it becomes the current node. Fails with `AllocError` if an allocation
+/// fails.
 #[tactic(auto, unfolding(h5_state::specs::View::world, h5_rules::specs::Changes::create_root))]
 pub fn create_root<S: TreeSink>(
     sink: &mut S,
@@ -194,7 +197,7 @@ pub fn create_root<S: TreeSink>(
     )
 }
 
-/// The head, at the place of insertion; it becomes the current node, and the head element.
+/// Inserts the head; it becomes the current node and the head element. Fails with `AllocError` if an allocation fails.
 #[tactic(auto, unfolding(h5_state::specs::View::world, h5_rules::specs::Changes::insert_head))]
 pub fn insert_head<S: TreeSink>(
     sink: &mut S,
@@ -211,7 +214,7 @@ pub fn insert_head<S: TreeSink>(
     Ok(())
 }
 
-// In a fragment a script is told to have started.
+// In a fragment, the sink is notified that a script has started.
 #[tactic(auto, unfolding(h5_state::specs::View::world))]
 fn script_notice<S: TreeSink>(sink: &S, state: &State<S::Handle>) -> Notice<S::Handle>
     ensures marking { (p : Place) → marking_of S.node S.choices result (S.choices.fresh (world_of S.TreeSink sink.now state.now).forest) p ≡ starts_marked S.choices (world_of S.TreeSink sink.now state.now) }
@@ -223,8 +226,8 @@ fn script_notice<S: TreeSink>(sink: &S, state: &State<S::Handle>) -> Notice<S::H
     }
 }
 
-/// An HTML `script` at the place of insertion; it becomes the current node. In a fragment the sink is told that it has
-/// started before it is put there. After an Err it isn't open, and open elements are what they were.
+/// Inserts an HTML `script`; it becomes the current node. In a fragment the sink is notified before that it has
+/// started. Fails with `AllocError` if an allocation fails.
 #[tactic(auto, unfolding(h5_state::specs::View::world, h5_rules::specs::Changes::insert_script))]
 pub fn insert_script<S: TreeSink>(
     sink: &mut S,
@@ -248,7 +251,7 @@ pub fn insert_script<S: TreeSink>(
     )
 }
 
-/// A comment at the place of insertion. An Err leaves open elements.
+/// Inserts a comment. Fails with `AllocError` if an allocation fails.
 #[tactic(auto, unfolding(h5_state::specs::View::world, h5_rules::specs::Changes::append_comment))]
 pub fn append_comment<S: TreeSink>(
     sink: &mut S,
@@ -262,7 +265,7 @@ pub fn append_comment<S: TreeSink>(
     insert_new_comment(sink, &place, text)
 }
 
-/// A text, which isn't empty, at the place of insertion. An Err leaves open elements.
+/// Inserts a text, which must not be empty. Fails with `AllocError` if an allocation fails.
 #[tactic(auto, unfolding(h5_state::specs::View::world, h5_rules::specs::Changes::append_text))]
 #[inline(always)]
 pub fn append_text<S: TreeSink>(
@@ -278,7 +281,7 @@ pub fn append_text<S: TreeSink>(
     insert_text(sink, &place, text)
 }
 
-/// A comment as the last child of the document.
+/// Inserts a comment as the last child of the document. Fails with `AllocError` if an allocation fails.
 #[tactic(auto, unfolding(h5_state::specs::View::world, h5_rules::specs::Changes::append_comment_to_doc))]
 pub fn append_comment_to_doc<S: TreeSink>(
     sink: &mut S,
@@ -292,7 +295,7 @@ pub fn append_comment_to_doc<S: TreeSink>(
     insert_new_comment(sink, &place, text)
 }
 
-/// A comment as the last child of the root.
+/// Inserts a comment as the last child of the root. Fails with `AllocError` if an allocation fails.
 #[tactic(auto, unfolding(h5_state::specs::View::world, h5_rules::specs::Changes::append_comment_to_html))]
 pub fn append_comment_to_html<S: TreeSink>(
     sink: &mut S,

@@ -1,4 +1,4 @@
-//! What closes elements of SVG and MathML (HTML standard, section 13.2.6.5, "The rules for parsing tokens in foreign
+//! Closes elements of SVG and MathML (HTML standard, section 13.2.6.5, "The rules for parsing tokens in foreign
 //! content").
 ghost use Rattle.std.specs.Prelude.{◌≡◌, length};
 ghost use Rattle.h5_rules.specs.stack.Scope.{cut_through, first_passes};
@@ -16,7 +16,7 @@ use h5_state::{
     NameTest, State, is_current, name_at, newest_foreign, newest_html, open_count, pop, truncate,
 };
 
-// Whether an element has this local name, in any case of ASCII letters.
+// An element of this local name passes, in any case of ASCII letters.
 #[derive(Clone, Copy)]
 struct InAnyCase<'a>(&'a LocalName);
 
@@ -28,8 +28,8 @@ impl NameTest for InAnyCase<'_> {
     }
 }
 
-/// Leaves foreign content: pops elements up to one of HTML, a MathML text integration point, or an HTML integration point,
-/// as an element of SVG is by its name, and an `annotation-xml` if the sink says so.
+/// Leaves foreign content: pops elements up to one of HTML, a MathML text integration point, or an HTML integration
+/// point. An element of SVG is such a point by its name, an `annotation-xml` if the sink says so.
 pub fn leave_foreign_content<S: TreeSink>(sink: &mut S, state: &mut State<S::Handle>)
     requires { IsSound S.TreeSink sink.old state.old }
     ensures { Makes S.TreeSink LeaveForeignContent sink.old state.old sink.new state.new }
@@ -39,7 +39,7 @@ pub fn leave_foreign_content<S: TreeSink>(sink: &mut S, state: &mut State<S::Han
     }
 }
 
-/// Whether the current node has this local name, in any case of ASCII letters.
+/// Returns true if the current node has this local name, in any case of ASCII letters.
 pub fn is_current_in_any_case<S: TreeSink>(
     sink: &S,
     state: &State<S::Handle>,
@@ -51,18 +51,19 @@ pub fn is_current_in_any_case<S: TreeSink>(
     is_current(sink, state, &InAnyCase(local))
 }
 
-/// What the search for the element that an end tag closes comes to, from the current node on.
+/// The result of the search for the element that an end tag closes, from the current node on.
 #[derive(Clone, Copy, Debug)]
 pub enum EndSearch {
-    /// The root.
+    /// The search reaches the root.
     ReachesRoot,
-    /// An element of HTML.
+    /// The search reaches an element of HTML.
     ReachesHtml,
-    /// An element of the tag's name, which stands at this place: so many elements are older.
+    /// An element of the tag's name is at this place, which is the number of older elements.
     Finds(usize),
 }
 
-// By the places of the newest element of the name and of the newest HTML element, each counted with one more.
+// The result by the places of the newest element of the name and of the newest HTML element, each one more than a
+// place.
 fn end_by(here: usize, html: usize) -> EndSearch
     ensures search { search_of result ≡ end_by here html }
     ensures place { IsFoundBy here html result }
@@ -76,7 +77,7 @@ fn end_by(here: usize, html: usize) -> EndSearch
     }
 }
 
-// The same in a walk over the open elements, from the current node on.
+// By a walk over the open elements, from the current node on.
 fn walk_to_end<S: TreeSink>(sink: &S, state: &State<S::Handle>, local: &LocalName) -> EndSearch
     requires { IsSound S.TreeSink sink.now state.now }
     ensures search { search_of result ≡ search_end local.now (names_of (world_of S.TreeSink sink.now state.now)) }
@@ -96,8 +97,8 @@ fn walk_to_end<S: TreeSink>(sink: &S, state: &State<S::Handle>, local: &LocalNam
     EndSearch::ReachesRoot
 }
 
-/// Looks for the element that an end tag of this name closes: the first of its name, in any case of ASCII letters, unless
-/// one of HTML, or the root, comes before.
+/// Searches for the element that an end tag of this name closes: the newest of its name, in any case of ASCII letters,
+/// unless one of HTML, or the root, is newer.
 pub fn search_end<S: TreeSink>(sink: &S, state: &State<S::Handle>, local: &LocalName) -> EndSearch
     requires { IsSound S.TreeSink sink.now state.now }
     ensures search { search_of result ≡ search_end local.now (names_of (world_of S.TreeSink sink.now state.now)) }
@@ -105,13 +106,13 @@ pub fn search_end<S: TreeSink>(sink: &S, state: &State<S::Handle>, local: &Local
 {
     match newest_foreign(sink, state, local) {
         Ok(here) => end_by(here, newest_html(sink, state)),
-        // Without memory for the name in lower case.
+        // There is no memory for the name in lower case.
         Err(_) => walk_to_end(sink, state, local),
     }
 }
 
-/// Takes elements off the stack until the first of this local name, in any case of ASCII letters, was taken off, which
-/// stands at this place. The sink isn't told.
+/// Removes elements from the stack up to and including the newest of this local name, in any case of ASCII letters,
+/// which must be at this place. The sink isn't notified.
 pub fn pop_until_named_in_any_case<S: TreeSink>(
     sink: &S,
     state: &mut State<S::Handle>,

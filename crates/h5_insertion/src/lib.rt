@@ -1,29 +1,20 @@
-//! Operations over the state: creating and inserting nodes (HTML standard, section 13.2.6.1), closing elements (section
-//! 13.2.6.3), the list of active formatting elements (section 13.2.4.3) and the adoption agency (section 13.2.6.4.7).
-//! Also when a token is for foreign content (section 13.2.6).
+//! Operations on the state: creating and inserting nodes (HTML standard, section 13.2.6.1), closing elements
+//! (13.2.6.3), the list of active formatting elements (13.2.4.3), the adoption agency (13.2.6.4.7), and tests for
+//! foreign content (13.2.6). It depends on `h5_state`. The contract of each operation is a change of the world, made
+//! unless an allocation fails; the state stays sound in any case. Begin with `src/place.rt` and `src/insert.rt`, then
+//! `src/implied_ends.rt`, `src/reset.rt`, `src/create.rt`, `src/reconstruct.rt` and `src/agency.rt`. Definitions are in
+//! `h5_rules`; `specs/` has some of them by places.
 //!
-//! Inserting: `place` finds the appropriate place for inserting a node, `put` makes a node and puts it there, and `insert`
-//! has the elements, comments and texts that rules insert. `form_owner` finds the form of a new element. `template` inserts
-//! a `template`, or its shadow root, and `foreign_element` an element of SVG or MathML. `attributes`, `head` and
-//! `table_text` add to what is there: attributes that lack, the head on the stack, text that a table keeps back.
-//! `foreign_content` asks of the adjusted current node whether it takes a token as HTML.
+//! Inserting: `place`, `put`, `insert`; `form_owner`; `template`; `foreign_element` (SVG and MathML); `attributes`,
+//! `head` and `table_text`. `foreign_content` tests if a token is foreign.
 //!
-//! Closing: `implied_ends` and `thorough_ends` generate implied end tags and close paragraphs and headings, and `expected`
-//! tells the error where another node was current. `list_items`, `options` and `tables` find and close items, options and
-//! cells, `removal` takes one element out of the stack, `leaving_foreign` leaves SVG and MathML, and `frameset` removes
-//! the body for a frameset. `reset` resets the insertion mode (section 13.2.4.1), and `template_modes` has the stack of
-//! template insertion modes.
+//! Closing: `implied_ends` and `thorough_ends`; `expected` (the parse error if another node was current); `list_items`,
+//! `options`, `tables`; `removal` (from anywhere on the stack); `leaving_foreign`; `frameset`; `reset` (13.2.4.1);
+//! `template_modes`.
 //!
-//! Formatting: `create` makes an element and lists it, with three alike at most; `markers` lists a marker and clears the
-//! list up to one; `reconstruct` makes anew what is listed and not open. The agency is in `agency`: `find` has what it looks
-//! for, `clones`, `hang` and `moved_block` what a round does to the tree, `relisting` and `stack` what becomes of list and
-//! stack, `round` the whole round. `ends` takes elements off the stack and out of the list, `walk` walks over entries,
-//! and `questions` asks what would be closed.
-//!
-//! It stands on `h5_state`. The contract of each operation is a change of the world. Begin with `src/place.rt` and
-//! `src/insert.rt`; `specs/Places.antt` has a place as the code has it. Then read `src/implied_ends.rt` and
-//! `src/reset.rt`, and `src/create.rt`, `src/reconstruct.rt` and `src/agency.rt`: their definitions are
-//! `Formatting*.antt` and `Adoption*.antt` beside those of the rules, and `specs/` has them over places.
+//! Formatting: `create`, `markers`, `reconstruct`. Of the agency (`agency`), `find` has what it searches, `clones`,
+//! `hang` and `moved_block` its changes of the tree, `relisting` and `stack` those of list and stack, and `round` a
+//! whole round. `ends` removes elements from both, `walk` walks over entries, `questions` tests what would be closed.
 #![tactic(auto)]
 
 mod agency;

@@ -1,4 +1,4 @@
-//! Items of lists (HTML standard, section 13.2.6.4.7, start tags "li", "dd" and "dt").
+//! List items (HTML standard, section 13.2.6.4.7, start tags "li", "dd" and "dt").
 ghost use Rattle.std.specs.Prelude.{◌≡◌, MatchOption, None, Some, codes, if◌then◌else◌, is_none, is_some, length, true};
 ghost use Rattle.std.specs.Option.{option_map};
 ghost use Rattle.h5_names.specs.KnownNames.{name_text};
@@ -19,7 +19,7 @@ use h5_state::{
 };
 use h5_tables::ElementSet;
 
-/// Items that close one another.
+/// Kinds of items; items of one kind close each other.
 #[derive(Clone, Copy)]
 pub enum ItemKind {
     /// `li`.
@@ -28,7 +28,7 @@ pub enum ItemKind {
     Description,
 }
 
-// Which item of this kind has this name, if one does.
+// The known name of an item of this kind, if the name is one.
 #[tactic(auto, unfolding(h5_rules::specs::modes::InBody::list_item_names, h5_rules::specs::modes::InBody::description_names, h5_tables::specs::TagSets::html_namespace))]
 fn item_of(name: &QualName, kind: ItemKind) -> Option<KnownName>
     ensures { option_map name_text result ≡ (if is_html_among (item_names kind) name.now then Some name.now.local else None) }
@@ -44,8 +44,7 @@ fn item_of(name: &QualName, kind: ItemKind) -> Option<KnownName>
     }
 }
 
-// The newest item of this kind, from the current node on, if it comes before any element that ends the search. Items end
-// it, too.
+// The newest open item of this kind, if no element that ends the search is newer. Items also end it.
 fn find_item<S: TreeSink>(sink: &S, state: &State<S::Handle>, kind: ItemKind) -> Option<KnownName>
     requires { IsSound S.TreeSink sink.now state.now }
     ensures { option_map name_text result ≡ newest_item (item_names kind) (names_of (world_of S.TreeSink sink.now state.now)) }
@@ -57,8 +56,8 @@ fn find_item<S: TreeSink>(sink: &S, state: &State<S::Handle>, kind: ItemKind) ->
     item_of(name_at(sink, state, end - 1), kind)
 }
 
-/// Closes the newest item of this kind, if it comes before any element that ends the search. Whether it was the current
-/// node once implied end tags were popped, or there is none: where it wasn't, this is a parse error.
+/// Closes the newest open item of this kind, if no element that ends the search is newer. Returns false if there is a
+/// parse error: the item wasn't the current node after implied end tags were generated.
 #[tactic(auto, unfolding(h5_rules::specs::stack::Closing::close_list_item, h5_rules::specs::stack::Expected::is_expected_item))]
 pub fn close_list_item<S: TreeSink>(
     sink: &mut S,
@@ -83,7 +82,7 @@ pub fn close_list_item<S: TreeSink>(
     }
 }
 
-/// Where the first HTML `li` stands, from the current node on, if it is in list item scope: so many elements are older.
+/// Returns the place of the newest open HTML `li`, which is the number of older elements, if it is in list item scope.
 pub fn find_li_in_list_item_scope<S: TreeSink>(sink: &S, state: &State<S::Handle>) -> Option<usize>
     requires { IsSound S.TreeSink sink.now state.now }
     ensures found { is_some result ≡ in_scope (is_html_named (codes "li")) is_list_item_scope (names_of (world_of S.TreeSink sink.now state.now)) }

@@ -11,7 +11,8 @@ use h5_state::{FormattingList, State};
 use h5_tables::FormatEntry;
 use std::alloc::AllocError;
 
-/// A marker becomes the newest entry of the list. An Err leaves the list.
+/// Adds a marker to the list, as the newest entry. Fails with `AllocError` if an allocation fails; then nothing
+/// changes.
 #[tactic(auto, unfolding(h5_state::specs::View::world, h5_rules::specs::formatting::Formatting::insert_marker))]
 pub fn insert_marker<S: TreeSink>(sink: &S, state: &mut State<S::Handle>) -> Result<(), AllocError>
     requires { IsSound S.TreeSink sink.now state.old }
@@ -22,7 +23,7 @@ pub fn insert_marker<S: TreeSink>(sink: &S, state: &mut State<S::Handle>) -> Res
     Ok(())
 }
 
-// Takes entries off, the newest first, until a marker was taken off.
+// Removes entries, the newest first, up to and including a marker.
 fn clear_to_marker<Handle: Drop>(entries: &mut FormattingList<Handle>)
     ensures cleared { (node : Handle → ℕ) → entries_of node entries.new ≡ clear_to_marker (entries_of node entries.old) }
     ensures older { (newer : List (EntryAt Handle)) × (entries.old ≡ entries.new ++ newer) }
@@ -34,7 +35,7 @@ fn clear_to_marker<Handle: Drop>(entries: &mut FormattingList<Handle>)
     }
 }
 
-/// Takes entries off the list, the newest first, until a marker was taken off.
+/// Removes entries from the list, the newest first, up to and including a marker.
 #[tactic(auto, unfolding(h5_state::specs::View::world, h5_rules::specs::formatting::Formatting::clear_active_formatting_to_marker))]
 pub fn clear_active_formatting_to_marker<S: TreeSink>(sink: &S, state: &mut State<S::Handle>)
     requires { IsSound S.TreeSink sink.now state.old }

@@ -1,4 +1,4 @@
-//! Where the furthest block goes with its clones, and what becomes of its children.
+//! Moves the furthest block with its clones, and the block's children.
 ghost use Rattle.std.specs.Prelude.{◌≡◌, IfOk, OnOk};
 ghost use Rattle.h5_token.specs.TokenText.{tag_text};
 ghost use Rattle.h5_interface.specs.Changes.{detach, reparent};
@@ -19,9 +19,9 @@ use h5_state::{State, handle_at};
 use h5_token::Tag;
 use std::alloc::AllocError;
 
-/// The outermost of the clones around the furthest block, or the block itself, goes to the appropriate place for inserting
-/// a node into the element that is next older than the formatting element, which stands at this place. An Err leaves it
-/// where it is, or without parent.
+/// Moves the outermost of the clones around the furthest block, or the block itself, to the appropriate place for
+/// inserting a node into the element that is next older than the formatting element, which must be at this place. Fails
+/// with `AllocError` if an allocation fails; the moved node may then have no parent.
 pub fn move_block<S: TreeSink>(
     sink: &mut S,
     state: &State<S::Handle>,
@@ -44,8 +44,8 @@ pub fn move_block<S: TreeSink>(
     insert_at(sink, &point, child)
 }
 
-/// The children of the furthest block go below a new element for the formatting element's tag, which becomes the block's
-/// child. An Err leaves what was done so far.
+/// Moves the children of the furthest block below a new element for the formatting element's tag, which becomes the
+/// block's child. Fails with `AllocError` if an allocation fails; the changes made until then stay.
 pub fn refill<S: TreeSink>(
     sink: &mut S,
     state: &State<S::Handle>,

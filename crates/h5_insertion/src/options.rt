@@ -1,4 +1,4 @@
-//! The `option` that is copied where it was closed (HTML standard, section 13.2.6.4.7, an end tag "option").
+//! An `option` that is copied when it is closed (HTML standard, section 13.2.6.4.7, an end tag "option").
 ghost use Rattle.std.specs.Prelude.{◌≡◌, MatchOption};
 ghost use Rattle.std.specs.Option.{option_map};
 ghost use Rattle.h5_interface.specs.Forest.{IsElement};
@@ -10,7 +10,7 @@ use h5_interface::TreeSink;
 use h5_state::{State, all_open, find_open, open_at};
 use std::alloc::AllocError;
 
-/// A handle of the open HTML `option` that is the nearest to the root, if one is open.
+/// Returns a handle of the open HTML `option` that is nearest to the root, if one is open.
 pub fn oldest_option<S: TreeSink>(sink: &S, state: &State<S::Handle>) -> Option<S::Handle>
     requires { IsSound S.TreeSink sink.now state.now }
     ensures oldest { option_map S.node result ≡ oldest_option (world_of S.TreeSink sink.now state.now) }
@@ -23,7 +23,8 @@ pub fn oldest_option<S: TreeSink>(sink: &S, state: &State<S::Handle>) -> Option<
     Some(sink.clone_handle(&open_at(sink, state, place - 1).handle))
 }
 
-/// An option is copied into `selectedcontent` elements, where it isn't open any more. An Err leaves all.
+/// Copies an option into `selectedcontent` elements, if it isn't open any more. Fails with `AllocError` if an
+/// allocation fails.
 #[tactic(auto, unfolding(h5_rules::specs::stack::Closing::copy_closed_option))]
 pub fn copy_closed_option<S: TreeSink>(
     sink: &mut S,

@@ -16,17 +16,17 @@ use h5_state::{
 };
 use h5_tables::{is_html_known, table_outer};
 
-/// Where a node or a text is put.
+/// A place for a node or a text.
 #[derive(Drop)]
 pub enum InsertionPoint<Handle> {
     /// As the last child of this node.
     LastChild(Handle),
-    /// Before the first, a table, where that has a parent; else as the last child of the second, the element below
-    /// it in the stack.
+    /// Before the first node, a table, if it has a parent; otherwise as the last child of the second, the element next
+    /// older on the stack.
     TableFosterParenting(Handle, Handle),
 }
 
-// What is put into an open element, which is a template or not, is put here: into its contents, where it is one.
+// The node that gets the children of an open element: the contents of a template, otherwise the element.
 #[tactic(auto, unfolding(h5_state::specs::View::world))]
 #[inline(always)]
 fn last_child_place<S: TreeSink>(
@@ -47,7 +47,7 @@ fn last_child_place<S: TreeSink>(
     }
 }
 
-// What is put into an open element is put here.
+// The node that gets the children of an open element.
 #[tactic(auto, unfolding(h5_state::specs::View::world))]
 #[inline(always)]
 fn inside<S: TreeSink>(sink: &S, state: &State<S::Handle>, target: &S::Handle) -> S::Handle
@@ -59,7 +59,7 @@ fn inside<S: TreeSink>(sink: &S, state: &State<S::Handle>, target: &S::Handle) -
     last_child_place(sink, state, target, is_template)
 }
 
-// The place of what is foster-parented.
+// The place of a foster-parented node.
 fn foster_place<S: TreeSink>(sink: &S, state: &State<S::Handle>) -> InsertionPoint<S::Handle>
     requires { IsSound S.TreeSink sink.now state.now }
     ensures { place_of S.node result ≡ foster_place (world_of S.TreeSink sink.now state.now).forest (root (world_of S.TreeSink sink.now state.now))
@@ -71,7 +71,7 @@ fn foster_place<S: TreeSink>(sink: &S, state: &State<S::Handle>) -> InsertionPoi
     }
 }
 
-// By the element at this place, counted from the root.
+// The place of a foster-parented node by the element at this place, counted from the root.
 #[tactic(auto, unfolding(h5_state::specs::View::world, h5_state::specs::View::stack_under))]
 fn foster_place_at<S: TreeSink>(
     sink: &S,
@@ -94,7 +94,7 @@ fn foster_place_at<S: TreeSink>(
     }
 }
 
-// Whether what is put into an open element is foster-parented.
+// A node that would be inserted into an open element is foster-parented.
 #[inline(always)]
 fn is_fostered<S: TreeSink>(sink: &S, state: &State<S::Handle>, target: &S::Handle) -> bool
     requires sound { IsSound S.TreeSink sink.now state.now }
@@ -104,7 +104,7 @@ fn is_fostered<S: TreeSink>(sink: &S, state: &State<S::Handle>, target: &S::Hand
     state.foster_parenting && table_outer(sink.elem_name(target))
 }
 
-/// The appropriate place for inserting a node into an open element.
+/// Returns the appropriate place for inserting a node into an open element.
 #[inline(always)]
 pub fn appropriate_place_for_insertion<S: TreeSink>(
     sink: &S,
@@ -122,8 +122,8 @@ pub fn appropriate_place_for_insertion<S: TreeSink>(
     }
 }
 
-/// The appropriate place for inserting a node into the current node, or the document where no element is open. Where nothing
-/// is foster-parented, its number tells whether it is a template.
+/// Returns the appropriate place for inserting a node into the current node, or into the document if no element is
+/// open. Unless the node is foster-parented, the number of the current node's name decides if it is a template.
 #[inline(always)]
 pub fn current_place<S: TreeSink>(sink: &S, state: &State<S::Handle>) -> InsertionPoint<S::Handle>
     requires { IsSound S.TreeSink sink.now state.now }

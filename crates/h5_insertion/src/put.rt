@@ -1,5 +1,5 @@
-//! What is put at a place. Open elements are none of its business: whatever the sink answers, its forest is what it
-//! was, or has one more.
+//! Inserts nodes at a place, regardless of the open elements. If an allocation fails, the forest is unchanged, or has
+//! one more node.
 ghost use Rattle.std.specs.Prelude.{◌≡◌, ◌≢◌, [], IfOk, OnErr, OnOk, option_map, string_bytes};
 ghost use Rattle.h5_names.specs.AttributeText.{attribute_texts};
 ghost use Rattle.h5_interface.specs.Forest.{ChildText, IsElement, IsForest};
@@ -16,7 +16,7 @@ use h5_interface::{NodeOrText, TreeSink, create_element_with_flags};
 use h5_names::{Attribute, QualName};
 use std::alloc::AllocError;
 
-/// A node or a text is put at a place.
+/// Inserts a node or a text at a place. Fails with `AllocError` if an allocation fails; then nothing changes.
 #[inline(always)]
 pub fn insert_at<S: TreeSink>(
     sink: &mut S,
@@ -35,7 +35,8 @@ pub fn insert_at<S: TreeSink>(
     }
 }
 
-/// Where a place is: in this node, or beside it, and then, where it has no parent, in the other.
+/// Returns the nodes that determine a place: the node in which it is, or the table, and the other node for the case
+/// that the table has no parent.
 pub fn nodes_of<S: TreeSink>(place: &InsertionPoint<S::Handle>) -> (&S::Handle, Option<&S::Handle>)
     ensures first { S.node result.0.now ≡ stands_by (place_of S.node place.now) }
     ensures other { option_map (λ outer. S.node outer.now) result.1 ≡ stands_else_in (place_of S.node place.now) }
@@ -48,18 +49,18 @@ pub fn nodes_of<S: TreeSink>(place: &InsertionPoint<S::Handle>) -> (&S::Handle, 
     }
 }
 
-/// What a sink is told of a new element before it is put in its place.
+/// A notice to the sink of a new element, before the element is inserted.
 #[derive(Drop)]
 pub enum Notice<Handle> {
-    /// Nothing.
+    /// No notice.
     Nothing,
-    /// The form that owns it (HTML standard, section 4.10.18, form owner).
+    /// The form owner (HTML standard, section 4.10.18, form owner).
     FormOwner(Handle),
-    /// It is a script that has started (HTML standard, section 4.12.1, already started).
+    /// The element is a script that has started (HTML standard, section 4.12.1, already started).
     AlreadyStarted,
 }
 
-// The sink is told of a new element, and, with its form owner, where it is to stand.
+// Notifies the sink of a new element and, with its form owner, of the place where it will be inserted.
 #[inline(always)]
 fn tell_sink_of_element<S: TreeSink>(
     sink: &mut S,
@@ -82,7 +83,8 @@ fn tell_sink_of_element<S: TreeSink>(
     }
 }
 
-/// A new element at a place. The sink is told what there is to tell of it before it is put there.
+/// Creates an element and inserts it at a place, after the notice to the sink. Fails with `AllocError` if an allocation
+/// fails.
 #[inline(always)]
 pub fn insert_new_element<S: TreeSink>(
     sink: &mut S,
@@ -109,7 +111,7 @@ pub fn insert_new_element<S: TreeSink>(
     Ok(element)
 }
 
-/// A new comment at a place.
+/// Creates a comment and inserts it at a place. Fails with `AllocError` if an allocation fails.
 pub fn insert_new_comment<S: TreeSink>(
     sink: &mut S,
     place: &InsertionPoint<S::Handle>,
@@ -126,7 +128,7 @@ pub fn insert_new_comment<S: TreeSink>(
     insert_at(sink, place, NodeOrText::AppendNode(comment))
 }
 
-/// A text, which isn't empty, at a place.
+/// Inserts a text, which must not be empty, at a place. Fails with `AllocError` if an allocation fails.
 #[inline(always)]
 pub fn insert_text<S: TreeSink>(
     sink: &mut S,

@@ -1,4 +1,4 @@
-//! Questions that are asked where formatting elements are closed.
+//! Tests for closing formatting elements.
 ghost use Rattle.std.specs.Prelude.{◌≡◌, is_some};
 ghost use Rattle.h5_interface.specs.Forest.{IsNode};
 ghost use Rattle.h5_rules.specs.formatting.AdoptionAgency.{closes_current, closes_one, is_current_unlisted};
@@ -19,7 +19,7 @@ use h5_names::LocalName;
 use h5_state::{Listed, State, current_node, is_current_html};
 use h5_tables::FormatEntry;
 
-// Whether an entry is that of an element.
+// The entry is that of an element.
 fn is_entry_of<S: TreeSink>(
     sink: &S,
     entry: &FormatEntry<Listed<S::Handle>>,
@@ -35,7 +35,7 @@ fn is_entry_of<S: TreeSink>(
     }
 }
 
-/// Whether the entry at a place is that of an element.
+/// Returns true if the entry at a place is that of an element.
 pub fn is_listed_at<S: TreeSink>(
     sink: &S,
     state: &State<S::Handle>,
@@ -49,7 +49,7 @@ pub fn is_listed_at<S: TreeSink>(
     at < entry_count(sink, state) && is_entry_of(sink, entry_at(sink, state, at), handle)
 }
 
-/// Whether the current node is the formatting element of a name.
+/// Returns true if the current node is the formatting element of a name.
 pub fn closes_current<S: TreeSink>(sink: &S, state: &State<S::Handle>, name: &LocalName) -> bool
     requires { IsSound S.TreeSink sink.now state.now }
     ensures { result ≡ closes_current name.now (world_of S.TreeSink sink.now state.now) }
@@ -64,7 +64,7 @@ pub fn closes_current<S: TreeSink>(sink: &S, state: &State<S::Handle>, name: &Lo
     }
 }
 
-// Whether an element of this name is listed. Entries of other names are passed over.
+// The element, which has this name, is listed. Entries of other names are skipped.
 #[tactic(auto, unfolding(h5_state::specs::View::world))]
 fn is_listed<S: TreeSink>(
     sink: &S,
@@ -89,7 +89,7 @@ fn is_listed<S: TreeSink>(
     false
 }
 
-/// Whether the current node has this name and isn't listed.
+/// Returns true if the current node has this name and isn't listed.
 pub fn is_current_unlisted<S: TreeSink>(
     sink: &S,
     state: &State<S::Handle>,
@@ -101,7 +101,7 @@ pub fn is_current_unlisted<S: TreeSink>(
     is_current_html(sink, state, name) && !is_listed(sink, state, name, &current_node(sink, state))
 }
 
-/// Whether the adoption agency for a name closes the current node alone, which is no parse error.
+/// Returns true if the adoption agency for a name closes only the current node, which isn't a parse error.
 pub fn closes_one<S: TreeSink>(sink: &S, state: &State<S::Handle>, name: &LocalName) -> bool
     requires { IsSound S.TreeSink sink.now state.now }
     ensures { result ≡ closes_one name.now (world_of S.TreeSink sink.now state.now) }
@@ -109,7 +109,7 @@ pub fn closes_one<S: TreeSink>(sink: &S, state: &State<S::Handle>, name: &LocalN
     is_current_unlisted(sink, state, name) || closes_current(sink, state, name)
 }
 
-/// Whether a formatting element of a name is listed after the last marker.
+/// Returns true if a formatting element of a name is listed after the last marker.
 pub fn is_named_listed<S: TreeSink>(sink: &S, state: &State<S::Handle>, name: &LocalName) -> bool
     ensures { result ≡ is_some (newest_named name.now (world_of S.TreeSink sink.now state.now).formatting) }
 {

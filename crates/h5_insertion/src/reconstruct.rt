@@ -1,4 +1,4 @@
-//! Formatting elements that were closed are made anew.
+//! Reconstructs the active formatting elements.
 ghost use Rattle.std.specs.Prelude.{◌≡◌, ◌<◌, ◌≤◌, ℕ, length, OnOk, vec_len};
 ghost use Rattle.h5_rules.specs.formatting.FormattingList.{open_rest};
 ghost use Rattle.h5_rules.specs.Rows.{ReconstructActiveFormattingElements};
@@ -13,7 +13,7 @@ use h5_state::{Listed, State, current_listed, find_listed};
 use h5_tables::FormatEntry;
 use std::alloc::AllocError;
 
-// The entry at a place says from now on where its element stands. A marker stays what it is.
+// Sets the place of the element of an entry. A marker stays as it is.
 #[tactic(auto, unfolding(h5_state::specs::View::world))]
 fn set_place<S: TreeSink>(sink: &S, state: &mut State<S::Handle>, at: usize, place: usize)
     requires sound { IsSound S.TreeSink sink.now state.old }
@@ -32,8 +32,8 @@ fn set_place<S: TreeSink>(sink: &S, state: &mut State<S::Handle>, at: usize, pla
     }
 }
 
-// Whether the entry at a place stays: it is a marker, or its element is open. Where that was found elsewhere than the entry
-// says, the entry says so from now on: the next time it is found at once.
+// The entry at a place stays: it is a marker, or its element is open. If the element is at another place than the entry
+// has, the entry gets that place, so that the next search takes one step.
 #[tactic(auto, unfolding(h5_state::specs::View::world))]
 fn stays_at<S: TreeSink>(sink: &S, state: &mut State<S::Handle>, at: usize) -> bool
     requires sound { IsSound S.TreeSink sink.now state.old }
@@ -58,8 +58,8 @@ fn stays_at<S: TreeSink>(sink: &S, state: &mut State<S::Handle>, at: usize) -> b
     }
 }
 
-// How many entries stay as they are: the oldest ones, up to the last marker or the last element that is open. Entries may say
-// anew where their elements stand.
+// The number of entries that stay: the oldest ones, up to the last marker or the last open element. Entries may get
+// other places for their elements.
 fn count_staying<S: TreeSink>(sink: &S, state: &mut State<S::Handle>) -> usize
     requires { IsSound S.TreeSink sink.now state.old }
     ensures count { result ≡ length (open_rest (world_of S.TreeSink sink.now state.old).stack (world_of S.TreeSink sink.now state.old).formatting) }
@@ -77,7 +77,7 @@ fn count_staying<S: TreeSink>(sink: &S, state: &mut State<S::Handle>) -> usize
     0
 }
 
-// The element of the entry at a place is made anew.
+// Inserts a new element for the entry at a place.
 #[tactic(auto, unfolding(h5_state::specs::View::world))]
 fn make_anew<S: TreeSink>(
     sink: &mut S,
@@ -105,8 +105,8 @@ fn make_anew<S: TreeSink>(
     Ok(())
 }
 
-/// Makes the elements of entries anew, the oldest first: of all entries after the last marker and after the last element
-/// that is open. After an Err those that were made stay.
+/// Inserts new elements for the entries after the last marker and after the last open element, the oldest first. Fails
+/// with `AllocError` if an allocation fails; the elements made until then stay.
 pub fn reconstruct_active_formatting_elements<S: TreeSink>(
     sink: &mut S,
     state: &mut State<S::Handle>,

@@ -18,7 +18,7 @@ use super::walk::listed_at;
 use h5_interface::TreeSink;
 use h5_state::{Listed, State, handle_at};
 
-// The entry at a place becomes that of another element, with its tag and its stamp. It says where that element comes to stand.
+// The entry at a place gets another element, with the place at which that is put, and keeps its tag and its stamp.
 fn swap_entry<S: TreeSink>(
     sink: &S,
     state: &mut State<S::Handle>,
@@ -43,7 +43,7 @@ fn swap_entry<S: TreeSink>(
     state.active_formatting.set_handle(at, element);
 }
 
-/// The entry at a place goes.
+/// Removes the entry at a place.
 pub fn drop_entry<S: TreeSink>(sink: &S, state: &mut State<S::Handle>, at: usize)
     requires { at < length (world_of S.TreeSink sink.now state.old).formatting }
     ensures done { (newer older : List Entry) → (e : Entry) → (world_of S.TreeSink sink.now state.old).formatting ≡ newer ++ e ∷ older → at ≡ length older
@@ -54,7 +54,7 @@ pub fn drop_entry<S: TreeSink>(sink: &S, state: &mut State<S::Handle>, at: usize
     let _ = state.active_formatting.remove(at);
 }
 
-// The entry at a place comes to stand right above that at another place, which is higher.
+// Moves the entry at a place right above the entry at another place, which is higher.
 fn move_entry<S: TreeSink>(sink: &S, state: &mut State<S::Handle>, from: usize, to: usize)
     requires order { from ≤ to }
     requires to { to < length (world_of S.TreeSink sink.now state.old).formatting }
@@ -66,7 +66,7 @@ fn move_entry<S: TreeSink>(sink: &S, state: &mut State<S::Handle>, from: usize, 
     state.active_formatting.move_up(from, to);
 }
 
-// The entry at a place comes to stand right above that of an element, which is higher.
+// Moves the entry at a place right above that of an element, which is higher.
 fn move_above<S: TreeSink>(sink: &S, state: &mut State<S::Handle>, from: usize, handle: &S::Handle)
     requires from { from < length (world_of S.TreeSink sink.now state.old).formatting }
     requires listed { AreNodes (S.sees sink.now).forest (nodes_of (world_of S.TreeSink sink.now state.old).formatting) }
@@ -84,8 +84,9 @@ fn move_above<S: TreeSink>(sink: &S, state: &mut State<S::Handle>, from: usize, 
     }
 }
 
-// A listed element between the formatting element and the furthest block gives its entry to the next clone, where there is
-// one. How many clones are used up then. They come to stand below the new place of the block, the first of them highest.
+// A listed element between the formatting element and the furthest block gives its entry to the next clone, if there is
+// one. Returns the number of clones used then. The clones are put below the new place of the block, the first one
+// highest.
 fn relist_near<S: TreeSink>(
     sink: &S,
     state: &mut State<S::Handle>,
@@ -124,7 +125,7 @@ fn relist_near<S: TreeSink>(
     }
 }
 
-// A listed element between the two, which isn't near to the furthest block, leaves the list.
+// A listed element between the two that isn't near to the furthest block is removed from the list.
 fn relist_far<S: TreeSink>(sink: &S, state: &mut State<S::Handle>, place: usize)
     requires place { place < length (world_of S.TreeSink sink.now state.old).stack }
     requires open { AreNodes (S.sees sink.now).forest (world_of S.TreeSink sink.now state.old).stack }
@@ -141,8 +142,8 @@ fn relist_far<S: TreeSink>(sink: &S, state: &mut State<S::Handle>, place: usize)
     }
 }
 
-// All elements between, from the one nearest to the furthest block on. The clones come to stand below the new place of
-// the block.
+// Handles all elements between, from the one nearest to the furthest block on. The clones are put below the new place
+// of the block.
 fn relist_between<S: TreeSink>(
     sink: &S,
     state: &mut State<S::Handle>,
@@ -175,8 +176,8 @@ fn relist_between<S: TreeSink>(
     }
 }
 
-/// What a round makes of the list: elements between give their entries to their clones or leave, the formatting element's
-/// entry becomes that of its clone, and it comes to stand right above that of the first of the clones.
+/// Changes the list in a round: the elements between give their entries to their clones or are removed; the formatting
+/// element's entry becomes that of its clone, and moves right above that of the first of the clones.
 pub fn relist<S: TreeSink>(
     sink: &S,
     state: &mut State<S::Handle>,
@@ -195,7 +196,7 @@ pub fn relist<S: TreeSink>(
     ensures stack { state.new.open_elems ≡ state.old.open_elems }
     ensures restack { MayRestack S.node state.old.open_elems block (S.node clone ∷ map S.node clones.now.items) state.new.active_formatting }
 {
-    // Above the older elements stand the clones then, the block, and the clone of the formatting element.
+    // Above the older elements are then the clones, the block, and the clone of the formatting element.
     let new_block = first.saturating_sub(1).saturating_add(clones.len());
     relist_between(sink, state, first, block, clones, new_block);
     swap_entry(sink, state, at, clone, new_block.saturating_add(1));

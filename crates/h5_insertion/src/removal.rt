@@ -1,4 +1,4 @@
-//! An element leaves the stack of open elements, wherever it stands.
+//! Removes an element from anywhere on the stack of open elements.
 ghost use Rattle.std.specs.Prelude.{◌≡◌, ◌≢◌, if◌then◌else◌};
 ghost use Rattle.h5_interface.specs.Forest.{IsElement};
 ghost use Rattle.h5_rules.specs.formatting.Adoption.{without_node};
@@ -11,7 +11,7 @@ ghost use Rattle.h5_state.specs.View.{with_stack};
 use h5_interface::TreeSink;
 use h5_state::{State, find_open, renew_from};
 
-// An element leaves the stack, where it is open; the sink isn't told. Whether it was.
+// Removes an element from the stack, if it is open, without notifying the sink. Returns true if it was open.
 fn take_out<S: TreeSink>(sink: &S, state: &mut State<S::Handle>, handle: &S::Handle) -> bool
     requires sound { IsSound S.TreeSink sink.now state.old }
     requires element { IsElement (S.sees sink.now).forest (S.node handle.now) }
@@ -31,7 +31,7 @@ fn take_out<S: TreeSink>(sink: &S, state: &mut State<S::Handle>, handle: &S::Han
     }
 }
 
-/// An element, which isn't the root, leaves the stack, and the sink is told, where it is open.
+/// Removes an element, which must not be the root, from the stack, and notifies the sink, if the element is open.
 #[tactic(auto, unfolding(h5_rules::specs::formatting::AdoptionAgency::remove_from_stack))]
 pub fn remove_from_stack<S: TreeSink>(
     sink: &mut S,

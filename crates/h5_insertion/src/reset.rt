@@ -15,7 +15,7 @@ use h5_names::{KnownName, LocalName, QualName};
 use h5_state::{State, name_at, newest_among, open_count};
 use h5_tables::InsertionMode;
 
-// What a name is to a reset: plain, or one that decides.
+// What a name is for a reset: plain, or one that decides.
 #[derive(Clone, Copy)]
 enum Role {
     Plain,
@@ -113,7 +113,7 @@ fn template_mode<S: TreeSink>(sink: &S, state: &State<S::Handle>) -> InsertionMo
     }
 }
 
-// The mode after an `html`.
+// The mode that an `html` decides.
 #[tactic(auto, unfolding(h5_state::specs::View::world))]
 fn html_mode<S: TreeSink>(sink: &S, state: &State<S::Handle>) -> InsertionMode
     ensures { result ≡ (if is_some (world_of S.TreeSink sink.now state.now).head then InsertionMode.AfterHead else InsertionMode.BeforeHead) }
@@ -125,7 +125,7 @@ fn html_mode<S: TreeSink>(sink: &S, state: &State<S::Handle>) -> InsertionMode
     }
 }
 
-// The mode, where a name of this role decides it.
+// The mode that a name of this role decides, if it does.
 fn decide<S: TreeSink>(sink: &S, state: &State<S::Handle>, role: Role) -> Option<InsertionMode>
     ensures { (below : Mode) → decide (situation_of (world_of S.TreeSink sink.now state.now)) (role_as role) below ≡ unwrap_or result below }
 {
@@ -151,7 +151,7 @@ fn is_cell_or_head(role: Role) -> bool
     matches!(role, Role::Cell | Role::Head)
 }
 
-// The mode at the root: there a cell or a head decides nothing.
+// The mode at the root; there a cell or a head doesn't decide.
 fn decide_root<S: TreeSink>(sink: &S, state: &State<S::Handle>, role: Role) -> InsertionMode
     ensures { result ≡ decide_root (situation_of (world_of S.TreeSink sink.now state.now)) (role_as role) }
 {
@@ -164,7 +164,7 @@ fn decide_root<S: TreeSink>(sink: &S, state: &State<S::Handle>, role: Role) -> I
     }
 }
 
-// The mode that the newest element above the root tells which decides one, if there is one.
+// The mode that the newest deciding element above the root decides, if there is one.
 fn decide_above_root<S: TreeSink>(sink: &S, state: &State<S::Handle>) -> Option<InsertionMode>
     requires { IsSound S.TreeSink sink.now state.now }
     ensures some { IfSome result (λ mode. mode ≡ reset (situation_of (world_of S.TreeSink sink.now state.now)) (roles (names_of (world_of S.TreeSink sink.now state.now)))) }
@@ -179,8 +179,8 @@ fn decide_above_root<S: TreeSink>(sink: &S, state: &State<S::Handle>) -> Option<
     }
 }
 
-/// The insertion mode that the open elements tell: that of the first, from the current node on, that decides. In a fragment
-/// the context element stands in for the root.
+/// Returns the insertion mode by the open elements: that of the newest one that decides. In a fragment the context
+/// element replaces the root.
 #[tactic(auto, unfolding(h5_state::specs::View::world, h5_rules::specs::fitting::Reset::reset_mode))]
 pub fn reset_insertion_mode<S: TreeSink>(sink: &S, state: &State<S::Handle>) -> InsertionMode
     requires { IsSound S.TreeSink sink.now state.now }

@@ -35,7 +35,7 @@ fn tag_at<'a, S: TreeSink>(sink: &S, state: &'a State<S::Handle>, at: usize) -> 
     }
 }
 
-// The sink is told that the element at a place is popped.
+// Notifies the sink that the element at a place is popped.
 fn tell_popped<S: TreeSink>(sink: &mut S, state: &State<S::Handle>, place: usize)
     requires sound { IsSound S.TreeSink sink.old state.now }
     requires place { place < length (world_of S.TreeSink sink.old state.now).stack }
@@ -47,9 +47,9 @@ fn tell_popped<S: TreeSink>(sink: &mut S, state: &State<S::Handle>, place: usize
     sink.pop(&open_at(sink, state, place).handle);
 }
 
-/// A round of the adoption agency: the furthest block, at its place, goes with the clones of elements between to where the
-/// standard says, its children go below a clone of the formatting element, at its place, and list and stack follow. An Err
-/// leaves what was done so far.
+/// A round of the adoption agency. The furthest block, at its place, moves with the clones of elements between to the
+/// place that the standard gives; its children move below a clone of the formatting element, at its place; list and
+/// stack change accordingly. Fails with `AllocError` if an allocation fails; the changes made until then stay.
 pub fn adopt<S: TreeSink>(
     sink: &mut S,
     state: &mut State<S::Handle>,

@@ -48,8 +48,9 @@ fn push_newer<S: TreeSink>(
     Ok(())
 }
 
-/// What stands above the older elements after a round, below what stood above the block, the oldest first: the clones, the
-/// last of them first, the block, which stands at a place, and the clone of the formatting element.
+/// Returns the handles that a round puts between the older elements and those above the block, the oldest first: the
+/// clones, the last of them first, the block, which is at a place, and the clone of the formatting element. Fails with
+/// `AllocError` if an allocation fails.
 pub fn round_handles<S: TreeSink>(
     sink: &S,
     state: &State<S::Handle>,
@@ -71,7 +72,7 @@ pub fn round_handles<S: TreeSink>(
     Ok(handles)
 }
 
-// So many of the oldest elements stay open. The sink isn't told.
+// Keeps the `count` oldest elements. The sink isn't notified.
 fn keep_oldest<S: TreeSink>(sink: &S, state: &mut State<S::Handle>, count: usize)
     requires { IsSound S.TreeSink sink.now state.old }
     ensures { Becomes S.TreeSink (λ w. record w { stack = stack_under S.node state.old count }) sink.now state.old sink.now state.new }
@@ -79,7 +80,8 @@ fn keep_oldest<S: TreeSink>(sink: &S, state: &mut State<S::Handle>, count: usize
     truncate(sink, state, count);
 }
 
-// The elements from a place on leave the stack, and these stand there, the oldest first. An Err leaves some of them.
+// Replaces the elements from a place on by these, the oldest first. If an allocation fails, only some of them are on
+// the stack.
 fn reopen<S: TreeSink>(
     sink: &S,
     state: &mut State<S::Handle>,
@@ -98,8 +100,8 @@ fn reopen<S: TreeSink>(
     Ok(())
 }
 
-// These elements stand from a place on, in place of as many, and those above stay where they are. An Err leaves those below
-// the place.
+// Replaces as many elements from a place on by these; those above stay. If an allocation fails, only the elements below
+// the place are on the stack.
 fn replace<S: TreeSink>(
     sink: &S,
     state: &mut State<S::Handle>,
@@ -116,8 +118,9 @@ fn replace<S: TreeSink>(
     replace_open(sink, state, place, handles)
 }
 
-/// The elements from a place up to that of the block leave the stack, and these stand there, the oldest first, below those
-/// that stand above the block. Where they are as many, those above stay where they are. An Err leaves some of them.
+/// Replaces the elements from a place up to that of the block by these, the oldest first; those above the block stay
+/// above them, at the same places if the numbers are equal. Fails with `AllocError` if an allocation fails; then some
+/// elements may be missing.
 pub fn restack<S: TreeSink>(
     sink: &S,
     state: &mut State<S::Handle>,

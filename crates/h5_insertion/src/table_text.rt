@@ -1,4 +1,4 @@
-//! The text of a table that a builder keeps back (HTML standard, section 13.2.6.4.10, "In table text").
+//! The buffered text of a table (HTML standard, section 13.2.6.4.10, "In table text").
 ghost use Rattle.std.specs.Prelude.{◌≡◌, string_bytes};
 ghost use Rattle.h5_rules.specs.Rows.{AppendPendingText, TakePendingText};
 ghost use Rattle.h5_state.specs.Steps.{IsSound, Makes, MakesIfOk, world_of};
@@ -7,7 +7,7 @@ use h5_interface::TreeSink;
 use h5_state::{PendingText, State};
 use std::alloc::AllocError;
 
-/// A text is kept back, behind what is kept back already. An Err leaves that.
+/// Appends a text to the buffered text. Fails with `AllocError` if an allocation fails.
 #[tactic(auto, unfolding(h5_state::specs::View::world, h5_rules::specs::Changes::append_pending_text, h5_rules::specs::World::names_of))]
 pub fn append_pending_text<S: TreeSink>(
     sink: &S,
@@ -20,7 +20,7 @@ pub fn append_pending_text<S: TreeSink>(
     state.pending_table_text.append(text)
 }
 
-/// Takes all text that is kept back.
+/// Removes and returns all buffered text.
 #[tactic(auto, unfolding(h5_state::specs::View::world, h5_rules::specs::World::names_of))]
 pub fn take_pending_text<S: TreeSink>(sink: &S, state: &mut State<S::Handle>) -> PendingText
     requires { IsSound S.TreeSink sink.now state.old }

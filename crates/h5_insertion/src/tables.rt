@@ -1,4 +1,4 @@
-//! What the modes of tables ask of the open elements, and how they close them (HTML standard, sections 13.2.6.4.9 to
+//! Tests of the open elements for the modes of tables, and ways to close them (HTML standard, sections 13.2.6.4.9 to
 //! 13.2.6.4.15).
 ghost use Rattle.std.specs.Prelude.{◌≡◌, MatchOption, is_some, length};
 ghost use Rattle.h5_tables.specs.TagSets.{is_cell, is_table_outer, is_table_scope};
@@ -11,8 +11,8 @@ use h5_interface::TreeSink;
 use h5_state::{NewestTest, State, find_in_scope, is_current, truncate};
 use h5_tables::ElementSet;
 
-/// Where the first element whose name passes stands, from the current node on, if it is in table scope: so many elements
-/// are older.
+/// Returns the place of the newest open element whose name passes, which is the number of older elements, if it is in
+/// table scope.
 pub fn find_in_table_scope<S: TreeSink, Is: NewestTest>(
     sink: &S,
     state: &State<S::Handle>,
@@ -25,7 +25,7 @@ pub fn find_in_table_scope<S: TreeSink, Is: NewestTest>(
     find_in_scope(sink, state, is, &ElementSet::TableScope)
 }
 
-/// Whether text of a table is kept back where it would be put: the current node is a part of a table.
+/// Returns true if the current node is a part of a table, so that text in it is buffered.
 pub fn is_current_table_outer<S: TreeSink>(sink: &S, state: &State<S::Handle>) -> bool
     requires { IsSound S.TreeSink sink.now state.now }
     ensures { result ≡ first_passes is_table_outer (names_of (world_of S.TreeSink sink.now state.now)) }
@@ -33,7 +33,7 @@ pub fn is_current_table_outer<S: TreeSink>(sink: &S, state: &State<S::Handle>) -
     is_current(sink, state, &ElementSet::TableOuter)
 }
 
-// How many elements stay open where the stack is cut above the first whose name passes, from the current node on.
+// The number of elements that stay open if all that are newer than the newest one whose name passes are removed.
 #[inline(always)]
 fn count_down_to<S: TreeSink, Is: NewestTest>(sink: &S, state: &State<S::Handle>, is: &Is) -> usize
     requires { IsSound S.TreeSink sink.now state.now }
@@ -42,8 +42,8 @@ fn count_down_to<S: TreeSink, Is: NewestTest>(sink: &S, state: &State<S::Handle>
     is.newest(sink, state)
 }
 
-/// Clears the stack back to a context: takes elements off it until the name of the current node passes, or none is open.
-/// The sink isn't told.
+/// Clears the stack back to a context: removes elements until the name of the current node passes, or none is open. The
+/// sink isn't notified.
 #[inline(always)]
 pub fn pop_until_current<S: TreeSink, Is: NewestTest>(
     sink: &S,
@@ -57,7 +57,8 @@ pub fn pop_until_current<S: TreeSink, Is: NewestTest>(
     truncate(sink, state, count);
 }
 
-/// Takes elements off the stack until the first cell was taken off, which stands at this place. The sink isn't told.
+/// Removes elements from the stack up to and including the newest cell, which must be at this place. The sink isn't
+/// notified.
 pub fn pop_until_cell<S: TreeSink>(sink: &S, state: &mut State<S::Handle>, place: usize)
     requires sound { IsSound S.TreeSink sink.now state.old }
     requires place { place ≡ length (cut_through is_cell (names_of (world_of S.TreeSink sink.now state.old)) (world_of S.TreeSink sink.now state.old).stack) }
@@ -66,7 +67,7 @@ pub fn pop_until_cell<S: TreeSink>(sink: &S, state: &mut State<S::Handle>, place
     truncate(sink, state, place);
 }
 
-/// Whether the current node is a cell.
+/// Returns true if the current node is a cell.
 pub fn is_current_cell<S: TreeSink>(sink: &S, state: &State<S::Handle>) -> bool
     requires { IsSound S.TreeSink sink.now state.now }
     ensures { result ≡ first_passes is_cell (names_of (world_of S.TreeSink sink.now state.now)) }
@@ -74,7 +75,7 @@ pub fn is_current_cell<S: TreeSink>(sink: &S, state: &State<S::Handle>) -> bool
     is_current(sink, state, &ElementSet::TdTh)
 }
 
-/// Where the first cell stands, from the current node on: so many elements are older, none where none is open.
+/// Returns the place of the newest open cell, which is the number of older elements, or 0 if none is open.
 pub fn find_cell<S: TreeSink>(sink: &S, state: &State<S::Handle>) -> usize
     requires { IsSound S.TreeSink sink.now state.now }
     ensures { result ≡ length (cut_through is_cell (names_of (world_of S.TreeSink sink.now state.now)) (world_of S.TreeSink sink.now state.now).stack) }

@@ -1,4 +1,4 @@
-//! Putting a template, which may become a shadow root (HTML standard, section 13.2.6.4.4, a start tag whose tag name is
+//! Inserts a template, which may become a shadow root (HTML standard, section 13.2.6.4.4, a start tag whose tag name is
 //! "template").
 ghost use Rattle.std.specs.Prelude.{◌≡◌, IfOk, OnOk};
 ghost use Rattle.std.specs.List.{list_any};
@@ -21,7 +21,7 @@ use h5_state::{State, current_node, pop, push_open};
 use h5_token::Tag;
 use std::alloc::AllocError;
 
-// Whether an attribute is `shadowrootmode`, and says `open` or `closed`.
+// The attribute is `shadowrootmode`, with the value `open` or `closed`.
 fn is_shadow_mode(attribute: &Attribute) -> bool
     ensures { result ≡ is_shadow_mode (attribute_text attribute.now) }
 {
@@ -41,7 +41,7 @@ fn has_shadow_mode(attrs: &[Attribute]) -> bool
     any_is_shadow_mode(attrs)
 }
 
-// Whether more than the root is open.
+// More than the root is open.
 #[tactic(auto, unfolding(h5_state::specs::View::world))]
 fn is_more_open<S: TreeSink>(sink: &S, state: &State<S::Handle>) -> bool
     ensures { result ≡ is_more_open (world_of S.TreeSink sink.now state.now).stack }
@@ -49,7 +49,7 @@ fn is_more_open<S: TreeSink>(sink: &S, state: &State<S::Handle>) -> bool
     state.open_elems.elements.len() > 1
 }
 
-// Whether the sink allows a shadow root where an element would be put.
+// The sink allows a shadow root at the place of insertion.
 fn allows_shadow<S: TreeSink>(sink: &S, state: &State<S::Handle>) -> bool
     requires { IsSound S.TreeSink sink.now state.now }
     ensures { result ≡ S.choices.allows_shadow (world_of S.TreeSink sink.now state.now).forest (stands_by (place (world_of S.TreeSink sink.now state.now))) }
@@ -59,7 +59,7 @@ fn allows_shadow<S: TreeSink>(sink: &S, state: &State<S::Handle>) -> bool
     sink.allow_declarative_shadow_roots(parent)
 }
 
-// Whether a template is to become the shadow root of the current node.
+// A template may become the shadow root of the current node.
 fn asks_for_shadow<S: TreeSink>(sink: &S, state: &State<S::Handle>, attrs: &[Attribute]) -> bool
     requires { IsSound S.TreeSink sink.now state.now }
     ensures { result ≡ asks_for_shadow S.choices (attribute_texts attrs.now) (world_of S.TreeSink sink.now state.now) }
@@ -67,7 +67,7 @@ fn asks_for_shadow<S: TreeSink>(sink: &S, state: &State<S::Handle>, attrs: &[Att
     has_shadow_mode(attrs) && allows_shadow(sink, state) && is_more_open(sink, state)
 }
 
-// A template without parent becomes the current node.
+// A template without a parent becomes the current node.
 #[tactic(auto, unfolding(h5_state::specs::View::world, h5_rules::specs::insertion::Templates::push_loose_template))]
 fn push_loose_template<S: TreeSink>(
     sink: &mut S,
@@ -88,7 +88,7 @@ fn push_loose_template<S: TreeSink>(
     Ok(template)
 }
 
-// The contents of a template become the shadow root of the host, where the sink does it, and it is told whether it did.
+// Offers the contents of a template to the sink as the shadow root of the host. Returns true if the sink attached them.
 #[tactic(auto, unfolding(h5_state::specs::View::world))]
 fn attach<S: TreeSink>(
     sink: &mut S,
@@ -108,8 +108,8 @@ fn attach<S: TreeSink>(
     sink.attach_declarative_shadow(host, template, attrs)
 }
 
-// The contents of the current node, a template, become the shadow root of the host, where the sink does it. Else the
-// template is popped, and another is put at the place of insertion.
+// Offers the contents of the current node, a template, to the sink as the shadow root of the host. If the sink doesn't
+// attach them, the template is popped, and another is inserted at the place of insertion.
 fn attach_or_put<S: TreeSink>(
     sink: &mut S,
     state: &mut State<S::Handle>,
@@ -133,9 +133,9 @@ fn attach_or_put<S: TreeSink>(
     insert_element(sink, state, name, attrs, had_duplicate_attributes)
 }
 
-/// An HTML `template` becomes the current node: at the place of insertion, or, where it asks for it and the sink does it,
-/// without parent, its contents the shadow root of the node that was current. An Err leaves open elements, perhaps with
-/// one more.
+/// Inserts an HTML `template`, which becomes the current node: at the place of insertion, or, if its attributes ask for
+/// it and the sink attaches its contents, without a parent, as the shadow root of the node that was current. Fails with
+/// `AllocError` if an allocation fails.
 #[tactic(auto, unfolding(h5_rules::specs::insertion::Templates::insert_template))]
 pub fn insert_template<S: TreeSink>(
     sink: &mut S,

@@ -9,7 +9,7 @@ use h5_state::State;
 use h5_tables::InsertionMode;
 use std::alloc::AllocError;
 
-/// Whether there is a template insertion mode.
+/// Returns true if there is a template insertion mode.
 #[tactic(auto, unfolding(h5_state::specs::View::world))]
 pub fn has_template_mode<S: TreeSink>(sink: &S, state: &State<S::Handle>) -> bool
     ensures { result ≡ not (no_template_mode (world_of S.TreeSink sink.now state.now).template_modes) }
@@ -17,7 +17,7 @@ pub fn has_template_mode<S: TreeSink>(sink: &S, state: &State<S::Handle>) -> boo
     !state.template_modes.is_empty()
 }
 
-/// A template insertion mode is pushed. An Err leaves them.
+/// Pushes a template insertion mode. Fails with `AllocError` if an allocation fails.
 #[tactic(auto, unfolding(h5_state::specs::View::world, h5_rules::specs::World::names_of))]
 pub fn push_template_mode<S: TreeSink>(
     sink: &S,
@@ -31,7 +31,7 @@ pub fn push_template_mode<S: TreeSink>(
     Ok(())
 }
 
-/// The current template insertion mode leaves.
+/// Pops the current template insertion mode.
 #[tactic(auto, unfolding(h5_state::specs::View::world, h5_rules::specs::World::names_of))]
 pub fn pop_template_mode<S: TreeSink>(sink: &S, state: &mut State<S::Handle>)
     requires { IsSound S.TreeSink sink.now state.old }
@@ -40,7 +40,8 @@ pub fn pop_template_mode<S: TreeSink>(sink: &S, state: &mut State<S::Handle>)
     let _ = state.template_modes.pop();
 }
 
-/// The current template insertion mode gives way to another. After an Err there may be one less.
+/// Replaces the current template insertion mode. Fails with `AllocError` if an allocation fails; then the current one
+/// may be missing.
 #[tactic(auto, unfolding(h5_state::specs::View::world, h5_rules::specs::World::names_of))]
 pub fn switch_template_mode<S: TreeSink>(
     sink: &S,

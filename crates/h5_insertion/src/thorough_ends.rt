@@ -1,4 +1,4 @@
-//! What closes elements before a template ends (HTML standard, section 13.2.6.3, "generate all implied end tags
+//! Closes elements before a template ends (HTML standard, section 13.2.6.3, "generate all implied end tags
 //! thoroughly").
 ghost use Rattle.std.specs.Prelude.{◌≡◌};
 ghost use Rattle.h5_rules.specs.Rows.{GenerateImpliedEndThoroughly};
@@ -11,7 +11,7 @@ use h5_interface::TreeSink;
 use h5_state::{State, pop_while};
 use h5_tables::ElementSet;
 
-/// Pops elements whose end tags are implied, those of parts of tables too.
+/// Pops elements whose end tags are implied, including those of parts of tables.
 pub fn generate_implied_end_thoroughly<S: TreeSink>(sink: &mut S, state: &mut State<S::Handle>)
     requires { IsSound S.TreeSink sink.old state.old }
     ensures made { Makes S.TreeSink GenerateImpliedEndThoroughly sink.old state.old sink.new state.new }

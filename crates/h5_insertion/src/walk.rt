@@ -1,4 +1,5 @@
-//! Whether an element ends a scope, and walks over the list of active formatting elements: places are counted from the oldest.
+//! The scope test for one element, and access to the list of active formatting elements, by places counted from the
+//! oldest entry.
 ghost use Rattle.std.specs.Prelude.{◌≡◌, ◌<◌, ◌≤◌, ◌+◌, ◌∷◌, ◌++◌, [], ℕ, List, length};
 ghost use Rattle.h5_token.specs.TokenText.{TagText};
 ghost use Rattle.h5_rules.specs.formatting.FormattingList.{ElementEntry, Entry, nodes_of};
@@ -17,7 +18,7 @@ use h5_interface::TreeSink;
 use h5_state::{Listed, State};
 use h5_tables::{FormatEntry, default_scope};
 
-/// Whether an element ends a scope.
+/// Returns true if an element ends a scope.
 pub fn ends_scope<S: TreeSink>(sink: &S, handle: &S::Handle) -> bool
     requires { IsElement (S.sees sink.now).forest (S.node handle.now) }
     ensures { result ≡ is_default_scope (name_in (S.sees sink.now).forest (S.node handle.now)) }
@@ -25,7 +26,7 @@ pub fn ends_scope<S: TreeSink>(sink: &S, handle: &S::Handle) -> bool
     default_scope(sink.elem_name(handle))
 }
 
-/// How many entries there are.
+/// Returns the number of entries.
 #[tactic(auto, unfolding(h5_state::specs::View::world, crate::specs::View::list_under))]
 pub fn entry_count<S: TreeSink>(sink: &S, state: &State<S::Handle>) -> usize
     ensures count { result ≡ length (world_of S.TreeSink sink.now state.now).formatting }
@@ -35,7 +36,7 @@ pub fn entry_count<S: TreeSink>(sink: &S, state: &State<S::Handle>) -> usize
     state.active_formatting.len()
 }
 
-/// The entry at a place.
+/// Returns the entry at a place, which must be less than the number of entries.
 #[tactic(auto, unfolding(h5_state::specs::View::world, crate::specs::View::list_under))]
 pub fn entry_at<'a, S: TreeSink>(
     sink: &S,
@@ -51,7 +52,7 @@ pub fn entry_at<'a, S: TreeSink>(
     state.active_formatting.get(place)
 }
 
-/// What is listed at a place.
+/// Returns the listed element at a place, with its stamp; the place must be that of an element's entry.
 pub fn listed_at<'a, S: TreeSink>(
     sink: &S,
     state: &'a State<S::Handle>,
@@ -70,7 +71,7 @@ pub fn listed_at<'a, S: TreeSink>(
     }
 }
 
-/// The element that is listed at a place.
+/// Returns the handle of the listed element at a place, which must be that of an element's entry.
 pub fn element_at<'a, S: TreeSink>(
     sink: &S,
     state: &'a State<S::Handle>,

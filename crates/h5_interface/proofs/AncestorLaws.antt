@@ -1,4 +1,4 @@
--- Ancestors, and what becomes of them where nodes are hung and loosened.
+-- Ancestors after nodes were given or lost parents.
 use Rattle.std.proofs.Common.{◌≡◌, ◌∙◌, ◌⊎◌, ℕ, Bool, true, false, cond, inl, inr, refl, sym}
 use Rattle.std.specs.Prelude.{Option, None, Some}
 use Rattle.h5_interface.specs.Ancestors.{AtOrAbove, Further, IsAncestor, Parent}
@@ -12,21 +12,21 @@ at_or_above_trans up a b c h (inl e) = rw (← e) h
 at_or_above_trans up a b c (inl e) (inr k) = inr (rw e k)
 at_or_above_trans up a b c (inr h) (inr k) = inr (ancestor_trans up a b c h k)
 
--- where each parent of the one is a parent of the other, so is each ancestor
+-- if each parent in one forest is a parent in the other, each ancestor is an ancestor
 pub ancestor_fewer : (up down : ℕ → Option ℕ) → ((n p : ℕ) → down n ≡ Some p → up n ≡ Some p) → (a n : ℕ) → IsAncestor down a n → IsAncestor up a n
 ancestor_fewer up down k a n (Parent e) = Parent (k n a e)
 ancestor_fewer up down k a n (Further p h e) = Further p (ancestor_fewer up down k a p h) (k n p e)
 
--- what has no parent has no ancestor
+-- a node without a parent has no ancestor
 pub no_ancestor : (up : ℕ → Option ℕ) (a n : ℕ) → up n ≡ None → ¬ (IsAncestor up a n)
 no_ancestor up a n e (Parent w) = let v : None ≡ Some a = sym e ∙ w in cc
 no_ancestor up a n e (Further p h w) = let v : None ≡ Some p = sym e ∙ w in cc
 
--- the chosen nodes are hung below p, and all others stay where they are
+-- the chosen nodes get the parent p, and all others keep their parent
 abbrev pub hung : (ℕ → Option ℕ) → (ℕ → Bool) → ℕ → ℕ → Option ℕ
 hung up chosen p n = cond (chosen n) (Some p) (up n)
 
--- an ancestor that was one before, or one by a chosen node: at or above p, which the chosen node is below
+-- a new ancestor is an old one, or comes by a chosen node: at or above p, and the chosen node is at or above the node
 abbrev pub ComesBy : (ℕ → Option ℕ) → (ℕ → Bool) → ℕ → ℕ → ℕ → Type 0
 ComesBy up chosen p a n = IsAncestor up a n ⊎ ((c : ℕ) × (chosen c ≡ true) × AtOrAbove up a p × AtOrAbove up c n)
 
@@ -47,12 +47,12 @@ comes_further up chosen p a q n true m (inr k) e = inr (n, m, k.2, inl refl)
 comes_further up chosen p a q n false m (inl h) e = inl (Further q h e)
 comes_further up chosen p a q n false m (inr k) e = inr (k.0, k.1, k.2, at_or_above_further up k.0 q n k.3 e)
 
--- the ancestors after nodes were hung
+-- the ancestors after nodes were given a parent
 pub ancestor_after : (up : ℕ → Option ℕ) (chosen : ℕ → Bool) (p a n : ℕ) → IsAncestor (hung up chosen p) a n → ComesBy up chosen p a n
 ancestor_after up chosen p a n (Parent e) = comes_first up chosen p a n (chosen n) refl e
 ancestor_after up chosen p a n (Further q h e) = comes_further up chosen p a q n (chosen n) refl (ancestor_after up chosen p a q h) e
 
--- nodes may be hung below one that is none of them, and is not below any of them
+-- nodes may be put below a node that is not one of them and not below any of them
 pub acyclic_after : (up : ℕ → Option ℕ) (chosen : ℕ → Bool) (p : ℕ) → ((n : ℕ) → ¬ (IsAncestor up n n)) → ((c : ℕ) → chosen c ≡ true → ¬ (AtOrAbove up c p)) → (n : ℕ) → ¬ (IsAncestor (hung up chosen p) n n)
 acyclic_after up chosen p old apart n h =
     elim (ancestor_after up chosen p n n h) [

@@ -1,4 +1,4 @@
--- What each call of a sink keeps, where it is made under its conditions.
+-- What each call of a sink keeps, if its conditions hold.
 use Rattle.std.proofs.Common.{◌≡◌, ◌∙◌, ℕ, Bool, true, false, List, refl, subst, sym}
 use Rattle.std.specs.Prelude.{◌==◌, Option, None, Some, unwrap_or}
 use Rattle.h5_names.specs.AttributeText.{AttributeText}
@@ -9,12 +9,12 @@ use Rattle.h5_interface.proofs.ForestLaws.{rearranges_refl}
 use Rattle.h5_interface.proofs.HangingLaws.{append_node_keeps, append_node_rehangs, append_text_rearranges, append_text_rehangs, insert_node_keeps, insert_node_rehangs, insert_text_rearranges, insert_text_rehangs}
 use Rattle.h5_interface.proofs.RehangLaws.{Rehangs, none_chosen}
 
--- the nodes that a child hangs: itself, or none
+-- the nodes that get a parent by a child: itself, or none
 abbrev pub is_child : Child → ℕ → Bool
 is_child (ChildNode c) n = n == c
 is_child (ChildText t) n = false
 
--- where no node is hung, it doesn't matter below which
+-- if no node gets a parent, the parent is ignored
 none_hung : (f g : Forest) (q : Option ℕ) → Rehangs f g none_chosen None → Rehangs f g none_chosen q
 none_hung f g q r = record {
   document = r.document;
@@ -46,7 +46,7 @@ child_before_keeps f s (ChildText t) k may = (insert_text_rearranges f s t k may
 some_inj : (a b : ℕ) → Some a ≡ Some b → a ≡ b
 some_inj a b e = cc
 
--- before the element it hangs below that one's parent, else below `prev`
+-- before `element` it gets that one's parent, and else `prev`
 pub child_by_rehangs : (f : Forest) (element prev : ℕ) (x : Child) → IsForest f → CanAppendBasedOnParent f element prev x → Rehangs f (with_child_by (parent_of f element) element prev x f) (is_child x) (Some (unwrap_or (parent_of f element) prev))
 child_by_rehangs f element prev x k may = at (parent_of f element) refl may.child
   where
@@ -62,7 +62,7 @@ child_by_keeps f element prev x k may = at (parent_of f element) may.child
     at None m = last_child_keeps f prev x k m
     at (Some p) m = child_before_keeps f element x k m
 
--- an attach rearranges, whether it happens or not
+-- an attach rearranges, both if it happens and if it doesn't
 pub attach_rearranges : (choices : SinkChoices) (f : Forest) (host template : ℕ) (attrs : List AttributeText) → IsForest f → IsNode f host → IsNode f template → Rearranges f (attach choices host template attrs f)
 attach_rearranges choices f host template attrs k a b = at (choices.attaches f host template attrs) refl
   where

@@ -1,4 +1,4 @@
--- Lists of children: which nodes stand in them, and that their texts are parted.
+-- Lists of children: the nodes in them, and that no texts are neighbours.
 use Rattle.std.proofs.Common.{◌≡◌, ◌≢◌, ◌∙◌, ℕ, ◌+◌, Bool, true, false, cond, List, [], ◌∷◌, ◌++◌, ap, arith, refl}
 use Rattle.std.specs.Prelude.{◌==◌}
 use Rattle.std.proofs.lemmas.Bool.Decides.{nat_tests}
@@ -30,7 +30,7 @@ count-without c d [] = grind (arith, nat_tests)
 count-without c d (ChildNode n ∷ cs) = grind (arith, nat_tests, count-without c d cs)
 count-without c d (ChildText t ∷ cs) = count-without c d cs
 
--- a node comes once where the sibling stands once
+-- a node comes once if the sibling does
 pub count-insert_before : (s c d : ℕ) (cs : List Child) → count s (nodes cs) ≡ 1 → count d (nodes (insert_before s (ChildNode c) cs)) ≡ cond (d == c) 1 0 + count d (nodes cs)
 count-insert_before s c d [] h = grind arith
 count-insert_before s c d (ChildNode n ∷ cs) h = grind (arith, nat_tests, count-insert_before s c d cs)
@@ -59,7 +59,7 @@ parted-join (ChildText t) (ChildText u ∷ []) h k = append_not_empty t u h.0
 parted-join (ChildText t) (ChildText u ∷ ChildNode n ∷ cs) h k = (append_not_empty t u h.0, k.1)
 parted-join (ChildText t) (ChildText u ∷ ChildText v ∷ cs) h k = absurd k
 
--- joined texts are parted
+-- in joined children no texts are neighbours
 pub parted-joined : (cs : List Child) → NoneEmpty cs → AreParted (joined cs)
 parted-joined [] h = tt
 parted-joined (ChildNode n ∷ cs) h = parted-joined cs h
@@ -92,7 +92,7 @@ none_empty-insert_before s x (ChildNode n ∷ cs) k h =
     none_empty_cond (s == n) (x ∷ ChildNode n ∷ cs) (ChildNode n ∷ insert_before s x cs) (none_empty-append (x ∷ []) (ChildNode n ∷ cs) k h) (none_empty-insert_before s x cs k h)
 none_empty-insert_before s x (ChildText t ∷ cs) k h = (h.0, none_empty-insert_before s x cs k h.1)
 
--- children that are parted are joined already
+-- joining changes nothing if no texts are neighbours
 pub joined-parted : (cs : List Child) → AreParted cs → joined cs ≡ cs
 joined-parted [] h = refl
 joined-parted (ChildNode n ∷ cs) h = ap (λ xs. ChildNode n ∷ xs) (joined-parted cs h)

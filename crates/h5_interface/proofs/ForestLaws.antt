@@ -8,14 +8,14 @@ use Rattle.h5_interface.specs.Forest.{DocumentNode, Forest, FragmentNode, IsFore
 use Rattle.h5_interface.specs.SinkChoices.{Rearranges}
 use Rattle.h5_interface.proofs.ChildLaws.{count-append}
 
--- forests are equal that agree at each node
+-- forests that agree at each node are equal
 pub same_forest : (f g : Forest) → f.document ≡ g.document → f.bound ≡ g.bound → ((n : ℕ) → f.node n ≡ g.node n) → f ≡ g
 same_forest f g e b h = λ i. record { document = e i; bound = b i; node = λ n. h n i }
 
 pub is_some : {A : Type 0} (o : Option A) (x : A) → o ≡ Some x → o ≢ None
 is_some o x e k = cc
 
--- what has a kind is a node
+-- a number with a kind is a node
 pub node_of_kind : (f : Forest) (n : ℕ) (kind : Kind) → kind_of f n ≡ Some kind → IsNode f n
 node_of_kind f n kind e h = let w = (rw h at e) in cc
 
@@ -23,7 +23,7 @@ no_kind : (o : Option Node) → option_map {U = Kind} (λ d. d.kind) o ≡ None 
 no_kind None w = refl
 no_kind (Some d) w = cc
 
--- nodes of the same kind are there, or are not there, alike
+-- numbers with equal kinds are both nodes, or both not
 pub gone_alike : (f g : Forest) (n : ℕ) → kind_of g n ≡ kind_of f n → f.node n ≡ None → g.node n ≡ None
 gone_alike f g n e k = no_kind (g.node n) (e ∙ rw k refl)
 
@@ -45,14 +45,14 @@ ancestor_is_node f a n k (Further q h e) = ancestor_is_node f a q k h
 pub contents_are_node : (f : Forest) (n c : ℕ) → IsForest f → contents_of f n ≡ Some c → IsNode f c
 contents_are_node f n c k e = node_of_kind f c FragmentNode (k.hosted n c e)
 
--- a node without parent stands below none
+-- a node without a parent is below no node
 pub none_below : (f : Forest) (p c : ℕ) → IsForest f → parent_of f c ≡ None → count c (below_of f p) ≡ 0
 none_below f p c k o = let w = k.one_parent p c in (rw o at w)
 
 pub self_at : (p : ℕ) → ◌≡◌ {A = ℕ} (if is_at p (Some p) then 1 else 0) 1
 self_at p = rw (eq-eqb p p refl) refl
 
--- a node that is no fragment stands once among its parent's children
+-- a node that isn't a fragment occurs once among its parent's children
 pub child_once : (f : Forest) (p c : ℕ) → IsForest f → parent_of f c ≡ Some p → kind_of f c ≢ Some FragmentNode → count c (nodes (children_of f p)) ≡ 1
 child_once f p c k up no_fragment = at (f.node p) refl
   where
@@ -87,7 +87,7 @@ children_few f p c = at (f.node p) refl
     at None e = rw e (omega arith)
     at (Some d) e = rw (e, count-append) (omega arith)
 
--- whose child a node is
+-- the parent of a node
 pub parent_of_child : (f : Forest) (p c : ℕ) → IsForest f → 0 < count c (nodes (children_of f p)) → parent_of f c ≡ Some p
 parent_of_child f p c k h = at_parent p (parent_of f c) (rw (← k.one_parent p c) (let few = children_few f p c in omega arith))
 
@@ -100,7 +100,7 @@ rearranged_ancestor f g a n k r there (Further p h e) =
 pub rearranged_node : (f g : Forest) (n : ℕ) → Rearranges f g → IsNode f n → IsNode g n
 rearranged_node f g n r there = there_alike f g n (r.same_kind n there) there
 
--- rearrangements in a row are one
+-- two rearrangements in a row are one
 pub rearranges_trans : (f g h : Forest) → Rearranges f g → Rearranges g h → Rearranges f h
 rearranges_trans f g h r s = record {
   is_forest = s.is_forest;

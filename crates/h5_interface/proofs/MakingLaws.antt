@@ -35,7 +35,7 @@ pub record IsLone (d : Node) : Type 0 where
   pub contents : d.contents ≡ None
   pub parent : d.parent ≡ None
 
--- the parents stay when a lone node is added
+-- the parents are unchanged when a lone node is added
 pub added_parent : (f : Forest) (n : ℕ) (d : Node) → f.node n ≡ None → IsLone d → (m : ℕ) → parent_of (add_node n d f) m ≡ parent_of f m
 added_parent f n d new lone m = at (m == n) refl
   where
@@ -113,7 +113,7 @@ new_not_above f n p d k new lone there (inr h) =
 pub new_parent : (f : Forest) (n : ℕ) (d : Node) → IsLone d → parent_of (add_node n d f) n ≡ None
 new_parent f n d lone = rw (eq-eqb n n refl, lone.parent) refl
 
--- a new node that is no document is free for each old one
+-- a new node that is not a document is free for each old one
 pub new_is_free : (f : Forest) (n p : ℕ) (d : Node) → IsForest f → f.node n ≡ None → IsLone d → d.kind ≢ DocumentNode → IsNode f p → IsFreeFor (add_node n d f) p n
 new_is_free f n p d k new lone other there = record {
   is_node = new_is_node f n d;
@@ -122,7 +122,7 @@ new_is_free f n p d k new lone other there = record {
   not_above = new_not_above f n p d k new lone there;
 }
 
--- where a node that was not there is hung, no old node gets a parent
+-- if a new node is put below another, no old node gets a parent
 pub hung_fresh_rearranges : (f g h : Forest) (n p : ℕ) → f.node n ≡ None → Rearranges f g → IsForest h → Rehangs g h (λ m. m == n) (Some p) → Rearranges f h
 hung_fresh_rearranges f g h n p new r kept s = record {
   is_forest = kept;
@@ -234,7 +234,7 @@ make_contents_rearranges choices f t k there none =
     hung_fresh_rearranges f g (host t c g) c t new (add_rearranges f c (plain FragmentNode) k new lone)
     (hung_keeps g (host t c g) (λ n. n == c) t kept hangs there' (λ x w. rw (eqb-true x c w) free.not_above) (free_not_document g c t kept free)) hangs
 
--- an element is made, and its contents where it is a template
+-- an element is made, and its contents if it is a template
 pub make_element_rearranges : (choices : SinkChoices) (f : Forest) (name : QualName) (attrs : List AttributeText) (flags : ElementFlags) → IsForest f → Rearranges f (make_element choices name attrs flags f)
 make_element_rearranges choices f name attrs flags k = at flags.template
   where
@@ -309,7 +309,7 @@ made_contents choices f name attrs flags e =
     at true w = rw (w, eq-eqb (choices.fresh f) (choices.fresh f) refl) (λ z. cc)
     at false w = rw (w, eq-eqb (choices.fresh f) (choices.fresh f) refl) (λ z. cc)
 
--- the new element may be hung below each old node
+-- the new element may be put below each old node
 pub made_is_free : (choices : SinkChoices) (f : Forest) (name : QualName) (attrs : List AttributeText) (flags : ElementFlags) (p : ℕ) → IsForest f → IsNode f p → IsFreeFor (make_element choices name attrs flags f) p (choices.fresh f)
 made_is_free choices f name attrs flags p k there = record {
   is_node = node_of_kind (make_element choices name attrs flags f) (choices.fresh f) (ElementNode name) (made_kind choices f name attrs flags k);

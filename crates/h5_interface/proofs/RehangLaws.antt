@@ -1,4 +1,4 @@
--- Nodes are hung below one node, or loosened: what that keeps.
+-- Nodes that get a parent, or lose it: what stays.
 use Rattle.std.proofs.Common.{◌≡◌, ◌∙◌, ℕ, Bool, true, false, cond, List, ◌++◌, ap, refl, subst, sym}
 use Rattle.std.specs.Prelude.{◌==◌, if◌then◌else◌, Option, None, Some}
 use Rattle.std.specs.Option.{option_map, option_to_list}
@@ -11,7 +11,7 @@ use Rattle.h5_interface.proofs.AncestorLaws.{ComesBy, acyclic_after, ancestor_af
 use Rattle.h5_interface.proofs.ChildLaws.{NoneEmpty, count-append, nodes-joined, none_empty_of_parted, parted-joined}
 use Rattle.h5_interface.proofs.ForestLaws.{gone_alike, same_forest, there_alike}
 
--- g is f with the chosen nodes below q, or below none; contents are fragments, and templates keep theirs
+-- g is f with the chosen nodes below q, or without a parent; contents are fragments, and templates keep theirs
 pub record Rehangs (f g : Forest) (chosen : ℕ → Bool) (q : Option ℕ) : Type 0 where
   pub document : g.document ≡ f.document
   pub bound : g.bound ≡ f.bound
@@ -42,7 +42,7 @@ hung_edge : (f : Forest) (p c q : ℕ) (b : Bool) → IsForest f → IsNode f p 
 hung_edge f p c q true k there e = let w : p ≡ q = cc in rw (← w) there
 hung_edge f p c q false k there e = k.inside q c e
 
--- the chosen nodes may be hung below a node that is not at or below any of them, where the document is none of them
+-- the chosen nodes may be put below a node that is not at or below any of them, if the document is none of them
 pub hung_keeps : (f g : Forest) (chosen : ℕ → Bool) (p : ℕ) → IsForest f → Rehangs f g chosen (Some p) → IsNode f p → ((c : ℕ) → chosen c ≡ true → ¬ (AtOrAbove (parent_of f) c p)) → chosen f.document ≡ false → IsForest g
 hung_keeps f g chosen p k r there apart not_document = record {
   bounded = λ n h. gone_alike f g n (r.kinds n) (k.bounded n (rw (← r.bound) h));
@@ -77,7 +77,7 @@ loosened_rearranges f g chosen k r = record {
   parents = λ n p there e. loosened_edge (chosen n) (parent_of f n) p (sym (r.parents n) ∙ e);
 }
 
--- after nodes were hung, an ancestor is an old one, or comes by a chosen node
+-- after nodes were given a parent, an ancestor is an old one, or comes by a chosen node
 pub hung_ancestor : (f g : Forest) (chosen : ℕ → Bool) (p a n : ℕ) → Rehangs f g chosen (Some p) → IsAncestor (parent_of g) a n → ComesBy (parent_of f) chosen p a n
 hung_ancestor f g chosen p a n r h =
     ancestor_after (parent_of f) chosen p a n (ancestor_fewer (hung (parent_of f) chosen p) (parent_of g) (λ c q e. sym (r.parents c) ∙ e) a n h)
@@ -117,8 +117,7 @@ edited-texts : (p : ℕ) (h : List Child → List Child) (chosen : ℕ → Bool)
 edited-texts p h chosen q f n None e k a = rw e tt
 edited-texts p h chosen q f n (Some d) e k a = rw e (texts_case h d.children (n == p) (k d.children) (rw e at a))
 
--- an edit hangs nodes where it makes no text empty, and p has the chosen nodes below it just where they
--- get it as their parent
+-- an edit gives parents if it makes no text empty, and the chosen nodes are below p exactly if they get it as their parent
 pub edited_rehangs : (p : ℕ) (h : List Child → List Child) (chosen : ℕ → Bool) (q : Option ℕ) (f : Forest) (d : Node) → IsForest f → f.node p ≡ Some d
     → ((n : ℕ) → chosen n ≡ true → IsNode f n)
     → ((cs : List Child) → NoneEmpty cs → NoneEmpty (h cs))
@@ -162,7 +161,7 @@ edit_rehangs f p h k there_p texts same = case_p (f.node p) refl
         (λ c. simp (count-append, same c d.children))
         (λ n c w v. cc))
 
--- what is neither kind, children, contents nor parent changes
+-- something else changes: neither kind, children, contents nor parent
 pub record KeepsShape (change : ℕ → Node → Node) : Type 0 where
   pub kind : (n : ℕ) (d : Node) → (change n d).kind ≡ d.kind
   pub children : (n : ℕ) (d : Node) → (change n d).children ≡ d.children

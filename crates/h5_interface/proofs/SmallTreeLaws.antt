@@ -1,4 +1,4 @@
--- The forests that come about while a small tree is built.
+-- The forests while a small tree is built.
 use Rattle.std.proofs.Common.{◌≡◌, ◌≢◌, ◌∙◌, ℕ, Bool, true, false, List, [], ◌∷◌, ◌++◌, ap, inl, inr, refl, subst, sym}
 use Rattle.std.specs.Prelude.{◌==◌, Option, None, Some}
 use Rattle.std.proofs.lemmas.Bool.{eq-eqb, eqb-true}
@@ -165,7 +165,7 @@ small_tree choices name attrs t u f k full = record {
     in_document None w = absurd (document_is_node f k w)
     in_document (Some x) w = rw (d_e, d_c, eq-eqb d d refl, w) (joined-append_node x.children e (rw w at (k.parted d)))
 
--- the same, as a sink shows it step by step
+-- as above, but as the sink shows it step by step
 pub shows_root : (choices : SinkChoices) (name : QualName) (attrs : List AttributeText) (t u : List ℕ) (s0 s1 s2 s3 : Seen) (h n : ℕ)
     → h ≡ choices.fresh s0.forest → s1 ≡ after_create_element choices name attrs no_flags s0 → s2 ≡ after_append h (ChildText t) s1
     → n ≡ choices.fresh s2.forest → s3 ≡ after_create choices (CommentNode u) s2 → IsForest s0.forest → t ≢ [] → CanAppend s3.forest h (ChildNode n)

@@ -1,4 +1,4 @@
--- Ancestors (DOM standard, section 1.1, "Trees"), along a map from each node to its parent.
+-- Ancestors (DOM standard, section 1.1, "Trees"), by a map from each node to its parent.
 use Rattle.std.specs.Prelude.{◌≡◌, ◌⊎◌, ℕ, Option, Some}
 
 -- a is the parent of the node, or an ancestor of its parent (DOM standard: ancestor)

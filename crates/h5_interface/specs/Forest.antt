@@ -1,4 +1,4 @@
--- What a sink holds: nodes, which are numbers, and what is known of each (DOM standard, section 4, "Nodes").
+-- The nodes of a sink, which are numbers, and the data of each (DOM standard, section 4, "Nodes").
 use Rattle.std.specs.Prelude.{◌≡◌, ◌≢◌, ℕ, ◌+◌, ◌≤◌, ◌==◌, Bool, false, if◌then◌else◌, List, [], ◌∷◌, ◌++◌, Option, None, Some}
 use Rattle.std.specs.Option.{option_and_then, option_map, option_map_or, option_to_list}
 use Rattle.h5_names.specs.declared.qualified.QualName.{QualName}
@@ -6,7 +6,7 @@ use Rattle.h5_names.specs.AttributeText.{AttributeText}
 use Rattle.h5_interface.specs.declared.marks.ElementFlags.{ElementFlags}
 use Rattle.h5_interface.specs.Ancestors.{IsAncestor}
 
--- what a node is (DOM standard, sections 4.5 to 4.14; `FragmentNode`: DocumentFragment)
+-- the kind of a node (DOM standard, sections 4.5 to 4.14; `FragmentNode`: DocumentFragment)
 pub data Kind : Type 0 where
   DocumentNode : Kind
   DoctypeNode : (name public_id system_id : List ℕ) → Kind
@@ -20,15 +20,15 @@ pub data Child : Type 0 where
   ChildNode : (node : ℕ) → Child
   ChildText : (text : List ℕ) → Child
 
--- what a sink notes of a node: how it was made, whether it is a script that was started (HTML standard,
--- section 4.12.1, already started), and the form that owns it (HTML standard, section 4.10.18, form owner)
+-- the marks of a node: the flags with which it was made, whether it is a script that was started (HTML standard, section 4.12.1, already
+-- started), and its form owner (HTML standard, section 4.10.18, form owner)
 pub record Marks : Type 0 where
   pub flags : ElementFlags
   pub started : Bool
   pub form : Option ℕ
 
--- a node (DOM standard, section 4.4, "Interface Node"). Its parent is the node whose child it is or, for
--- the contents of a template, that template (HTML standard, section 4.12.3, template contents, host)
+-- a node (DOM standard, section 4.4, "Interface Node"). The parent of template contents is their template (HTML standard, section 4.12.3,
+-- template contents, host)
 pub record Node : Type 0 where
   pub kind : Kind
   pub attrs : List AttributeText
@@ -37,7 +37,7 @@ pub record Node : Type 0 where
   pub parent : Option ℕ
   pub marks : Marks
 
--- all nodes of a sink, those without a parent too; from the bound on there is none
+-- all nodes of a sink, also those without a parent; all are below the bound
 pub record Forest : Type 0 where
   pub document : ℕ
   pub bound : ℕ
@@ -49,16 +49,16 @@ nodes [] = []
 nodes (ChildNode n ∷ cs) = n ∷ nodes cs
 nodes (ChildText t ∷ cs) = nodes cs
 
--- how often a number stands in a list
+-- the number of times that a number occurs in a list
 abbrev pub count : ℕ → List ℕ → ℕ
 count c [] = 0
 count c (x ∷ xs) = (if c == x then 1 else 0) + count c xs
 
--- the nodes right below one: its children and its contents
+-- the nodes directly below a node: its children and its contents
 abbrev pub below : Node → List ℕ
 below d = nodes d.children ++ option_to_list d.contents
 
--- what a forest knows of a node
+-- the data of a node
 abbrev pub below_of : Forest → ℕ → List ℕ
 below_of f n = option_map_or below (f.node n) []
 
@@ -89,7 +89,7 @@ IsElement f n = (name : QualName) × (kind_of f n ≡ Some (ElementNode name))
 abbrev pub HasContents : Forest → ℕ → Type 0
 HasContents f n = contents_of f n ≢ None
 
--- whether this number is there, and is n
+-- true if this number is given, and is n
 abbrev pub is_at : ℕ → Option ℕ → Bool
 is_at n None = false
 is_at n (Some m) = n == m
@@ -102,21 +102,21 @@ AreParted (ChildText t ∷ []) = t ≢ []
 AreParted (ChildText t ∷ ChildNode n ∷ cs) = (t ≢ []) × AreParted cs
 AreParted (ChildText t ∷ ChildText u ∷ cs) = ⊥
 
--- it is a forest (DOM standard, section 1.1, "Trees")
+-- is a forest (DOM standard, section 1.1, "Trees")
 pub record IsForest (f : Forest) : Type 0 where
-  -- from the bound on there is no node
+  -- no number from the bound on is a node
   pub bounded : (n : ℕ) → f.bound ≤ n → f.node n ≡ None
-  -- the document is one
+  -- the document is a document node
   pub root : kind_of f f.document ≡ Some DocumentNode
-  -- a node stands once below its parent, as a child or as contents, and below no other
+  -- a node appears once below its parent, as a child or as contents, and below no other node
   pub one_parent : (p c : ℕ) → count c (below_of f p) ≡ (if is_at p (parent_of f c) then 1 else 0)
   -- a parent is a node
   pub inside : (p c : ℕ) → parent_of f c ≡ Some p → IsNode f p
-  -- none is its own ancestor
+  -- no node is its own ancestor
   pub acyclic : (n : ℕ) → ¬ (IsAncestor (parent_of f) n n)
   -- no text is empty, and no two texts are neighbours
   pub parted : (n : ℕ) → AreParted (children_of f n)
   -- contents are fragments
   pub hosted : (n c : ℕ) → contents_of f n ≡ Some c → kind_of f c ≡ Some FragmentNode
-  -- the document is below none
+  -- the document has no parent
   pub top : parent_of f f.document ≡ None

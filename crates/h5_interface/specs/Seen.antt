@@ -1,4 +1,4 @@
--- What a sink shows, under which conditions it is called, and what each call makes of what it shows.
+-- The state that a sink shows, the conditions of its calls, and the effect of each call on that state.
 use Rattle.std.specs.Prelude.{◌≡◌, ◌≢◌, ℕ, Bool, true, false, List, [], Option, None, Some, string_bytes}
 use Rattle.std.specs.Option.{option_map_or}
 use Rattle.h5_names.specs.declared.qualified.QualName.{QualName}
@@ -12,13 +12,13 @@ use Rattle.h5_interface.specs.Changes.{add_missing_attributes, add_node, append_
 use Rattle.h5_interface.specs.Forest.{Child, ChildNode, ChildText, CommentNode, DoctypeNode, DocumentNode, ElementNode, Forest, FragmentNode, InstructionNode, IsNode, Kind, Marks, Node, kind_of, parent_of}
 use Rattle.h5_interface.specs.SinkChoices.{SinkChoices}
 
--- `errors` is a mark that no parse error makes less, that isn't 0 behind one, and that nothing else changes
+-- `errors` is the mark of errors: no parse error decreases it, it isn't 0 after one, and nothing else changes it
 pub record Seen : Type 0 where
   pub forest : Forest
   pub quirks : QuirksMode
   pub errors : ℕ
 
--- the child that is handed in
+-- the child that is passed
 abbrev pub child_of : {H : Type 0} → (H → ℕ) → NodeOrText H → Child
 child_of node (AppendNode h) = ChildNode (node h)
 child_of node (AppendText t) = ChildText (string_bytes t)
@@ -30,24 +30,24 @@ pub record IsFreeFor (f : Forest) (p c : ℕ) : Type 0 where
   pub no_parent : parent_of f c ≡ None
   pub not_above : ¬ (AtOrAbove (parent_of f) c p)
 
--- this child may be put below p: a free node, or a text that is not empty
+-- this child may be inserted below p: a free node, or a text that is not empty
 abbrev pub MayStandBelow : Forest → ℕ → Child → Type 0
 MayStandBelow f p (ChildNode c) = IsFreeFor f p c
 MayStandBelow f p (ChildText t) = t ≢ []
 
--- this child may become the last child of p
+-- this child may be appended to p
 pub record CanAppend (f : Forest) (p : ℕ) (x : Child) : Type 0 where
   pub is_node : IsNode f p
   pub child : MayStandBelow f p x
 
--- this child may be put before s, which has a parent and is no fragment
+-- this child may be inserted before s, which has a parent and is not a fragment
 pub record CanInsertBefore (f : Forest) (s : ℕ) (x : Child) : Type 0 where
   pub parent : ℕ
   pub is_parent : parent_of f s ≡ Some parent
   pub no_fragment : kind_of f s ≢ Some FragmentNode
   pub child : MayStandBelow f parent x
 
--- this child may be put before `element` where that has a parent, else as the last child of `prev`
+-- this child may be inserted before `element` if that has a parent, and else appended to `prev`
 abbrev pub CanStandBy : Option ℕ → Forest → (element prev : ℕ) → Child → Type 0
 CanStandBy None f element prev x = CanAppend f prev x
 CanStandBy (Some p) f element prev x = CanInsertBefore f element x
@@ -57,18 +57,18 @@ pub record CanAppendBasedOnParent (f : Forest) (element prev : ℕ) (x : Child) 
   pub prev_is_node : IsNode f prev
   pub child : CanStandBy (parent_of f element) f element prev x
 
--- this node may be detached
+-- this node may be removed from its parent
 pub record CanDetach (f : Forest) (n : ℕ) : Type 0 where
   pub is_node : IsNode f n
   pub no_fragment : kind_of f n ≢ Some FragmentNode
 
--- the children of `from` may go to `to`
+-- the children of `from` may be moved to `to`
 pub record CanReparent (f : Forest) (from to : ℕ) : Type 0 where
   pub from_is_node : IsNode f from
   pub to_is_node : IsNode f to
   pub not_above : ¬ (AtOrAbove (parent_of f) from to)
 
--- a new node of a kind, with nothing below it and no parent
+-- a new node of a kind, with nothing below it and without a parent
 abbrev pub no_marks : ElementFlags → Marks
 no_marks flags = record { flags = flags; started = false; form = None }
 
@@ -81,7 +81,7 @@ element name attrs flags = record { kind = ElementNode name; attrs = attrs; chil
 abbrev pub plain : Kind → Node
 plain kind = record { kind = kind; attrs = []; children = []; contents = None; parent = None; marks = no_marks no_flags }
 
--- a new node stands in the forest, without a parent
+-- a new node is added to the forest, without a parent
 abbrev pub make : SinkChoices → Node → Forest → Forest
 make choices d f = add_node (choices.fresh f) d f
 
@@ -89,18 +89,17 @@ make choices d f = add_node (choices.fresh f) d f
 abbrev pub make_contents : SinkChoices → ℕ → Forest → Forest
 make_contents choices t f = host t (choices.fresh f) (make choices (plain FragmentNode) f)
 
--- the contents of t are made where it is to have them
+-- the contents of t are made if the flag is set
 abbrev pub with_contents : Bool → SinkChoices → ℕ → Forest → Forest
 with_contents true choices t f = make_contents choices t f
 with_contents false choices t f = f
 
--- a new element, and its contents where it is a template (HTML standard, section 13.2.6.1, create an
--- element for a token)
+-- a new element, and its contents if it is a template (HTML standard, section 13.2.6.1, create an element for a token)
 abbrev pub make_element : SinkChoices → QualName → List AttributeText → ElementFlags → Forest → Forest
 make_element choices name attrs flags f =
     with_contents flags.template choices (choices.fresh f) (make choices (element name attrs flags) f)
 
--- the forest after each change of it
+-- the forest after each change of children
 abbrev pub with_last_child : ℕ → Child → Forest → Forest
 with_last_child p (ChildNode c) = append_node p c
 with_last_child p (ChildText t) = append_text p t
@@ -113,11 +112,11 @@ abbrev pub with_child_by : Option ℕ → (element prev : ℕ) → Child → For
 with_child_by None element prev x = with_last_child prev x
 with_child_by (Some p) element prev x = with_child_before element x
 
--- what is seen after the forest changed
+-- the state after the forest changed
 abbrev pub changed : (Forest → Forest) → Seen → Seen
 changed change s = record s { forest = change s.forest }
 
--- what is seen after each call
+-- the state after each call
 abbrev pub after_create_element : SinkChoices → QualName → List AttributeText → ElementFlags → Seen → Seen
 after_create_element choices name attrs flags = changed (make_element choices name attrs flags)
 
@@ -174,7 +173,7 @@ after_option_copy choices n = changed (λ f. choices.after_option_copy f n)
 abbrev pub after_quirks : QuirksMode → Seen → Seen
 after_quirks mode s = record s { quirks = mode }
 
--- whether a node is an element that is an integration point
+-- true if a node is an element that is an integration point
 abbrev pub is_point_of_kind : SinkChoices → Node → Kind → Bool
 is_point_of_kind choices d DocumentNode = false
 is_point_of_kind choices d (DoctypeNode name public_id system_id) = false

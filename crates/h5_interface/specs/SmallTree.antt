@@ -5,7 +5,7 @@ use Rattle.h5_names.specs.AttributeText.{AttributeText}
 use Rattle.h5_interface.specs.Forest.{ChildNode, ChildText, CommentNode, Forest, children_of}
 use Rattle.h5_interface.specs.Seen.{element, no_flags, plain}
 
--- the new forest is the old one with just this tree in it, at `root`
+-- the new forest is the old one with this tree added, and its root is `root`
 pub record IsSmallTree (old new : Forest) (root : ℕ) (name : QualName) (attrs : List AttributeText) (text comment : List ℕ) : Type 0 where
   pub note : ℕ
   pub root_is_new : old.node root ≡ None

@@ -1,5 +1,5 @@
-//! New elements, with what their names and attributes tell (HTML standard, section 13.2.6.1, create an
-//! element for a token).
+//! New elements, with the flags that follow from their names and attributes (HTML standard, section 13.2.6.1, create an element for a
+//! token).
 ghost use Rattle.std.specs.Prelude.{◌≡◌, ◌&&◌, ℕ, List, false, IfOk, OnOk, OnErr};
 ghost use Rattle.std.specs.List.{list_any};
 ghost use Rattle.h5_names.specs.AttributeText.{attribute_text, attribute_texts};
@@ -12,9 +12,9 @@ use super::sink::TreeSink;
 use h5_names::{Attribute, KnownName, QualName, namespaces};
 use std::alloc::AllocError;
 
-/// A new element without parent. It is made as a template if its name is HTML's `template`, and as an
-/// integration point if its name is MathML's `annotation-xml` and an attribute `encoding` without a
-/// namespace is, without ASCII case, `text/html` or `application/xhtml+xml`. An Err leaves the forest.
+/// Makes an element without a parent, and returns its handle. It is a template if its name is HTML's `template`. It is an HTML integration
+/// point if its name is MathML's `annotation-xml`, and an attribute `encoding` without a namespace is an ASCII case-insensitive match for
+/// `text/html` or `application/xhtml+xml`. Fails with `AllocError` if an allocation fails; then nothing that the sink shows has changed.
 pub fn create_element<S: TreeSink>(
     sink: &mut S,
     name: QualName,
@@ -29,7 +29,7 @@ pub fn create_element<S: TreeSink>(
     create_element_with_flags(sink, name, attrs, false)
 }
 
-/// The same, and whether the reader dropped an attribute of the tag.
+/// As `create_element`, but also takes the flag that says whether the tokenizer dropped a duplicate attribute of the tag.
 #[inline(always)]
 pub fn create_element_with_flags<S: TreeSink>(
     sink: &mut S,
@@ -59,7 +59,7 @@ fn flags_for(name: &QualName, attrs: &[Attribute], had_duplicate_attributes: boo
     }
 }
 
-// Whether this is an `annotation-xml` that holds HTML.
+// Returns true for an `annotation-xml` whose `encoding` names HTML.
 #[tactic(auto, using(crate::proofs::ElementLemmas::any_of_texts))]
 #[inline(always)]
 fn is_holder_of_html(name: &QualName, attrs: &[Attribute]) -> bool
@@ -88,7 +88,7 @@ fn has_html_encoding(attrs: &[Attribute]) -> bool
     attrs.iter().any(|attribute| names_html(attribute))
 }
 
-// Whether an attribute says that what it stands on holds HTML.
+// Returns true for an `encoding` that names HTML.
 fn names_html(attribute: &Attribute) -> bool
     ensures { result ≡ is_html_encoding (attribute_text attribute.now) }
 {

@@ -1,4 +1,4 @@
-//! A caller over every sink: it builds a small tree.
+//! A caller over any sink: it builds a small tree.
 ghost use Rattle.std.specs.Prelude.{◌≡◌, ◌≢◌, [], IfOk, string_bytes};
 ghost use Rattle.h5_names.specs.AttributeText.{attribute_texts};
 ghost use Rattle.h5_interface.specs.SmallTree.{IsSmallTree};
@@ -8,8 +8,8 @@ use super::sink::{NodeOrText, TreeSink};
 use h5_names::{Attribute, QualName};
 use std::alloc::AllocError;
 
-/// Puts a new element with a text and a comment into the document, as its last child. Nothing else in the
-/// forest changes. After an Err a part of it may stand in the forest.
+/// Appends a new element with a text and a comment to the document, and returns its handle. Changes nothing else in the forest. Fails with
+/// `AllocError` if an allocation fails; then the forest may have a part of the tree. `text` must not be empty.
 pub fn build_small_tree<S: TreeSink>(
     sink: &mut S,
     name: QualName,

@@ -1,13 +1,16 @@
-//! What a tree builder asks of a tree: the forest that it sees, and the calls that change it.
+//! The interface between a tree builder and a tree: the forest that contracts see, and the calls that change it.
 //!
-//! `sink` has the trait of a tree, `TreeSink`: its calls, each with what it makes of the forest, and under which
-//! condition it is called. `marks` has what is noted of an element when it is made, and the quirks mode of a document.
-//! `elements` makes an element with what its name and attributes tell (HTML standard, section 13.2.6.1), and `example`
-//! builds a small tree over every sink.
+//! `sink` has the trait of a tree, `TreeSink`: each call, its change of the forest, and the condition under which it may be called. `marks`
+//! has the flags of a new element, and the quirks mode of a document. `elements` makes elements with the flags that follow from their names
+//! and attributes (HTML standard, section 13.2.6.1). `example` builds a small tree over any sink: a caller can know the whole tree from the
+//! interface alone.
 //!
-//! It stands on names alone. The rules of tree construction stand on it, and `h5_arena` is a sink. Begin with
-//! `specs/Forest.antt` (nodes, and what is known of each), `specs/Changes.antt` (the changes of a forest) and
-//! `specs/Seen.antt` (what each call does); `specs/SinkChoices.antt` has what a sink may choose. Then `src/sink.rt`.
+//! Each call changes the forest exactly as its definition says, or fails and leaves it unchanged. Under the conditions of the call, the
+//! result is a forest again. A sink chooses its fresh nodes, marks, shadow roots, integration points and copies of options, as functions of
+//! the forest alone (`specs/SinkChoices.antt`).
+//!
+//! This crate depends on h5_names only. The rules of tree construction use it, and `h5_arena` is a sink. Begin with `specs/Forest.antt`
+//! (nodes), `specs/Changes.antt` (changes of a forest) and `specs/Seen.antt` (the effect of each call); then read `src/sink.rt`.
 #![tactic(auto)]
 
 mod elements;

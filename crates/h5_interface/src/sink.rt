@@ -1,4 +1,4 @@
-//! The trees that a tree builder builds.
+//! The trait of the trees that a tree builder builds.
 ghost use Rattle.std.specs.Prelude.{◌≡◌, ◌≤◌, ◌<◌, ◌==◌, ℕ, List, Option, IfOk, MatchOption, OnOk, OnErr, string_bytes};
 ghost use Rattle.std.specs.Option.{option_map};
 ghost use Rattle.h5_names.specs.AttributeText.{attribute_texts};
@@ -10,53 +10,52 @@ use super::marks::{ElementFlags, QuirksMode};
 use h5_names::{Attribute, QualName};
 use std::alloc::AllocError;
 
-/// A child that is put into a tree.
+/// A child to insert into a tree.
 #[derive(Drop)]
 pub enum NodeOrText<Handle> {
-    /// This node, which has no parent yet.
+    /// This node, which must not have a parent.
     AppendNode(Handle),
-    /// This text, which isn't empty. It is joined to the texts beside which it comes to stand.
+    /// This text, which must not be empty. It is joined with the texts that it is next to.
     AppendText(String),
 }
 
-/// A tree that a tree builder builds. The builder holds handles of its nodes, and nothing else.
+/// A tree that a tree builder builds. The builder only holds handles of its nodes.
 ///
-/// What the tree holds is a forest of nodes (DOM standard, section 4, "Nodes"). The answers, and what a
-/// call makes of the forest, are functions of the forest; what a sink may choose among these are its
-/// choices. Texts that come to be neighbours are joined. After an `AllocError` the forest is what it was.
+/// The tree is a forest of nodes (DOM standard, section 4, "Nodes"). Results of calls, and their changes of the forest, are functions of
+/// the forest; what a sink may choose about them is in its `choices`. Texts that become neighbours are joined. After an `AllocError` the
+/// forest, the quirks mode and the mark of errors are unchanged.
 ///
-/// Conditions on the caller: handles are of nodes of this sink; an appended text isn't empty; an appended
-/// node is no document, has no parent, and is neither its new parent nor above it; only elements are asked
-/// for names or given marks and attributes; only templates are asked for contents.
+/// The caller must ensure: handles name nodes of this sink; an appended text isn't empty; an appended node isn't a document, has no parent,
+/// and is neither the new parent nor an ancestor of it. Names, marks and attributes are only for elements, and contents only for templates.
 pub trait TreeSink {
     type Handle: Drop;
 
     type Output;
 
-    // What it shows.
+    // The state that contracts see: the forest, the quirks mode and the mark of errors.
     ghost sees: { Self → Seen };
 
     // The node that a handle names.
     ghost node: { Self.Handle → ℕ };
 
-    // What it chooses.
+    // The choices of the sink.
     ghost choices: { SinkChoices };
 
-    // What its result tells.
+    // The state that the result shows.
     ghost told: { Self.Output → Seen };
 
-    /// The result, which tells what the sink showed.
+    /// Returns the result, which shows what the sink showed.
     fn finish(self) -> Self::Output
         ensures { told result ≡ sees self };
 
-    /// Notes a parse error. Forest and quirks mode stay.
+    /// Records a parse error. Doesn't change the forest and the quirks mode.
     fn parse_error(&mut self, message: &str)
         ensures forest { (sees self.new).forest ≡ (sees self.old).forest }
         ensures quirks { (sees self.new).quirks ≡ (sees self.old).quirks }
         ensures grows { (sees self.old).errors ≤ (sees self.new).errors }
         ensures noted { 0 < (sees self.new).errors };
 
-    /// The document.
+    /// The document. The nodes of the sink are a forest.
     fn get_document(&self) -> Self::Handle
         ensures is_forest { IsForest (sees self.now).forest }
         ensures document { node result ≡ (sees self.now).forest.document };
@@ -66,24 +65,24 @@ pub trait TreeSink {
         requires { IsElement (sees self.now).forest (node target.now) }
         ensures { kind_of (sees self.now).forest (node target.now) ≡ Some (ElementNode result.now) };
 
-    /// Whether two handles are of the same node.
+    /// Returns true if two handles name the same node.
     fn same_node(&self, x: &Self::Handle, y: &Self::Handle) -> bool
         requires x { IsNode (sees self.now).forest (node x.now) }
         requires y { IsNode (sees self.now).forest (node y.now) }
         ensures { result ≡ (node x.now == node y.now) };
 
-    /// Another handle of the same node.
+    /// Returns another handle of the same node.
     fn clone_handle(&self, handle: &Self::Handle) -> Self::Handle
         requires { IsNode (sees self.now).forest (node handle.now) }
         ensures { node result ≡ node handle.now };
 
-    /// The contents of a template (HTML standard, section 4.12.3, "The template element").
+    /// The template contents of a template (HTML standard, section 4.12.3, "The template element").
     fn get_template_contents(&self, target: &Self::Handle) -> Self::Handle
         requires { HasContents (sees self.now).forest (node target.now) }
         ensures { contents_of (sees self.now).forest (node target.now) ≡ Some (node result) };
 
-    /// A new element without parent; where `flags.template` is set its contents are made, too. An Err
-    /// leaves the forest.
+    /// Makes an element without a parent and, if `flags.template` is set, its template contents. Fails with `AllocError` if an allocation
+    /// fails; then nothing that the sink shows has changed.
     fn create_element(
         &mut self,
         name: QualName,
@@ -95,20 +94,21 @@ pub trait TreeSink {
             (sees self.new ≡ after_create_element choices name (attribute_texts attrs.items) flags (sees self.old)) }
         ensures err { OnErr result (sees self.new ≡ sees self.old) };
 
-    /// A new comment without parent. An Err leaves the forest.
+    /// Makes a comment without a parent. Fails with `AllocError` if an allocation fails; then nothing that the sink shows has changed.
     fn create_comment(&mut self, text: String) -> Result<Self::Handle, AllocError>
         ensures handle { IfOk result (λ handle. node handle ≡ choices.fresh (sees self.old).forest) }
         ensures ok { OnOk result (sees self.new ≡ after_create choices (CommentNode (string_bytes text)) (sees self.old)) }
         ensures err { OnErr result (sees self.new ≡ sees self.old) };
 
-    /// A new processing instruction without parent. An Err leaves the forest.
+    /// Makes a processing instruction without a parent. Fails with `AllocError` if an allocation fails; then nothing that the sink shows
+    /// has changed.
     fn create_pi(&mut self, target: String, data: String) -> Result<Self::Handle, AllocError>
         ensures handle { IfOk result (λ handle. node handle ≡ choices.fresh (sees self.old).forest) }
         ensures ok { OnOk result
             (sees self.new ≡ after_create choices (InstructionNode (string_bytes target) (string_bytes «data»)) (sees self.old)) }
         ensures err { OnErr result (sees self.new ≡ sees self.old) };
 
-    /// A new last child. An Err leaves the forest.
+    /// Appends a last child. Fails with `AllocError` if an allocation fails; then nothing that the sink shows has changed.
     fn append(
         &mut self,
         parent: &Self::Handle,
@@ -118,7 +118,8 @@ pub trait TreeSink {
         ensures ok { OnOk result (sees self.new ≡ after_append (node parent.now) (child_of node child) (sees self.old)) }
         ensures err { OnErr result (sees self.new ≡ sees self.old) };
 
-    /// A new child before a sibling that has a parent and is no fragment. An Err leaves the forest.
+    /// Inserts a child before a sibling, which must have a parent and must not be a fragment. Fails with `AllocError` if an allocation
+    /// fails; then nothing that the sink shows has changed.
     fn append_before_sibling(
         &mut self,
         sibling: &Self::Handle,
@@ -129,8 +130,8 @@ pub trait TreeSink {
             (sees self.new ≡ after_append_before (node sibling.now) (child_of node child) (sees self.old)) }
         ensures err { OnErr result (sees self.new ≡ sees self.old) };
 
-    /// A new child before `element` if that has a parent, else a new last child of `prev`. An Err leaves
-    /// the forest.
+    /// Inserts a child before `element` if that has a parent, and else appends it to `prev`. Fails with `AllocError` if an allocation
+    /// fails; then nothing that the sink shows has changed.
     fn append_based_on_parent_node(
         &mut self,
         element: &Self::Handle,
@@ -142,7 +143,7 @@ pub trait TreeSink {
             (sees self.new ≡ after_append_by (node element.now) (node prev.now) (child_of node child) (sees self.old)) }
         ensures err { OnErr result (sees self.new ≡ sees self.old) };
 
-    /// A new doctype as the last child of the document. An Err leaves the forest.
+    /// Appends a new doctype to the document. Fails with `AllocError` if an allocation fails; then nothing that the sink shows has changed.
     fn append_doctype_to_document(
         &mut self,
         name: String,
@@ -153,7 +154,8 @@ pub trait TreeSink {
             (sees self.new ≡ after_append_doctype choices (string_bytes name) (string_bytes public_id) (string_bytes system_id) (sees self.old)) }
         ensures err { OnErr result (sees self.new ≡ sees self.old) };
 
-    /// An element gets those of the attributes whose names it doesn't have. An Err leaves the forest.
+    /// Adds those attributes to an element whose names it doesn't have. Fails with `AllocError` if an allocation fails; then nothing that
+    /// the sink shows has changed.
     fn add_attrs_if_missing(
         &mut self,
         target: &Self::Handle,
@@ -164,14 +166,15 @@ pub trait TreeSink {
             (sees self.new ≡ after_add_attrs (node target.now) (attribute_texts attrs.items) (sees self.old)) }
         ensures err { OnErr result (sees self.new ≡ sees self.old) };
 
-    /// Takes a node that is no fragment from its parent, if it has one. An Err leaves the forest.
+    /// Removes a node from its parent, if it has one. The node must not be a fragment. Fails with `AllocError` if an allocation fails; then
+    /// nothing that the sink shows has changed.
     fn remove_from_parent(&mut self, target: &Self::Handle) -> Result<(), AllocError>
         requires { CanDetach (sees self.old).forest (node target.now) }
         ensures ok { OnOk result (sees self.new ≡ after_remove (node target.now) (sees self.old)) }
         ensures err { OnErr result (sees self.new ≡ sees self.old) };
 
-    /// Moves all children of `from`, in order, to the end of those of `to`, which is neither `from` nor
-    /// below it. An Err leaves the forest.
+    /// Moves all children of `from`, in order, to the end of the children of `to`, which must be neither `from` nor a descendant of it.
+    /// Fails with `AllocError` if an allocation fails; then nothing that the sink shows has changed.
     fn reparent_children(
         &mut self,
         from: &Self::Handle,
@@ -181,18 +184,19 @@ pub trait TreeSink {
         ensures ok { OnOk result (sees self.new ≡ after_reparent (node from.now) (node to.now) (sees self.old)) }
         ensures err { OnErr result (sees self.new ≡ sees self.old) };
 
-    /// Notes that a script has started (HTML standard, section 4.12.1, already started).
+    /// Records that a script has started (HTML standard, section 4.12.1, already started).
     fn mark_script_already_started(&mut self, script: &Self::Handle)
         requires { IsElement (sees self.old).forest (node script.now) }
         ensures { sees self.new ≡ after_started choices (node script.now) (sees self.old) };
 
-    /// Notes that an element was popped off the stack of open elements.
+    /// Records that an element was popped off the stack of open elements.
     fn pop(&mut self, element: &Self::Handle)
         requires { IsElement (sees self.old).forest (node element.now) }
         ensures { sees self.new ≡ after_pop choices (node element.now) (sees self.old) };
 
-    /// Associates an element with a form (HTML standard, section 13.2.6.1, create an element for a token).
-    /// `nodes` are the place where it is to stand, and what stands outside that place.
+    /// Associates an element with a form (HTML standard, section 13.2.6.1, create an element for a token). `nodes` is the place where the
+    /// tree builder will insert the element: in the first node; or, if there is a second one, before the first, or in the second if the
+    /// first has no parent.
     fn associate_with_form(
         &mut self,
         target: &Self::Handle,
@@ -206,28 +210,27 @@ pub trait TreeSink {
         ensures { sees self.new ≡ after_associate choices (node target.now) (node form.now) (node nodes.entry.0.now)
             (option_map (λ outer. node outer.now) nodes.entry.1) (sees self.old) };
 
-    /// Sets the quirks mode. The forest stays.
+    /// Sets the quirks mode. Doesn't change the forest.
     fn set_quirks_mode(&mut self, mode: QuirksMode)
         ensures { sees self.new ≡ after_quirks mode (sees self.old) };
 
-    /// Notes the line of the token that comes. All that is shown stays.
+    /// Receives the line of the next token. Changes nothing that the sink shows.
     fn set_current_line(&mut self, line: u64)
         ensures { sees self.new ≡ sees self.old };
 
-    /// Whether a MathML `annotation-xml` is an HTML integration point (HTML standard, section 13.2.6, "Tree
-    /// construction"). Its name, its attributes and its marks tell.
+    /// Returns true if a MathML `annotation-xml` is an HTML integration point (HTML standard, section 13.2.6, "Tree construction"). Its
+    /// name, attributes and marks decide this.
     fn is_mathml_annotation_xml_integration_point(&self, target: &Self::Handle) -> bool
         requires { IsElement (sees self.now).forest (node target.now) }
         ensures { result ≡ is_integration_point choices (sees self.now).forest (node target.now) };
 
-    /// Whether declarative shadow roots are allowed below this parent (HTML standard, section 13.2.6.4.4,
-    /// start tag "template").
+    /// Returns true if declarative shadow roots are allowed below this parent (HTML standard, section 13.2.6.4.4, start tag "template").
     fn allow_declarative_shadow_roots(&self, parent: &Self::Handle) -> bool
         requires { IsNode (sees self.now).forest (node parent.now) }
         ensures { result ≡ choices.allows_shadow (sees self.now).forest (node parent.now) };
 
-    /// Attaches the contents of a template as the shadow root of its host, and tells whether it did. Where
-    /// it didn't nothing has changed. An Err leaves the forest.
+    /// Attaches the contents of a template as the shadow root of its host, and returns true if it did. If it returns false, nothing that
+    /// the sink shows has changed. Fails with `AllocError` if an allocation fails; then nothing that the sink shows has changed either.
     fn attach_declarative_shadow(
         &mut self,
         host: &Self::Handle,
@@ -241,8 +244,8 @@ pub trait TreeSink {
             (sees self.new ≡ after_attach choices (node host.now) (node template.now) (attribute_texts attrs.now) (sees self.old)) }
         ensures err { OnErr result (sees self.new ≡ sees self.old) };
 
-    /// Copies an option into `selectedcontent` elements (HTML standard, section 4.10.10, "The option
-    /// element"). An Err leaves the forest.
+    /// Copies an option into `selectedcontent` elements (HTML standard, section 4.10.10, "The option element"). Fails with `AllocError` if
+    /// an allocation fails; then nothing that the sink shows has changed.
     fn maybe_clone_an_option_into_selectedcontent(
         &mut self,
         option: &Self::Handle,

@@ -1,4 +1,4 @@
-//! What is printed of one thing.
+//! The items of a listing.
 use h5_print::write_escapes;
 use serde_json::Value;
 use std::alloc::{AllocError, Global};
@@ -7,11 +7,11 @@ use std::fmt::Write;
 /// How items are printed.
 #[derive(Clone, Copy)]
 pub enum Form {
-    /// A line for each: the values, with escapes, and a tab between two.
+    /// One line per item: its values with escapes, separated by tabs.
     Lines,
-    /// An object of JSON for each, on a line.
+    /// One JSON object per line.
     Json,
-    /// One array of JSON, of an object for each.
+    /// One JSON array of objects.
     Array,
 }
 
@@ -23,7 +23,7 @@ enum Content {
 }
 
 impl Content {
-    // Prints it with escapes.
+    // Prints it for a line, with escapes.
     fn print(&self, out: &mut String) -> Result<(), AllocError> {
         match self {
             Content::Text(text) => write_escapes(out, text.as_str()),
@@ -31,7 +31,7 @@ impl Content {
         }
     }
 
-    // Prints it as JSON has it.
+    // Prints it as JSON.
     fn print_json(&self, alloc: Global, out: &mut String) -> Result<(), AllocError> {
         match self {
             Content::Text(text) => write_json(alloc, out, text.as_str()),
@@ -40,14 +40,14 @@ impl Content {
     }
 }
 
-/// A value, and what it is.
+/// A value and its name.
 #[derive(Drop)]
 struct Field {
     name: &'static str,
     value: Content,
 }
 
-/// One thing that a page lists.
+/// An item of a listing: values with names.
 pub struct Item {
     fields: Vec<Field>,
     alloc: Global,
@@ -71,21 +71,21 @@ impl Item {
         }
     }
 
-    /// Adds a value, which has this name in JSON. An `AllocError` where memory is refused.
+    /// Adds a value with its name in JSON. Fails with `AllocError` if an allocation fails.
     pub fn add(&mut self, name: &'static str, value: &str) -> Result<(), AllocError> {
         let value = Content::Text(String::from_str(self.alloc, value)?);
         self.fields.push(Field { name, value })?;
         Ok(())
     }
 
-    /// Adds a number, which has this name in JSON. An `AllocError` where memory is refused.
+    /// Adds a number with its name in JSON. Fails with `AllocError` if an allocation fails.
     pub fn add_number(&mut self, name: &'static str, number: u64) -> Result<(), AllocError> {
         let value = Content::Number(number);
         self.fields.push(Field { name, value })?;
         Ok(())
     }
 
-    // The values, with a tab between two.
+    // The values, separated by tabs.
     fn print_values(&self, out: &mut String) -> Result<(), AllocError> {
         let mut is_first = true;
         for field in self.fields.as_slice() {
@@ -137,7 +137,7 @@ fn print_array(items: &[Item], out: &mut String) -> Result<(), AllocError> {
     out.push(']')
 }
 
-/// Prints items: each with a line end behind it, or an array of them. An `AllocError` where memory is refused.
+/// Prints items, each followed by a newline, or as an array. Fails with `AllocError` if an allocation fails.
 pub fn print_items(items: &[Item], out: &mut String, form: Form) -> Result<(), AllocError> {
     if let Form::Array = form {
         return print_array(items, out);
@@ -149,7 +149,7 @@ pub fn print_items(items: &[Item], out: &mut String, form: Form) -> Result<(), A
     Ok(())
 }
 
-/// Writes a text as JSON has it. An `AllocError` where memory is refused.
+/// Writes a text as a JSON string. Fails with `AllocError` if an allocation fails.
 pub fn write_json(alloc: Global, out: &mut String, text: &str) -> Result<(), AllocError> {
     let value = Value::String(String::from_str(alloc, text)?);
     let json = value.to_string(alloc)?;

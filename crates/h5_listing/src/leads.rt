@@ -8,7 +8,7 @@ use std::alloc::{AllocError, Global};
 use std::fmt::Write;
 use url::Url;
 
-// The attribute in which an element of HTML says where it leads, or what it takes in.
+// The attribute of an HTML element that has its link or the resource that it embeds.
 fn attribute_of(name: &QualName) -> Option<&'static str> {
     if !name.ns.is_html() {
         return None;
@@ -22,7 +22,7 @@ fn attribute_of(name: &QualName) -> Option<&'static str> {
     }
 }
 
-// Where a link leads, from a base. Without one, and where it is no URL, it stays as it is.
+// A link resolved against a base. Without a base, or if it isn't a URL, it is unchanged.
 fn lead(alloc: Global, base: Option<&Url>, href: &str) -> Result<String, AllocError> {
     if let Some(base) = base {
         if let Ok(url) = base.join(href) {
@@ -47,7 +47,7 @@ fn base_href<'a>(top: &NodeRef<'a>) -> Result<Option<&'a str>, AllocError> {
     Ok(None)
 }
 
-// A text as a URL, which leads from this one, if there is one.
+// A text as a URL, resolved against this one if there is one.
 fn url_from(alloc: Global, said: Option<&Url>, text: &str) -> Option<Url> {
     let url = match said {
         Some(said) => said.join(text),
@@ -56,8 +56,8 @@ fn url_from(alloc: Global, said: Option<&Url>, text: &str) -> Option<Url> {
     url.ok()
 }
 
-/// The URL from which the links of a page lead: that of its `base`, which may lead from this one, or else this one, if there is one
-/// (HTML standard, section 2.4.3, "Document base URLs"). An `AllocError` where memory is refused.
+/// The base URL of a page: that of its `base`, resolved against this URL, or else this URL, if there is one (HTML standard, section 2.4.3,
+/// "Document base URLs"). Fails with `AllocError` if an allocation fails.
 pub fn base_of(
     alloc: Global,
     top: &NodeRef<'_>,
@@ -67,7 +67,7 @@ pub fn base_of(
     Ok(url_from(alloc, said, own))
 }
 
-/// The links of a page, in the order of the tree: where each leads, and the words of its text. An `AllocError` where memory is refused.
+/// The links of a page in tree order: the target of each, and the words of its text. Fails with `AllocError` if an allocation fails.
 pub fn links(
     alloc: Global,
     top: &NodeRef<'_>,
@@ -86,7 +86,7 @@ pub fn links(
     Ok(found)
 }
 
-/// What the numbers of links in a text stand for: the number, and where the link leads. An `AllocError` where memory is refused.
+/// The numbered links of a text: the number and the target of each. Fails with `AllocError` if an allocation fails.
 pub fn references(
     alloc: Global,
     hrefs: &[String],
@@ -106,7 +106,7 @@ pub fn references(
     Ok(found)
 }
 
-// What leads somewhere: the element's name, where it leads, and its words.
+// A link or reference: the name of its element, its target, and its words.
 fn leading(
     alloc: Global,
     element: &str,
@@ -123,8 +123,8 @@ fn leading(
     Ok(item)
 }
 
-/// All that leads out of a page or is taken into it, in the order of the tree: the element's name, where it leads, and the words of its
-/// text. An `AllocError` where memory is refused.
+/// All links of a page and all resources that it embeds, in tree order: the name of the element, the target, and the words of its text. Fails
+/// with `AllocError` if an allocation fails.
 pub fn all_links(
     alloc: Global,
     top: &NodeRef<'_>,

@@ -1,8 +1,8 @@
-//! What a page lists: its links, its headings, and what it says of itself; an item for each, as a line or as an object of JSON.
+//! The listings of a page: its links, its headings and its metadata, with one line or one JSON object per item.
 //!
-//! `item` has what is printed, `words` texts on one line, and `leads`, `outline` and `said` what is listed: its links, its headings, what
-//! it says of itself. `nodes` and `tokens` write trees and tokens as JSON. `record` reads pages that come in lines of JSON, and writes what is answered of each. It stands on the library
-//! `html_tree_builder`, and the program `hengaruto` on it. No contract says what is listed: that is tested.
+//! `item` has an item and its forms, `words` has texts on one line, and `leads`, `outline` and `said` have the links, the headings and the
+//! metadata. `nodes` and `tokens` write trees and tokens as JSON. `record` reads pages in JSON lines, and writes their output lines. The crate
+//! is based on `html_tree_builder`; the program `hengaruto` uses it. No contract says what is listed: that is tested.
 #![tactic(auto)]
 
 mod item;

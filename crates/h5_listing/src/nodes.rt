@@ -1,4 +1,4 @@
-//! The tree of a page, an object of JSON for each node.
+//! The tree of a page as JSON.
 ghost use Rattle.std.specs.Iterator.{IsFinite};
 
 use super::item::write_json;
@@ -10,7 +10,7 @@ use html_tree_builder::serialize::{
 use std::alloc::{AllocError, Global};
 use std::fmt::Write;
 
-// Writes an object for each node that it is told of, on a line of its own.
+// A serializer that writes one JSON object per node, each on its own line.
 #[derive(Drop)]
 struct NodeLines {
     out: String,
@@ -18,7 +18,7 @@ struct NodeLines {
     alloc: Global,
 }
 
-// The name of an element, behind `svg` or `math` where it is one of these.
+// The name of an element, after `svg` or `math` if it is in one of these namespaces.
 fn element_name(alloc: Global, name: &QualName) -> Result<String, AllocError> {
     let mut text = String::new(alloc);
     if name.ns.is_svg() {
@@ -30,7 +30,7 @@ fn element_name(alloc: Global, name: &QualName) -> Result<String, AllocError> {
     Ok(text)
 }
 
-// The name of an attribute, behind its prefix.
+// The name of an attribute, after its prefix.
 fn attribute_name(alloc: Global, name: &QualName) -> Result<String, AllocError> {
     let mut text = String::new(alloc);
     if let Some(prefix) = &name.prefix {
@@ -65,14 +65,14 @@ fn write_attributes<T: AttrRef, I: Iterator<Item = T> + Drop>(
 }
 
 impl NodeLines {
-    // Begins an object: its level, and what it is.
+    // Begins an object: the level of the node and its kind.
     fn begin(&mut self, what: &str, text: &str) -> Result<(), AllocError> {
         let level = self.level;
         write!(self.out, "{{\"level\":{level},\"{what}\":")?;
         write_json(self.alloc, &mut self.out, text)
     }
 
-    // A node below which nothing stands.
+    // A node without children.
     fn add(&mut self, what: &str, text: &str) -> Result<(), AllocError> {
         self.begin(what, text)?;
         self.out.push_str("}\n")
@@ -140,9 +140,8 @@ impl Serializer for NodeLines {
     }
 }
 
-/// The nodes below a node, in the order of the tree, an object of JSON on a line for each: its `level`, and its name as `element`, with
-/// its `attributes`, or else its `text`, `comment` or `doctype`. What a template contains stands below it. An `AllocError` where memory
-/// is refused.
+/// The descendants of a node in tree order, one JSON object per line: its `level`, and its name as `element` with its `attributes`, or its
+/// `text`, `comment` or `doctype`. The contents of a template come below it. Fails with `AllocError` if an allocation fails.
 pub fn node_lines(alloc: Global, top: &NodeRef<'_>) -> Result<String, AllocError> {
     let mut lines = NodeLines {
         out: String::new(alloc),

@@ -30,7 +30,7 @@ fn heading(alloc: Global, level: &str, node: &NodeRef<'_>) -> Result<Item, Alloc
     Ok(item)
 }
 
-/// The headings below a node, in the order of the tree: the level and the text of each. An `AllocError` where memory is refused.
+/// The headings below a node in tree order: the level and the text of each. Fails with `AllocError` if an allocation fails.
 pub fn headings(alloc: Global, top: &NodeRef<'_>) -> Result<Vec<Item>, AllocError> {
     let arena = top.arena;
     let mut found = Vec::new(alloc);

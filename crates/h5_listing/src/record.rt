@@ -1,4 +1,4 @@
-//! Records: pages in lines of JSON, and what is answered of each.
+//! Records: pages in JSON lines, and their output lines.
 use super::item::write_json;
 use serde_json::{Error, Value};
 use std::alloc::{AllocError, Global};
@@ -28,18 +28,18 @@ impl Drop for Record {
 }
 
 impl Record {
-    /// The record in a line. An `Error` where the line is no JSON, and says where, or where memory is refused.
+    /// The record in a line. Fails with an `Error` if the line isn't JSON, which says where, or if an allocation fails.
     pub fn parse(alloc: Global, line: &str) -> Result<Record, Error> {
         let value = Value::from_str(alloc, line)?;
         Ok(Record { value, alloc })
     }
 
-    // What it says by a name.
+    // The value of a key.
     fn said(&self, name: &str) -> Option<&str> {
         self.value.get(name).and_then(Value::as_str)
     }
 
-    /// Its page, if it has one: its `html`, or else the file that its `path` names.
+    /// The page, if there is one: the value of `html`, or else the file with the name in `path`.
     pub fn page(&self) -> Option<Page<'_>> {
         match (self.said("html"), self.said("path")) {
             (Some(html), _) => Some(Page::Html(html)),
@@ -60,8 +60,8 @@ impl Record {
     }
 }
 
-/// An answer that is begun: an object with the `id` of the record, or where it has none with the number of its line.
-/// An `AllocError` where memory is refused.
+/// The start of an output line: an object with the `id` of the record, or the number of its line if it has none. Fails with `AllocError` if an
+/// allocation fails.
 pub fn begin_answer(
     alloc: Global,
     record: Option<&Record>,
@@ -80,7 +80,7 @@ pub fn begin_answer(
     Ok(out)
 }
 
-/// Ends an answer by what is said: JSON, or a text. An `AllocError` where memory is refused.
+/// Ends an output line with a key and its value, which is JSON or a text. Fails with `AllocError` if an allocation fails.
 pub fn end_answer(
     alloc: Global,
     answer: &mut String,

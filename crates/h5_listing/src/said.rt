@@ -1,10 +1,10 @@
-//! What a page says of itself.
+//! The metadata of a page.
 use super::item::Item;
 use super::words::words_of;
 use html_tree_builder::arena::NodeRef;
 use std::alloc::{AllocError, Global};
 
-// A name and what is said by it.
+// A name and its value.
 fn said(alloc: Global, name: &str, content: &str) -> Result<Item, AllocError> {
     let mut item = Item::new(alloc);
     item.add("name", name)?;
@@ -12,7 +12,7 @@ fn said(alloc: Global, name: &str, content: &str) -> Result<Item, AllocError> {
     Ok(item)
 }
 
-// What a `meta` says.
+// The metadata in a `meta`.
 fn said_by_meta(alloc: Global, node: &NodeRef<'_>) -> Result<Option<Item>, AllocError> {
     let (arena, id) = (node.arena, node.id);
     if let Some(charset) = arena.attr(id, "charset") {
@@ -28,7 +28,7 @@ fn said_by_meta(alloc: Global, node: &NodeRef<'_>) -> Result<Option<Item>, Alloc
     }
 }
 
-// What a `link` says, if it is the canonical one.
+// The metadata in a `link`, if it is the canonical one.
 fn said_by_link(alloc: Global, node: &NodeRef<'_>) -> Result<Option<Item>, AllocError> {
     let (arena, id) = (node.arena, node.id);
     match (arena.attr(id, "rel"), arena.attr(id, "href")) {
@@ -39,7 +39,7 @@ fn said_by_link(alloc: Global, node: &NodeRef<'_>) -> Result<Option<Item>, Alloc
     }
 }
 
-// What the root says.
+// The metadata in the root.
 fn said_by_root(alloc: Global, node: &NodeRef<'_>) -> Result<Option<Item>, AllocError> {
     match node.arena.attr(node.id, "lang") {
         Some(lang) => Ok(Some(said(alloc, "lang", lang)?)),
@@ -52,7 +52,7 @@ fn title(alloc: Global, node: &NodeRef<'_>) -> Result<Option<Item>, AllocError> 
     Ok(Some(said(alloc, "title", text.as_str())?))
 }
 
-// What an element says of the page.
+// The metadata in an element.
 fn said_by(alloc: Global, local: &str, node: &NodeRef<'_>) -> Result<Option<Item>, AllocError> {
     match local {
         "html" => said_by_root(alloc, node),
@@ -63,8 +63,8 @@ fn said_by(alloc: Global, local: &str, node: &NodeRef<'_>) -> Result<Option<Item
     }
 }
 
-/// What a page says of itself, in the order of the tree: its language, its title, what each `meta` with a name or a property says, its
-/// encoding and its canonical link; the name and the content of each. An `AllocError` where memory is refused.
+/// The metadata of a page in tree order: its language, its title, each `meta` with a name or a property, its encoding and its canonical link;
+/// the name and the content of each. Fails with `AllocError` if an allocation fails.
 pub fn about(alloc: Global, top: &NodeRef<'_>) -> Result<Vec<Item>, AllocError> {
     let arena = top.arena;
     let mut found = Vec::new(alloc);

@@ -1,9 +1,9 @@
-//! The tokens of a page, an object of JSON for each line.
+//! The tokens of a page as JSON.
 use super::item::write_json;
 use h5_print::read_escapes;
 use std::alloc::{AllocError, Global};
 
-// Writes a name, and a text that has escapes, as JSON has both.
+// Writes a name and a text with escapes as a JSON member.
 fn write_pair(alloc: Global, out: &mut String, name: &str, text: &str) -> Result<(), AllocError> {
     write_json(alloc, out, name)?;
     out.push(':')?;
@@ -13,7 +13,7 @@ fn write_pair(alloc: Global, out: &mut String, name: &str, text: &str) -> Result
     }
 }
 
-// What a line says, by the word that it begins with.
+// The key for a line, by the letters that it begins with.
 fn name_of(word: &str) -> &'static str {
     match word {
         "D" => "doctype",
@@ -47,8 +47,8 @@ fn write_token(alloc: Global, out: &mut String, line: &str) -> Result<(), AllocE
     out.push_str("}\n")
 }
 
-/// The lines of tokens that `h5 tokens` reads, an object of JSON on a line for each: what it says, and of an attribute its `value`, too.
-/// An `AllocError` where memory is refused.
+/// The lines that `h5 tokens` reads, one JSON object per line: the token, and for an attribute also its `value`. Fails with `AllocError` if an
+/// allocation fails.
 pub fn token_lines(alloc: Global, lines: &str) -> Result<String, AllocError> {
     let mut out = String::new(alloc);
     for line in lines.lines() {

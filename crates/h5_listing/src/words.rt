@@ -2,7 +2,7 @@
 use html_tree_builder::arena::{Child, NodeRef};
 use std::alloc::{AllocError, Global};
 
-/// Writes the words of a text, with a space between two. An `AllocError` where memory is refused.
+/// Writes the words of a text, separated by one space. Fails with `AllocError` if an allocation fails.
 pub fn write_words(line: &mut String, text: &str) -> Result<(), AllocError> {
     let mut is_first = true;
     for word in text.split_ascii_whitespace() {
@@ -15,11 +15,11 @@ pub fn write_words(line: &mut String, text: &str) -> Result<(), AllocError> {
     Ok(())
 }
 
-// The texts below a node, joined, and in the place of an image what stands for it.
+// The joined texts below a node, with the replacement text of each image.
 fn texts_and_images(alloc: Global, node: &NodeRef<'_>) -> Result<String, AllocError> {
     let arena = node.arena;
     let mut text = String::new(alloc);
-    for child in arena.all_below(node.id)? {
+    for child in arena.descendants_with_text(node.id)? {
         match child {
             Child::Text(part) => text.push_str(part.as_str())?,
             Child::Node(id) => {
@@ -34,7 +34,7 @@ fn texts_and_images(alloc: Global, node: &NodeRef<'_>) -> Result<String, AllocEr
     Ok(text)
 }
 
-/// The words of the texts below a node and of what stands for images there. An `AllocError` where memory is refused.
+/// The words of the texts below a node and of the replacement texts of images. Fails with `AllocError` if an allocation fails.
 pub(crate) fn words_of(alloc: Global, node: &NodeRef<'_>) -> Result<String, AllocError> {
     let text = texts_and_images(alloc, node)?;
     let mut line = String::new(alloc);

@@ -1,4 +1,4 @@
--- Where the standard looks ahead: a byte past ASCII is in none of the words.
+-- When the standard looks ahead: a byte outside ASCII is in none of the words.
 use Rattle.std.proofs.Common.{◌≡◌, ℕ, ◌≤◌, ◌<◌, ◌-◌, List, [], ◌∷◌, ◌++◌, length, take, slice_index, refl, arith, ◌∙◌, codes, ◌==◌}
 use Rattle.std.proofs.lemmas.Bool.{and_right, le-leb}
 use Rattle.std.proofs.lemmas.Grind.{common_steps}
@@ -39,7 +39,7 @@ pushed_front xs x = grind (arith, common_steps)
 pushed_some : (xs : List ℕ) (x : ℕ) → 0 < length (xs ++ x ∷ [])
 pushed_some xs x = grind (arith, common_steps)
 
--- and is taken from there
+-- and is removed from there
 pub unpushed : (old new front : List ℕ) (x n : ℕ) → n ≡ length old → old ≡ front ++ x ∷ [] → x < 128
     → (0 < n → slice_index old (n - 1) < 128 → new ≡ take (n - 1) old) → new ≡ front
 unpushed old new front x n counted was small cut =

@@ -1,4 +1,4 @@
--- A byte past ASCII is none of the signs that the rows name.
+-- A byte outside ASCII isn't one that the rows name.
 use Rattle.std.proofs.Common.{◌≡◌, ℕ, ◌≤◌, true, false, refl, arith, ◌==◌, nat_le, nat_lt}
 use Rattle.std.proofs.lemmas.Bool.Decides.{nat_tests}
 use Rattle.std.specs.Char.{to_ascii_lowercase}

@@ -1,4 +1,4 @@
--- A name at the front of a text that ends in a semicolon is the longest one there.
+-- A name that a text begins with and that ends in a semicolon is the longest one there.
 use Rattle.std.proofs.Common.{◌≡◌, ℕ, zero, suc, ◌+◌, ◌<◌, true, false, ◌==◌, refl, sym, ap, ◌∙◌, List, [], ◌∷◌, ◌++◌, length, get_or, take, drop, inl, inr, arith}
 use Rattle.std.specs.Prelude.{Some}
 use Rattle.std.proofs.lemmas.Bool.{and_parts, cases_lt, eqb-true, false≢true}
@@ -23,7 +23,7 @@ front_is_name (x ∷ name) (c ∷ text) h =
     let rest : take (length name) text ≡ name = front_is_name name text p.1 in
     cc
 
--- a name begins so, and none goes on
+-- a name begins with this, and none goes on
 pub front_begins : (text : List ℕ) (number : ℕ) → number < how_many → begins same (name_of number) text ≡ true → is_beginning references (take (length (name_of number)) text) ≡ true
 front_begins text number within h =
     ap (is_beginning references) (front_is_name (name_of number) text h)

@@ -1,4 +1,4 @@
--- In the state of data the rows over one of the commonest character references emit what it stands for.
+-- In the data state, the rows over one of the most frequent character references emit its text.
 use Rattle.std.proofs.Common.{◌≡◌, ◌<◌, ◌==◌, ◌++◌, ◌∙◌, ℕ, List, [], ◌∷◌, length, refl, sym, ap, subst, arith, codes, false}
 use Rattle.std.proofs.lemmas.Bool.{and_right}
 use Rattle.h5_markup.specs.Matching.{Match, Open, No, Found, literal, or_else}
@@ -14,7 +14,7 @@ use Rattle.h5_machine.specs.StateOf.{state_of}
 use Rattle.h5_machine.specs.declared.machine_state.MachineState.TheVariants as at
 use Rattle.h5_machine.specs.declared.machine_state.TextState.TheVariants as t
 
--- the place in data, and the place behind a reference
+-- the place in the data state, and the place after a reference
 abbrev in_data : ReaderPlace → ReaderPlace
 in_data p = record p { state = Text Data }
 

@@ -1,4 +1,4 @@
--- The common names by their numbers, and the bytes by which they are told. `write_table.py` writes this file.
+-- The common names by their numbers, and the bytes by which they are found. `write_table.py` writes this file.
 use Rattle.std.proofs.Common.{◌≡◌, ℕ, ◌≤◌, true, refl, ap, ◌∙◌, List, length, get_or, codes}
 use Rattle.h5_states.specs.ReferenceTable.{references}
 use Rattle.h5_states.specs.Words.{begins, same}

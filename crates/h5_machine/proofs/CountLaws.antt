@@ -19,7 +19,7 @@ ends_in_run run (x ∷ xs) h =
     let p = and_parts (is_in run x) (are_in run xs) h in
     ap (λ b. ends_in_cr b xs) (not_return run x p.0) ∙ ends_in_run run xs p.1
 
--- so many bytes at the front are in a run, with so many newlines
+-- n bytes at the start are in a run, with this number of newlines
 pub record AreCounted (run : Run) (xs : List ℕ) (n lines : ℕ) : Type 0 where
   pub within : n ≤ length xs
   pub taken : are_in run (take n xs) ≡ true
@@ -29,7 +29,7 @@ both_in : (run : Run) (xs ys : List ℕ) → are_in run xs ≡ true → are_in r
 both_in run [] ys h i = i
 both_in run (x ∷ xs) ys h i = let p = and_parts (is_in run x) (are_in run xs) h in rw (p.0, both_in run xs ys p.1 i) refl
 
--- one part behind another
+-- two adjacent parts
 pub counted_on : (run : Run) (xs rest : List ℕ) (n m lines others : ℕ) → rest ≡ drop n xs → AreCounted run xs n lines → AreCounted run rest m others → AreCounted run xs (n + m) (lines + others)
 counted_on run xs rest n m lines others e first second =
     let front = take n xs in
@@ -53,7 +53,7 @@ newlines_of x e = rw e (one_newline (x == 10))
 pub none_more : {lines : ℕ} {b : Bool} → b ≡ false → lines + cond b 1 0 ≡ lines
 none_more {lines} e = rw e (omega arith)
 
--- a byte more
+-- one more byte
 pub counted_next : (run : Run) (xs : List ℕ) (n lines next : ℕ) → n < length xs → are_in run (take n xs) ≡ true → lines ≡ newlines false (take n xs) → is_in run (get_or xs n 0) ≡ true
     → next ≡ lines + cond (get_or xs n 0 == 10) 1 0 → (are_in run (take (n + 1) xs) ≡ true) × (next ≡ newlines false (take (n + 1) xs))
 counted_next run xs n lines next lt taken counted here e =

@@ -1,4 +1,4 @@
--- Where a run ends.
+-- The end of a run.
 use Rattle.std.proofs.Common.{◌≡◌, ℕ, zero, suc, add-one, ◌<◌, ◌≤◌, Bool, true, false, List, [], ◌∷◌, length, take, drop, slice_index, refl, ◌==◌, ◌&&◌, sym, ap, ◌∙◌, length-drop, arith, nat_le, true≢false, IsUtf8}
 use Rattle.std.proofs.lemmas.Bool.{false≢true, and_parts}
 use Rattle.std.proofs.lemmas.Bool.Decides.{nat_tests}
@@ -67,14 +67,14 @@ wide_in run.DoctypeName x n h = rw (wide_blank x h, wide_not x greater_than_sign
 wide_in (run.Identifier quote) x n h = rw (wide_sign quote x h, wide_not x greater_than_sign h refl, wide_not x null h refl, wide_not x 13 h refl) refl
 wide_in run x n h = absurd (true≢false n)
 
--- what is in no run that takes all bytes past ASCII is ASCII
+-- a byte that ends a run of all bytes outside ASCII is ASCII
 told_wide : (x : ℕ) (b : Bool) → b ≡ false → (nat_le 128 x ≡ true → b ≡ true) → x < 128
 told_wide x b h wide = grind (arith, nat_tests, false≢true)
 
 behind_wide : (run : Run) (x : ℕ) → is_narrow run ≡ false → is_in run x ≡ false → x < 128
 behind_wide run x n h = told_wide x (is_in run x) h (wide_in run x n)
 
--- the states that take bytes past ASCII take them as a run
+-- the states that take bytes outside ASCII take them as a run
 kind_wide : (kind : TextKind) → is_narrow (run_of_text kind) ≡ false
 kind_wide kind.Data = refl
 kind_wide kind = refl
@@ -147,7 +147,7 @@ cut_by : (b : Bool) (run : Run) (xs : List ℕ) (n : ℕ) → is_narrow run ≡ 
 cut_by true run xs n e utf8 within some h stops = cut_narrow run xs n e utf8 within some h
 cut_by false run xs n e utf8 within some h stops = (within, λ lt wide. absurd (omega (arith, behind_wide run (slice_index xs n) e (stops lt))))
 
--- a text may be cut behind a run
+-- a text may be split after a run
 pub cut_run : (run : Run) (bytes xs : List ℕ) (n : ℕ) → bytes ≡ xs → IsUtf8 xs → n ≤ length bytes → 0 < n → are_in run (take n bytes) ≡ true → (n < length bytes → is_in run (slice_index bytes n) ≡ false) → IsCharBoundary xs n
 cut_run run bytes xs n e utf8 within some h stops = cut_by (is_narrow run) run xs n refl utf8 (rw e at within) some (rw e at h) (rw e at stops)
 
@@ -156,7 +156,7 @@ pub dropped_narrow : (after_return : Bool) (x : ℕ) → (after_return && x == 1
 dropped_narrow true x h = grind (arith, nat_tests)
 dropped_narrow false x h = absurd (false≢true h)
 
--- and what follows a run is ASCII where the state takes bytes past it
+-- and what follows a run is ASCII if the state takes bytes outside ASCII
 pub narrow_here : (at : MachineState) (run : Run) (bytes xs : List ℕ) (n : ℕ) → run ≡ run_of at → bytes ≡ xs → n ≡ 0 → (n < length bytes → is_in run (slice_index bytes n) ≡ false)
     → takes_wide at ≡ true → 0 < length xs → slice_index xs 0 < 128
 narrow_here at run bytes xs n is_run e none stops wide some =

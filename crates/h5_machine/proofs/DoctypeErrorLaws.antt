@@ -1,4 +1,4 @@
--- The error behind the name of a doctype.
+-- The error after the name of a doctype.
 use Rattle.std.proofs.Common.{◌≡◌, ℕ, ◌==◌, Bool, true, false, List, [], ◌∷◌, ◌++◌, refl, sym, ap, ◌∙◌, length, codes, if◌then◌else◌}
 use Rattle.std.specs.Prelude.{◌&&◌, ◌||◌, not}
 use Rattle.std.specs.Char.{to_ascii_lowercase}
@@ -42,7 +42,7 @@ name_errors doctype seen x =
     (keyword_by (begins to_ascii_lowercase now (codes "public")) (begins to_ascii_lowercase (codes "public") now) (begins to_ascii_lowercase now (codes "system")) (begins to_ascii_lowercase (codes "system") now)
     (AfterDoctypeKeyword Public doctype) (AfterDoctypeKeyword System doctype) (AfterDoctypeName doctype now) (BogusDoctype (quirky doctype)))
 
--- what ends the name, or comes behind it, before the first letter
+-- the byte that ends the name, or follows it, before the first letter
 pub before_keyword : (doctype : DoctypeText) (seen : List ℕ) (x : ℕ) (b : Bool) → b ≡ is_before seen x → b ≡ true → [] ≡ (after_doctype_name_state doctype seen x).errors
 before_keyword doctype seen x b e h =
     let so : true ≡ is_before seen x = sym h ∙ e in

@@ -8,7 +8,7 @@ use Rattle.h5_states.specs.Turn.{Turn}
 use Rattle.h5_machine.specs.OutcomeOf.{DoesDoctype, DoesDoctypeSeen}
 use Rattle.h5_machine.specs.declared.transition.Transition.{Transition}
 
--- a row that leaves the buffer alone does so whatever is in it
+-- a row that doesn't use the buffer does the same for any
 pub doctype_turned : (r : Result Transition AllocError) (doctype : DoctypeText) (seen : List ℕ) (row : Turn) → IfOk r (λ transition. DoesDoctype transition doctype row)
     → IfOk r (λ transition. (table : List Reference) (last : List ℕ) → DoesDoctypeSeen transition doctype seen row)
 doctype_turned r doctype seen row =

@@ -1,4 +1,4 @@
--- What is flushed where a name was sought.
+-- What is flushed after the search for a name.
 use Rattle.std.proofs.Common.{◌≡◌, ℕ, zero, suc, ◌-◌, ◌<◌, ◌==◌, Bool, true, false, refl, sym, ap, ◌∙◌, List, [], ◌∷◌, ◌++◌, get_or, length, subst, arith}
 use Rattle.std.proofs.lemmas.Bool.{cond-false, cond-true, false≢true, true≢false}
 use Rattle.std.specs.Prelude.{Option, Some, None, codes, if◌then◌else◌, is_some}
@@ -21,11 +21,11 @@ use Rattle.h5_machine.specs.OutcomeOf.{Does, outcome_of}
 use Rattle.h5_machine.specs.Flushing.{DoesSeen, Flushes, text_named}
 use Rattle.h5_machine.proofs.OutcomeLaws.{does_same, nothing_more}
 
--- a name and what is behind it, as a record
+-- a name and what follows it, as a record
 abbrev found_as : List ℕ → List ℕ → List ℕ → Longest
 found_as name text rest = record { name = name; text = text; rest = rest }
 
--- where what was seen is text as it is
+-- what was seen is text, unchanged
 pub text_of_seen : (return : Return) (seen : List ℕ) (x : ℕ) (text name rest name_now rest_now : List ℕ) → name_now ≡ name → rest_now ≡ rest
     → true ≡ is_historical return (found_as name_now text rest_now) x
     → codes "&" ++ seen ≡ text_named return seen x (Some (found_as name text rest))
@@ -34,7 +34,7 @@ text_of_seen return seen x text name rest name_now rest_now e f h =
     ap (λ n. is_historical return (found_as n text rest) x) (sym e) ∙ (ap (λ r. is_historical return (found_as name_now text r) x) (sym f) ∙ sym h) in
     sym (cond-true (is_historical return (found_as name text rest) x) (codes "&" ++ seen) (text ++ rest) same)
 
--- where the name's text is
+-- the name is replaced by its text
 pub text_of_found : (return : Return) (seen : List ℕ) (x : ℕ) (text name rest name_now rest_now : List ℕ) → name_now ≡ name → rest_now ≡ rest
     → false ≡ is_historical return (found_as name_now text rest_now) x
     → text ++ rest_now ≡ text_named return seen x (Some (found_as name text rest))
@@ -43,7 +43,7 @@ text_of_found return seen x text name rest name_now rest_now e f h =
     ap (λ n. is_historical return (found_as n text rest) x) (sym e) ∙ (ap (λ r. is_historical return (found_as name_now text r) x) (sym f) ∙ sym h) in
     ap (λ r. text ++ r) f ∙ sym (cond-false (is_historical return (found_as name text rest) x) (codes "&" ++ seen) (text ++ rest) same)
 
--- where a text was flushed, and the return state is next
+-- a text was flushed, and the return state is next
 flushed_again : (return_to : ReturnTo) (text : List ℕ) (tag : Tag) (old : List ℕ) (now : Tag) (new : List ℕ) (next : MachineState)
     → ((parts : Parts) → state_of next parts ≡ returned (return_of return_to parts.tag)) → Flushes return_to text tag old now new
     → (parts : Parts) → Does (transition.Reconsumed next) old new (record parts { tag = now }) (flush_again (return_of return_to tag) text)
@@ -52,7 +52,7 @@ flushed_again return_to.Rcdata text tag old now new next is h parts = (h.0, ap (
 flushed_again (return_to.Value kind) text tag old now new next is h parts =
     (nothing_more old new h.0, ap (Reconsumed []) (is (record parts { tag = now }) ∙ ap (AttributeValue (value_of kind)) h.1))
 
--- the same where the ambiguous ampersand state is next
+-- a text was flushed, and the ambiguous ampersand state is next
 flushed_ambiguous : (return_to : ReturnTo) (text : List ℕ) (tag : Tag) (old : List ℕ) (now : Tag) (new : List ℕ) → Flushes return_to text tag old now new
     → (parts : Parts) → Does (transition.Reconsumed (at.Reference at_reference.AmbiguousAmpersand return_to)) old new (record parts { tag = now }) (unnamed (return_of return_to tag) text)
 flushed_ambiguous return_to.Data text tag old now new h parts = (h.0, refl)
@@ -75,13 +75,13 @@ named_none : (return : Return) (seen : List ℕ) (x : ℕ) (found : Option Longe
 named_none return seen x None h = refl
 named_none return seen x (Some found) h = absurd (false≢true h)
 
--- where no name begins with what was seen and the byte at hand
+-- no name begins with what was seen and the current byte
 not_further : (return : Return) (seen : List ℕ) (x : ℕ) → is_beginning references (seen ++ x ∷ []) ≡ false
     → (named_character_reference_state references return seen x).outcome ≡ (named return seen x (longest references seen)).outcome
 not_further return seen x fails =
     ap (λ (t : Turn). t.outcome) (cond-false (is_beginning references (seen ++ x ∷ [])) (to (NamedCharacterReference return (seen ++ x ∷ []))) (named return seen x (longest references seen)) fails)
 
--- a name still begins so
+-- a name still begins with it
 pub goes_further : (return_to : ReturnTo) (seen now : List ℕ) (x : ℕ) (tag : Tag) (out : List ℕ) (does : Transition)
     → does ≡ transition.Consumed (at.Reference at_reference.NamedCharacterReference return_to) → is_beginning references (seen ++ x ∷ []) ≡ true → now ≡ seen ++ x ∷ []
     → DoesSeen does out out tag now (named_character_reference_state references (return_of return_to tag) seen x)
@@ -104,7 +104,7 @@ flushes_named return_to seen now x tag old tag_now new next is fails same found 
     (not_further return seen x fails ∙ (ap (λ s. (named return s x (longest references s)).outcome) (sym same) ∙ named_found return now x (longest references now) found))
     (flushed_again return_to _ tag old tag_now new next is flushes (record parts { seen = now }))
 
--- none was found
+-- no name was found
 pub flushes_seen : (return_to : ReturnTo) (seen now : List ℕ) (x : ℕ) (tag : Tag) (old : List ℕ) (tag_now : Tag) (new : List ℕ) (does : Transition)
     → does ≡ transition.Reconsumed (at.Reference at_reference.AmbiguousAmpersand return_to) → is_beginning references (seen ++ x ∷ []) ≡ false → now ≡ seen
     → false ≡ is_some (longest references now) → Flushes return_to (text_named (return_of return_to tag) now x (longest references now)) tag old tag_now new

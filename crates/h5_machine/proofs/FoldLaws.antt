@@ -9,7 +9,7 @@ use Rattle.std.specs.Char.{to_ascii_lowercase}
 use Rattle.h5_states.specs.Words.{begins, is_all, same}
 use Rattle.h5_machine.proofs.AsciiLaws.{wide_not}
 
--- a word that is as long or longer begins so where its front is the same
+-- a word that is as long or longer begins with this if its prefix is equal
 pub begins_front : (fold : ℕ → ℕ) (seen word : List ℕ) → length seen ≤ length word → begins fold seen word ≡ bytes_eq (map fold seen) (map fold (take (length seen) word))
 begins_front fold [] word h = refl
 begins_front fold (x ∷ xs) [] h = absurd (omega arith)
@@ -36,14 +36,14 @@ is_all_same [] (c ∷ word) = refl
 is_all_same (x ∷ xs) [] = refl
 is_all_same (x ∷ xs) (c ∷ word) = rw twice (ap (λ b. (x == c) && b) (is_all_same xs word))
 
--- no word of ASCII begins with what ends in a byte past it
+-- no word of ASCII begins with what ends in a byte outside ASCII
 pub begins_wide : (fold : ℕ → ℕ) (seen : List ℕ) (x : ℕ) (word : List ℕ) → 128 ≤ fold x → list_all (λ c. nat_lt (fold c) 128) word ≡ true → begins fold (seen ++ x ∷ []) word ≡ false
 begins_wide fold [] x [] h k = refl
 begins_wide fold [] x (c ∷ word) h k = and_left (fold x == fold c) true (wide_not (fold x) (fold c) (le-leb 128 (fold x) h) (and_parts _ _ k).0)
 begins_wide fold (y ∷ seen) x [] h k = refl
 begins_wide fold (y ∷ seen) x (c ∷ word) h k = and_right (fold y == fold c) _ (begins_wide fold seen x word h (and_parts _ _ k).1)
 
--- what a test that ignores the case of letters tells
+-- what a test in any case of letters shows
 pub folded_all : (seen bytes word : List ℕ) (r : Bool) → bytes ≡ seen → Decides r (map to_ascii_lowercase bytes ≡ map to_ascii_lowercase word) → r ≡ is_all to_ascii_lowercase seen word
 folded_all seen bytes word r e test =
     rw (← e) (same_from_decides _ _ test (bytes_eq-Decides _ _) ∙ sym (is_all_folded to_ascii_lowercase bytes word))

@@ -1,4 +1,4 @@
--- Words that begin with what was seen and with one byte more.
+-- Words that begin with what was seen and one more byte.
 use Rattle.std.proofs.Common.{◌≡◌, ℕ, zero, suc, ◌+◌, ◌<◌, ◌≤◌, ◌==◌, Bool, true, false, List, [], ◌∷◌, ◌++◌, length, take, slice_index, refl, sym, ap, ◌∙◌, subst, arith, eq-eqb, ne_eqb, length-append}
 use Rattle.std.proofs.lemmas.Bool.{and_left, and_right}
 use Rattle.std.specs.Prelude.{◌&&◌}
@@ -26,7 +26,7 @@ next_is_not fold (y ∷ seen) (c ∷ word) x h e = and_right (fold y == fold c) 
 none_is : (fold : ℕ → ℕ) (seen word : List ℕ) (x : ℕ) → length word ≤ length seen → begins fold (seen ++ x ∷ []) word ≡ false
 none_is fold seen word x h = begins_longer fold (seen ++ x ∷ []) word (omega (arith, length-append seen (x ∷ [])))
 
--- the same where case counts, and where it doesn't
+-- as above, if case matters, and if it doesn't
 pub same_none : (seen word : List ℕ) (x : ℕ) → length word ≤ length seen → begins same (seen ++ x ∷ []) word ≡ false
 same_none seen word x h = none_is same seen word x h
 
@@ -47,7 +47,7 @@ pub lower_other : (seen word : List ℕ) (x : ℕ) → length seen < length word
     → begins to_ascii_lowercase (seen ++ x ∷ []) word ≡ false
 lower_other seen word x h e = next_is_not to_ascii_lowercase seen word x h (λ f. e (sym f))
 
--- whether a single byte goes on what was seen
+-- a single byte continues what was seen, or doesn't
 pub none_further : (seen bytes : List ℕ) (x n : ℕ) → bytes ≡ seen → n ≡ 0 → (n < 1 → is_beginning references (bytes ++ take (n + 1) (x ∷ [])) ≡ false) → false ≡ is_beginning references (seen ++ x ∷ [])
 none_further seen bytes x n e none h =
     let not : is_beginning references (bytes ++ take (n + 1) (x ∷ [])) ≡ false = h (omega arith) in

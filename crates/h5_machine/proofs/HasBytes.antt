@@ -1,9 +1,9 @@
--- A text that has a name's bytes at its places begins with the name.
+-- A text that has a name's bytes at their indices begins with the name.
 use Rattle.std.proofs.Common.{◌≡◌, ℕ, suc, ◌≤◌, true, ◌==◌, refl, sym, List, [], ◌∷◌, length, get_or, arith}
 use Rattle.std.proofs.lemmas.Bool.{and_from, eq-eqb}
 use Rattle.h5_states.specs.Words.{begins, same}
 
--- a text has these bytes from a place on
+-- a text has these bytes from an index on
 abbrev pub Has : List ℕ → ℕ → List ℕ → Type 0
 Has text k [] = k ≤ length text
 Has text k (x ∷ xs) = (get_or text k 0 ≡ x) × Has text (suc k) xs

@@ -18,7 +18,7 @@ pub begins_itself : (seen : List ℕ) → begins same seen seen ≡ true
 begins_itself [] = refl
 begins_itself (x ∷ seen) = and_from (x == x) (begins same seen seen) (eq-eqb x x refl) (begins_itself seen)
 
--- a name that begins so and is as long
+-- a name that begins with this and is as long
 all_of_it : (seen name : List ℕ) → begins same seen name ≡ true → length name ≡ length seen → name ≡ seen
 all_of_it [] [] h e = refl
 all_of_it [] (c ∷ name) h e = absurd (omega arith)
@@ -29,7 +29,7 @@ all_of_it (s ∷ seen) (c ∷ name) h e =
     let rest : name ≡ seen = all_of_it seen name p.1 (omega arith) in
     cc
 
--- a name begins with less, too
+-- a name also begins with less
 shorter : (seen more name : List ℕ) → begins same (seen ++ more) name ≡ true → begins same seen name ≡ true
 shorter [] more name h = refl
 shorter (s ∷ seen) more [] h = absurd (false≢true h)
@@ -51,7 +51,7 @@ not_longer table seen m n le fails =
     let split : take m seen ++ drop m (take n seen) ≡ take n seen = ap (λ xs. xs ++ drop m (take n seen)) (sym (take-take m n seen le)) ∙ take-append-drop m (take n seen) in
     false≢true (sym fails ∙ beginning_shorter table (take m seen) (drop m (take n seen)) (ap (is_beginning table) split ∙ holds)))
 
--- what stands at a place of a table in order is what its name stands for
+-- an entry of a table in order has the text of its name
 not_same : (a b : List ℕ) → is_before a b ≡ true → bytes_eq a b ≡ false
 not_same a b h =
     false_from_ne_true _ (λ e. false≢true (sym (before_itself a) ∙ (ap (is_before a) ((bytes_eq-Decides a b).0 e) ∙ h)))
@@ -63,14 +63,14 @@ meaning_at (r ∷ table) (suc k) lt order =
     cond-false (bytes_eq r.0 (get_or table k ([], [])).0) (Some r.1) (meaning_of table (get_or table k ([], [])).0) (not_same r.0 (get_or table k ([], [])).0 (order 0 (omega arith)))
     ∙ meaning_at table k (omega arith) (λ i h. order (suc i) (omega arith))
 
--- and what is no name of it stands for nothing
+-- and what isn't a name of it has no text
 no_meaning : (table : List Reference) (seen : List ℕ) → ((k : ℕ) → k < length table → (get_or table k ([], [])).0 ≡ seen → ⊥) → meaning_of table seen ≡ None
 no_meaning [] seen none = refl
 no_meaning (r ∷ table) seen none =
     cond-false (bytes_eq r.0 seen) (Some r.1) (meaning_of table seen) (false_from_ne_true _ (λ e. none 0 (omega arith) ((bytes_eq-Decides r.0 seen).0 e)))
     ∙ no_meaning table seen (λ k lt e. none (suc k) (omega arith) e)
 
--- of the names that begin with what was seen, the first is all of it, or none is
+-- of the names that begin with what was seen, the first is all of it, or no name is
 first_is_name : (seen : List ℕ) (from to : ℕ) → from < to → to ≤ how_many → AreCandidates seen from to → length (name_of from) ≡ length seen → meaning_of references seen ≡ Some (text_of from)
 first_is_name seen from to some within are e =
     subst (λ name. meaning_of references name ≡ Some (text_of from)) (all_of_it seen (name_of from) (are.inside from (omega arith) some) e)
@@ -91,7 +91,7 @@ first_is_no_name : (seen : List ℕ) (from to : ℕ) → from < to → AreCandid
 first_is_no_name seen from to some are differ =
     no_meaning references seen (λ k lt e. differ (name_is_first seen from to k are some (omega (arith, length-references)) e))
 
--- what begins no name is none
+-- what begins no name isn't a name
 none_is_name : (table : List Reference) (seen : List ℕ) → is_beginning table seen ≡ false → meaning_of table seen ≡ None
 none_is_name [] seen fails = refl
 none_is_name (r ∷ table) seen fails =
@@ -99,7 +99,7 @@ none_is_name (r ∷ table) seen fails =
     false≢true (sym fails ∙ or_left (begins same seen r.0) (is_beginning table seen) (ap (begins same seen) ((bytes_eq-Decides r.0 seen).0 e) ∙ begins_itself seen))))
     ∙ none_is_name table seen (false_from_ne_true _ (λ holds. false≢true (sym fails ∙ or_right (begins same seen r.0) (is_beginning table seen) holds)))
 
--- the longest name, a byte more
+-- the longest name, with one more byte
 length_of_part : (seen : List ℕ) (n : ℕ) → n < length seen → length (take (suc n) seen) ≡ suc n
 length_of_part [] n lt = absurd (omega arith)
 length_of_part (x ∷ seen) zero lt = refl
@@ -119,7 +119,7 @@ longest_stays seen n from to lt some are differ =
     (λ fails are. ap (λ text. or_shorter seen (suc n) text (longest_within references n seen)) (first_is_no_name (take (suc n) seen) from to some are (λ len. fails (len ∙ length_of_part seen n lt))))
     differ are
 
--- and where no name begins with a byte more
+-- and if no name begins with one more byte
 stays : (table : List Reference) (seen : List ℕ) (m n : ℕ) → m ≤ n → ((i : ℕ) → m < i → i ≤ n → meaning_of table (take i seen) ≡ None) → longest_within table n seen ≡ longest_within table m seen
 stays table seen m zero le none = let one : 0 ≡ m = omega arith in ap (λ k. longest_within table k seen) one
 stays table seen m (suc n) le none =

@@ -22,7 +22,7 @@ as_written (x ∷ xs) h =
 pub name_is_lowered : (xs : List ℕ) → are_in run.Name xs ≡ true → name_of xs ≡ map to_ascii_lowercase xs
 name_is_lowered xs h = ap (map to_ascii_lowercase) (as_written xs h)
 
--- what may stand in an attribute's name may stand in a name
+-- the bytes allowed in an attribute's name are allowed in a name
 pub attribute_name_is_name : (xs : List ℕ) → are_in run.AttributeName xs ≡ true → are_in run.Name xs ≡ true
 attribute_name_is_name [] h = refl
 attribute_name_is_name (x ∷ xs) h =

@@ -1,4 +1,4 @@
--- The bytes with which the name of a reference goes on are passed, and are seen.
+-- The bytes that continue the name of a reference are passed, and become what was seen.
 use Rattle.std.proofs.Common.{◌≡◌, ℕ, zero, suc, add-one, ◌<◌, ◌≤◌, Bool, true, false, ◌==◌, List, [], ◌∷◌, ◌++◌, length, take, drop, slice_index, refl, sym, ap, ◌∙◌, subst, arith, append_assoc, append-nil, IsUtf8, if◌then◌else◌}
 use Rattle.std.proofs.lemmas.Bool.{and_parts}
 use Rattle.std.proofs.lemmas.Bool.Decides.{nat_tests}
@@ -20,7 +20,7 @@ use Rattle.h5_machine.specs.declared.machine_state.MachineState.TheVariants as a
 use Rattle.h5_machine.specs.declared.machine_state.ReferenceState.TheVariants as r
 use Rattle.h5_machine.specs.declared.machine_state.ReturnTo.{ReturnTo}
 
--- what is known of a byte of a name
+-- properties of a byte of a name
 record NameByte (x : ℕ) : Type 0 where
   low : x < 128
   feed : (x == 10) ≡ false
@@ -38,7 +38,7 @@ no_return x h = grind (arith, nat_tests)
 name_byte : (x : ℕ) → is_name_byte x ≡ true → NameByte x
 name_byte x h = record { low = small x h; feed = no_feed x h; return = no_return x h }
 
--- the byte behind what was seen
+-- the byte after what was seen
 last_of : (seen : List ℕ) (x : ℕ) (xs : List ℕ) → list_all is_name_byte (seen ++ x ∷ xs) ≡ true → is_name_byte x ≡ true
 last_of [] x xs h = (and_parts (is_name_byte x) (list_all is_name_byte xs) h).0
 last_of (y ∷ seen) x xs h = last_of seen x xs (and_parts (is_name_byte y) (list_all is_name_byte (seen ++ x ∷ xs)) h).1
@@ -46,7 +46,7 @@ last_of (y ∷ seen) x xs h = last_of seen x xs (and_parts (is_name_byte y) (lis
 byte_behind : (seen : List ℕ) (x : ℕ) (xs : List ℕ) → is_beginning references (seen ++ x ∷ xs) ≡ true → NameByte x
 byte_behind seen x xs h = name_byte x (last_of seen x xs (beginning_has_name_bytes (seen ++ x ∷ xs) h))
 
--- where more was seen
+-- after more was seen
 abbrev pub with_seen : ReaderPlace → Return → List ℕ → ReaderPlace
 with_seen p return seen = record p { state = NamedCharacterReference return seen; after_return = false }
 
@@ -87,7 +87,7 @@ name_passed p return seen [] ys xs split some e kept h = absurd (omega arith)
 name_passed p return seen (x ∷ front) ys xs split some e kept h =
     subst (λ l. Passes references p l [] (with_seen p return (seen ++ x ∷ front)) ys) (sym split) (passes_name p return seen x front ys e (rw split at kept) h)
 
--- a machine that took the first k bytes, with which a name goes on
+-- a machine that took the first k bytes that continue a name
 pub took_name : (m n : MachineText) (return_to : ReturnTo) (xs ys front out : List ℕ) (k : ℕ) → m.at ≡ at.Reference r.NamedCharacterReference return_to → front ≡ take k xs → ys ≡ drop k xs
     → 0 < length front → is_dropped (place_of m) (slice_index xs 0) ≡ false → is_beginning references (m.parts.seen ++ take k xs) ≡ true
     → n ≡ record m { parts = record m.parts { seen = m.parts.seen ++ front }; after_return = false } → PassesRun m xs out out n ys
@@ -102,7 +102,7 @@ took_name m n return_to xs ys front out k at is_front is_rest some kept h e =
       put = sym (append-nil out);
     }
 
--- a text may be cut behind such bytes
+-- a text may be split after such bytes
 byte_at : (seen xs : List ℕ) (n : ℕ) → n < length xs → list_all is_name_byte (seen ++ take (suc n) xs) ≡ true → is_name_byte (slice_index xs n) ≡ true
 byte_at (y ∷ seen) xs n lt h = byte_at seen xs n lt (and_parts (is_name_byte y) (list_all is_name_byte (seen ++ take (suc n) xs)) h).1
 byte_at [] [] n lt h = absurd (omega arith)

@@ -1,4 +1,4 @@
--- A byte more narrows the references whose names begin with what was seen.
+-- One more byte narrows the references whose names begin with what was seen.
 use Rattle.std.proofs.Common.{◌≡◌, ℕ, zero, suc, ◌+◌, ◌<◌, ◌≤◌, Bool, true, false, not, cond, ◌==◌, refl, sym, ap, ◌∙◌, subst, List, [], ◌∷◌, ◌++◌, length, get_or, take, inl, inr, append_assoc, length-append, arith}
 use Rattle.std.specs.Prelude.{nat_lt}
 use Rattle.std.proofs.lemmas.Bool.{and_from, and_parts, cases_lt, cond-true, eq-eqb, eqb-false, eqb-true, false≢true, false_from_ne_true, ltb-true}
@@ -26,7 +26,7 @@ key_past [] depth le = refl
 key_past (x ∷ name) zero le = absurd (omega arith)
 key_past (x ∷ name) (suc depth) le = key_past name depth (omega arith)
 
--- names in order go on in order behind what they both begin with
+-- names in order go on in order after what they both begin with
 before_le : (x y : ℕ) (e b : Bool) → (x == y) ≡ e → cond e b (nat_lt x y) ≡ true → x ≤ y
 before_le x y true b is h = let eq : x ≡ y = eqb-true x y is in omega arith
 before_le x y false b is h = let lt : x < y = ltb-true x y h in omega arith
@@ -54,7 +54,7 @@ rising seen from to within are i k low le high =
 pub rising_part : (depth from to first : ℕ) → from ≤ first → IsRising depth from to → IsRising depth first to
 rising_part depth from to first le rises i k low ik high = rises i k (omega arith) ik high
 
--- a name begins with a byte more
+-- a name begins with one more byte
 begins_further : (seen : List ℕ) (x : ℕ) (name : List ℕ) → begins same seen name ≡ true → key_at name (length seen) ≡ suc x → begins same (seen ++ x ∷ []) name ≡ true
 begins_further [] x [] h e = absurd (omega arith)
 begins_further [] x (c ∷ name) h e = and_from (x == c) true (eq-eqb x c (omega arith)) refl
@@ -97,7 +97,7 @@ all_candidates = record {
   behind = λ k low within. absurd (omega arith);
 }
 
--- whether there are such names
+-- there are such names, or there are none
 pub some_begin : (seen : List ℕ) (from to : ℕ) → from < to → to ≤ how_many → AreCandidates seen from to → is_beginning references seen ≡ true
 some_begin seen from to some within are =
     list_any_at (λ (r : Reference). begins same seen r.0) references from ([], []) (within_list from (omega arith)) (are.inside from (omega arith) some)
@@ -133,6 +133,6 @@ pub narrowed_more : (seen text : List ℕ) (len depth from to first last : ℕ) 
 narrowed_more seen text len depth from to first last e lt are step =
     subst (λ s. AreCandidates s first last) (byte_more seen text len lt) (step (seen ++ take len text) (length_so_far seen text len (omega arith) ∙ sym e) are)
 
--- all names begin with nothing
+-- all names begin with the empty text
 pub nothing_begins : is_beginning references [] ≡ true
 nothing_begins = some_begin [] 0 how_many (omega arith) (omega arith) all_candidates

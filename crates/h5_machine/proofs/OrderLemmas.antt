@@ -1,4 +1,4 @@
--- The names are in order, and a name stands behind what it begins with.
+-- The names are in order, and a name is after its prefixes.
 use Rattle.std.proofs.Common.{◌≡◌, ℕ, zero, suc, ◌<◌, true, false, ◌==◌, refl, sym, ◌∙◌, List, [], ◌∷◌, length, get_or, arith}
 use Rattle.std.specs.Prelude.{nat_lt}
 use Rattle.std.proofs.lemmas.Bool.{and_parts, cond-true, eq-eqb, eqb-true, false≢true}
@@ -22,7 +22,7 @@ pub before_itself : (a : List ℕ) → is_before a a ≡ false
 before_itself [] = refl
 before_itself (x ∷ a) = cond-true (x == x) (is_before a a) (nat_lt x x) (eq-eqb x x refl) ∙ before_itself a
 
--- a text stands before those that it begins
+-- a text is before those that begin with it
 pub not_before : (seen name : List ℕ) → begins same seen name ≡ true → is_before name seen ≡ false
 not_before [] [] h = refl
 not_before [] (x ∷ name) h = refl

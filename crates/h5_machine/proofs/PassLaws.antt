@@ -1,5 +1,4 @@
--- The law of runs: bytes of a state's run are passed, one after another, and what they emit and what is under construction
--- then is what the run adds.
+-- The law of runs: the bytes of a state's run are passed, one after another, and emit and build what the run adds.
 use Rattle.std.proofs.Common.{◌≡◌, ℕ, ◌+◌, ◌-◌, ◌^◌, ◌<◌, ◌≤◌, Bool, true, false, List, [], ◌∷◌, ◌++◌, length, map, take, drop, slice_index, refl, sym, ap, ◌∙◌, subst, arith, append_assoc, ◌==◌, ◌&&◌, if◌then◌else◌, Option, Some, None}
 use Rattle.std.proofs.lemmas.Bool.{false≢true, and_parts, and_left}
 use Rattle.std.proofs.lemmas.Bool.Decides.{nat_tests}
@@ -43,7 +42,7 @@ use Rattle.h5_machine.proofs.AsciiLaws.{wide_not}
 use Rattle.h5_machine.proofs.CutLaws.{wide_in}
 use Rattle.h5_machine.proofs.RunLaws.{adds, none_of_two, none_of_three, none_of_four, none_of_five}
 
--- a run goes on by the run of the state behind its first byte
+-- a run goes on with the run of the state after its first byte
 text_stays : (state : TextState) (x : ℕ) → is_in (run_of_text_state state) x ≡ true → is_in (run_of_text_state (text_behind state)) x ≡ true
 text_stays (t.ScriptDataEscapedDash depth) x h = wide_in run.Dashes x refl h
 text_stays (t.ScriptDataEscapedDashDash depth) x h = wide_in run.Dashes x refl h
@@ -144,7 +143,7 @@ at_twice (at.Comment state) = refl
 at_twice (at.Doctype state) = ap (λ state. at.Doctype state) (doctype_at_twice state)
 at_twice (at.Reference state return_to) = refl
 
--- whether all has been emitted is told by the state alone
+-- whether all has been emitted depends only on the state
 text_emitted : (state : TextState) (a b : List ℕ) → is_all_emitted (text_state_of state a) ≡ is_all_emitted (text_state_of state b)
 text_emitted (t.Text kind) a b = refl
 text_emitted state a b = refl
@@ -177,7 +176,7 @@ emitted_alike (at.Comment state) a b = comment_emitted state a b
 emitted_alike (at.Doctype state) a b = doctype_emitted state a b
 emitted_alike (at.Reference state return_to) a b = reference_emitted state return_to a b
 
--- behind a run
+-- after a run
 abbrev pub behind_run : ReaderPlace → MachineState → Parts → List ℕ → ReaderPlace
 behind_run p at parts xs = place_behind_run p (state_of (at_behind at) (parts_behind at xs parts)) (newlines false xs)
 

@@ -1,4 +1,4 @@
--- At a byte that is neither '>' nor, where that counts, NUL or '[', no row hands on a token or asks anything.
+-- At a byte that is neither '>' nor, if these count, NUL or '[', no row emits a token or checks the adjusted current node.
 use Rattle.std.proofs.Common.{◌≡◌, ℕ, Bool, true, false, refl, sym, subst, ◌∙◌, List, [], ◌∷◌, ◌++◌, ◌==◌, ◌&&◌, codes, if◌then◌else◌}
 use Rattle.std.proofs.lemmas.Bool.{and_parts, eq-eqb, eqb-true, false≢true, ne_eqb, true≢false}
 use Rattle.std.specs.Char.{is_ascii_alphabetic, is_ascii_digit, to_ascii_lowercase}
@@ -37,7 +37,7 @@ record Quiet (turn : Turn) : Type 0 where
 quiet : {turn : Turn} → IsQuiet turn.outcome → Quiet turn
 quiet h = record { outcome = h }
 
--- what doesn't come
+-- bytes that aren't there
 never : {turn : Turn} (b : Bool) → b ≡ true → b ≡ false → Quiet turn
 never b h g = absurd (false≢true (sym g ∙ h))
 
@@ -137,7 +137,7 @@ self_closing_quiet tag x h = search (either, quiet, never) depth 12
 bogus_comment_quiet : (comment : List ℕ) (x : ℕ) → (x == greater_than_sign) ≡ false → Quiet (c.bogus_comment_state comment x)
 bogus_comment_quiet comment x h = search (either, quiet, never) depth 12
 
--- nothing but a last byte is behind all of a word but its last
+-- only a last byte follows all of a word except its last byte
 nothing_behind : (seen : List ℕ) (x : ℕ) → begins same (seen ++ x ∷ []) [] ≡ false
 nothing_behind [] x = refl
 nothing_behind (y ∷ seen) x = refl

@@ -1,4 +1,4 @@
--- The rows over an attribute that is written with quotes add it to the tag.
+-- The rows over a quoted attribute add it to the tag.
 use Rattle.std.proofs.Common.{◌≡◌, ℕ, ◌+◌, ◌-◌, ◌^◌, ◌<◌, ◌≤◌, Bool, true, false, ◌==◌, ◌||◌, List, [], ◌∷◌, ◌++◌, length, map, refl, sym, ap, ◌∙◌, subst, arith, if◌then◌else◌}
 use Rattle.std.proofs.lemmas.Bool.{and_parts, and_right}
 use Rattle.std.proofs.lemmas.Bool.Decides.{nat_tests}
@@ -30,11 +30,11 @@ use Rattle.h5_machine.specs.declared.runs.Run.TheVariants as run
 use Rattle.h5_machine.proofs.PassLaws.{behind_run, run_passed}
 use Rattle.h5_machine.proofs.RunLaws.{none_of_four, neither}
 
--- the place in such a state, behind a byte that is no CARRIAGE RETURN, in this line
+-- the place in such a state, after a byte other than CARRIAGE RETURN, in this line
 abbrev here : ReaderPlace → State → ℕ → ReaderPlace
 here p state line = record p { state = state; after_return = false; line = line }
 
--- what is known of a byte of an attribute's name
+-- properties of a byte of an attribute's name
 record AttributeByte (x : ℕ) : Type 0 where
   end : is_name_end x ≡ false
   equals : (x == equals_sign) ≡ false
@@ -62,7 +62,7 @@ first_outcome p tag x e n =
     ∙ ap (λ (b : Bool). (turn references p.last (BeforeAttributeName tag) (if b then 10 else x)).outcome) n.return
     ∙ first_row tag x n
 
--- what is under construction where a tag is
+-- what is being built in a tag
 abbrev only : Tag → Parts
 only tag = record { tag = tag; comment = []; doctype = nameless; buffer = []; seen = []; code = 0 }
 

@@ -21,11 +21,11 @@ all_named_in_ascii : are_named_in_ascii references ≡ true
 unfolding references
 all_named_in_ascii = refl
 
--- the same byte
+-- an equal byte
 ascii_byte : (x c : ℕ) → (x == c) ≡ true → ltb c 128 ≡ true → ltb x 128 ≡ true
 ascii_byte x c e h = ap (λ z. ltb z 128) (eqb-true x c e) ∙ h
 
--- what a name begins with
+-- the prefixes of a name
 beginning_of_name : (seen name : List ℕ) → begins same seen name ≡ true → is_ascii name ≡ true → is_ascii seen ≡ true
 beginning_of_name [] name h ascii = refl
 beginning_of_name (x ∷ seen) [] h ascii = absurd (false≢true h)
@@ -47,7 +47,7 @@ last_is_ascii : (xs : List ℕ) (x : ℕ) → is_ascii (xs ++ x ∷ []) ≡ true
 last_is_ascii [] x h = ltb-true x 128 (and_parts (ltb x 128) true h).0
 last_is_ascii (y ∷ xs) x h = last_is_ascii xs x (and_parts (ltb y 128) (is_ascii (xs ++ x ∷ [])) h).1
 
--- no name has a byte that is no ASCII
+-- no name has a byte other than ASCII
 pub no_beginning : (xs : List ℕ) (x : ℕ) → 128 ≤ x → is_beginning references (xs ++ x ∷ []) ≡ false
 no_beginning xs x wide =
     false_from_ne_true (is_beginning references (xs ++ x ∷ []))
@@ -90,7 +90,7 @@ ascii_at [] h i = omega arith
 ascii_at (x ∷ xs) h zero = ltb-true x 128 (and_parts (ltb x 128) (is_ascii xs) h).0
 ascii_at (x ∷ xs) h (suc i) = ascii_at xs (and_parts (ltb x 128) (is_ascii xs) h).1 i
 
--- the longest name is one
+-- the longest name is ASCII
 pub longest_is_ascii : (seen : List ℕ) (found : Named) → found_in seen (Some found) ≡ longest references seen → IsAscii (take found.len seen)
 longest_is_ascii seen found h =
     ascii_at (take found.len seen) (longest_in references (length seen) seen (record { name = take found.len seen; text = found.text.now; rest = drop found.len seen }) all_named_in_ascii (sym h))

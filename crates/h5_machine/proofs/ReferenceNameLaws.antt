@@ -21,7 +21,7 @@ name_is_spelled (x ∷ xs) h =
     let parts = and_parts (is_ascii_alphabetic x) (is_further_name xs) h in
     letter_further x xs parts.0 parts.1
 
--- and so is what a name begins with
+-- and so are its prefixes
 front_is_spelled : (seen name : List ℕ) → begins same seen name ≡ true → is_further_name name ≡ true → is_further_name seen ≡ true
 front_is_spelled [] name h spelled = refl
 front_is_spelled (s ∷ seen) [] h spelled = absurd (false≢true h)
@@ -48,7 +48,7 @@ spelled_in (r ∷ table) seen all h =
 pub beginning_is_spelled : (seen : List ℕ) → is_beginning references seen ≡ true → is_further_name seen ≡ true
 beginning_is_spelled seen h = spelled_in references seen all_references h
 
--- no name goes on behind a semicolon
+-- no name goes on after a semicolon
 closed_is_not_spelled : (seen : List ℕ) (x : ℕ) → ends_in semicolon seen ≡ true → is_further_name (seen ++ x ∷ []) ≡ true → false ≡ true
 closed_is_not_spelled [] x closed h = closed
 closed_is_not_spelled (s ∷ []) x closed h =

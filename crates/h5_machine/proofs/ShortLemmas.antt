@@ -1,4 +1,4 @@
--- No name is longer than 32 bytes, and so nothing that begins one is.
+-- No name is longer than 32 bytes, and so neither are the prefixes of names.
 use Rattle.std.proofs.Common.{◌≡◌, ℕ, ◌≤◌, true, leb, refl, List, [], ◌∷◌, ◌==◌, length, inl, inr, arith}
 use Rattle.std.specs.List.{list_all}
 use Rattle.std.proofs.lemmas.Bool.{and_parts, false≢true, leb-true, or_cases}

@@ -1,4 +1,4 @@
--- The table of numbers read out is the definition's list, by computing.
+-- The table of numbers has the definition's list, by computing.
 use Rattle.std.proofs.Common.{◌≡◌, ℕ, zero, suc, ◌+◌, ◌-◌, ◌<◌, ◌≤◌, Bool, true, false, ◌&&◌, ◌||◌, refl, sym, ap, ◌∙◌, subst, List, [], ◌∷◌, map, length, take, drop, get_or, leb, ltb, add-one, inl, inr, arith}
 use Rattle.std.specs.Prelude.{slice_range}
 use Rattle.std.specs.List.{list_all}
@@ -12,7 +12,7 @@ use Rattle.h5_machine.specs.declared.numbers.TheConstants.{NAMES, NAME_BEGINS, T
 use Rattle.h5_machine.specs.Numbered.{how_many, name_of, text_of, all_names, name_begin, all_texts, text_begin}
 use Rattle.h5_machine.proofs.OrderLemmas.{within_list}
 
--- the parts of bytes, of which the first begins where the bytes do
+-- the parts of bytes; the first part is at the start
 abbrev parts : List ℕ → List ℕ → List (List ℕ)
 parts bytes [] = []
 parts bytes (from ∷ []) = []
@@ -26,7 +26,7 @@ same_texts : parts TEXTS.now TEXT_BEGINS ≡ map (λ (r : Reference). r.1) refer
 unfolding references
 same_texts = refl
 
--- begins that rise up to an end
+-- starts that rise up to an end
 abbrev rise_to : ℕ → List ℕ → Bool
 rise_to end [] = true
 rise_to end (from ∷ []) = leb from end
@@ -83,7 +83,7 @@ name_rises_at k lt = let more : suc k < 2232 = omega arith in rises_at 16641 NAM
 name_rises : (k : ℕ) → k < how_many → (name_begin k ≤ name_begin (k + 1)) × (name_begin (k + 1) ≤ length all_names)
 name_rises k lt = subst (λ n. (name_begin k ≤ name_begin n) × (name_begin n ≤ length all_names)) (sym (add-one k)) (name_rises_at k lt)
 
--- the two begins of a name
+-- the start and the end of a name
 pub name_bounds : (names : List ℕ) (from to k : ℕ) → names ≡ all_names → from ≡ name_begin k → to ≡ name_begin (k + 1) → k < how_many → (from ≤ to) × (to ≤ length names)
 name_bounds names from to k names_are from_is to_is lt =
     let rises = name_rises k lt in
@@ -145,7 +145,7 @@ lead_of_part text bytes from to e h high =
     ap (λ t. get_or t 0 0) (sym e) ∙ head_of_part (to - from) from bytes (subst (λ t. 0 < length t) (sym e) is.0) in
     subst (λ x. 192 ≤ x) head (is.1 (subst (λ x. 128 ≤ x) (sym head) high))
 
--- so they are cut between characters
+-- so they are split between characters
 text_ends : text_begin how_many ≡ length all_texts
 unfolding all_texts text_begin
 text_ends = refl
@@ -160,7 +160,7 @@ boundary k le =
           (omega arith, λ lt. absurd (omega arith))
     ]
 
--- the two begins of a text
+-- the start and the end of a text
 pub text_bounds : (texts : List ℕ) (from to k : ℕ) → texts ≡ all_texts → from ≡ text_begin k → to ≡ text_begin (k + 1) → k < how_many → (from ≤ to) × (IsCharBoundary texts from) × (IsCharBoundary texts to)
 text_bounds texts from to k texts_are from_is to_is lt =
     let rises = text_rises k lt in

@@ -1,4 +1,4 @@
--- The errors of a tag that is handed on.
+-- The errors of a tag that is emitted.
 use Rattle.std.proofs.Common.{◌≡◌, ℕ, Bool, true, false, List, [], ◌∷◌, ◌++◌, refl, sym, ap, ◌∙◌, subst, arith, length, nat_lt, if◌then◌else◌}
 use Rattle.std.proofs.lemmas.Bool.{false≢true}
 use Rattle.std.proofs.lemmas.Bool.Decides.{nat_tests}
@@ -16,7 +16,7 @@ two_errors : (p q : Bool) (e f : ParseError) → (if p then e ∷ (if q then f �
 two_errors true q e f = refl
 two_errors false q e f = refl
 
--- those of a tag, by whether it has attributes and closes itself
+-- the errors of a tag, by its attributes and its self-closing flag
 abbrev tag_errors : Tag → Bool → Bool → List ParseError
 tag_errors t has closes = (if is_end t.kind && has then EndTagWithAttributes ∷ [] else []) ++ (if is_end t.kind && closes then EndTagWithTrailingSolidus ∷ [] else [])
 
@@ -40,7 +40,7 @@ handed_as first second third t closes e has is_end_so has_so two three =
     ∙ (λ i. (if is_end_so i && has_so i then EndTagWithAttributes ∷ [] else []) ++ (if is_end_so i && closes then EndTagWithTrailingSolidus ∷ [] else []))
     ∙ sym (errors_with t closes t.current))
 
--- with a tag attributes stay, whether its current one is complete or not
+-- a tag with complete attributes has attributes, whether its current one is complete or not
 has_some : (xs : List AttributeText) (a : AttributeText) → nat_lt 0 (length (xs ++ a ∷ [])) ≡ true
 has_some [] a = refl
 has_some (x ∷ xs) a = grind (arith, nat_tests)
@@ -54,14 +54,14 @@ some_by : (b : Bool) (t : Tag) (a : Attribute) → is_named_in a.name t.attrs �
 some_by true t a e = sym (named_some t.attrs a.name e)
 some_by false t a e = sym (has_some t.attrs (attribute_named a.name a.value))
 
--- one that is under construction is there, or its name was
+-- with a current attribute: it is added, or the tag already has its name
 some_by_one : (t : Tag) (a : Attribute) → true ≡ nat_lt 0 (length (with_complete t (Some a)).attrs)
 some_by_one t a = some_by (is_named_in a.name t.attrs) t a refl
 
 pub some_current : (t : Tag) (a : Attribute) → t.current ≡ Some a → true ≡ nat_lt 0 (length (completed t).attrs)
 some_current t a e = subst (λ current. true ≡ nat_lt 0 (length (with_complete t current).attrs)) (sym e) (some_by_one t a)
 
--- none is
+-- no current attribute
 is_some : (xs : List NameAttribute) → not (length xs == 0) ≡ nat_lt 0 (length (attribute_texts xs))
 is_some [] = refl
 is_some (x ∷ xs) = grind (arith, nat_tests)

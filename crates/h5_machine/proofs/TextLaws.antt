@@ -24,7 +24,7 @@ use Rattle.h5_machine.specs.declared.machine_state.MachineState.{MachineState}
 use Rattle.h5_machine.specs.declared.transition.Transition.{Transition}
 use Rattle.h5_machine.specs.declared.transition.Transition.TheVariants as transition
 
--- a row that adds to a text does so whatever the buffer and the tag
+-- a row that appends to a text doesn't depend on the buffer and the tag
 pub text_turned : (r : Result Transition AllocError) (old new buffer : List ℕ) (tag : Tag) (row : Turn) → IfOk r (λ transition. DoesText transition old new row)
     → IfOk r (λ transition. (table : List Reference) (parts : Parts) → Does transition old new (record parts { buffer = buffer; tag = tag }) row)
 text_turned r old new buffer tag row = IfOk-weaker r (λ transition. DoesText transition old new row) (λ transition. (table : List Reference) (parts : Parts) → Does transition old new (record parts { buffer = buffer; tag = tag }) row) (λ transition does table parts. does (record parts { buffer = buffer; tag = tag }))
@@ -40,7 +40,7 @@ whole_turned r old new buffer tag row = IfOk-weaker r (λ transition. (parts : P
 pub text_kept : (r : Result Transition AllocError) (old new buffer : List ℕ) (row : Turn) → IfOk r (λ transition. DoesText transition old new row) → IfOk r (λ transition. DoesBuffer transition old new buffer row)
 text_kept r old new buffer row = IfOk-weaker r (λ transition. DoesText transition old new row) (λ transition. DoesBuffer transition old new buffer row) (λ transition does parts. does (record parts { buffer = buffer }))
 
--- texts that differ at an index are not the same, and those that differ at none are
+-- texts that differ at an index aren't equal, and those that differ at no index are
 pub differs_at : (xs ys : List ℕ) (i : ℕ) → i < length ys → get_or xs i 0 ≢ to_ascii_lowercase (get_or ys i 0) → false ≡ is_same_text xs (map to_ascii_lowercase ys)
 differs_at xs ys i h other =
     same_from_decides false _ (λ e. absurd (false≢true e), λ e. absurd (other (ap (λ l. get_or l i 0) e ∙ get_or-map to_ascii_lowercase ys i 0 0 h))) (bytes_eq-Decides xs (map to_ascii_lowercase ys))
@@ -69,7 +69,7 @@ not_ended false true c true first second third fourth h = absurd (true≢false h
 not_ended false false true true first second third fourth h = absurd (true≢false h)
 not_ended false false false true first second third fourth h = refl
 
--- where a name of an appropriate end tag ends, and elsewhere
+-- after the name of an appropriate end tag, and elsewhere
 pub ends_name : (last : List ℕ) (kind : RawTextKind) (buffer : List ℕ) (x : ℕ) → (is_name_end x && is_appropriate last buffer) ≡ true
     → raw_end_tag_name_state last kind buffer x ≡ end_tag_behind buffer x
 ends_name last kind buffer x h = ended (is_blank x) (x == solidus) (x == greater_than_sign) (is_appropriate last buffer) _ _ _ _ h

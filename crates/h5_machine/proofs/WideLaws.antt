@@ -1,4 +1,4 @@
--- A byte past ASCII is reconsumed in each state that doesn't take it as a part of a run.
+-- A byte outside ASCII is reconsumed in each state that doesn't take it as part of a run.
 use Rattle.std.proofs.Common.{◌≡◌, ℕ, ◌≤◌, false, List, true≢false, arith}
 use Rattle.std.specs.Prelude.{Option, Some, None}
 use Rattle.h5_states.specs.ReferenceTable.{references}

@@ -3,13 +3,13 @@ use Rattle.std.specs.Prelude.{◌≡◌, ℕ, zero, suc, ◌<◌, ◌≤◌, tru
 use Rattle.h5_states.specs.Words.{begins, same}
 use Rattle.h5_machine.specs.Numbered.{how_many, name_of}
 
--- they are those from one number to another
+-- the range of their numbers
 pub record AreCandidates (seen : List ℕ) (from to : ℕ) : Type 0 where
   pub inside : (k : ℕ) → from ≤ k → k < to → begins same seen (name_of k) ≡ true
   pub before : (k : ℕ) → k < from → begins same seen (name_of k) ≡ false
   pub behind : (k : ℕ) → to ≤ k → k < how_many → begins same seen (name_of k) ≡ false
 
--- how a name goes on behind so many bytes: 0 where it ends, or else one more than the byte
+-- how a name goes on after `depth` bytes: 0 if it ends there, else one more than the byte
 abbrev pub key_at : List ℕ → ℕ → ℕ
 key_at [] depth = 0
 key_at (x ∷ name) zero = suc x
@@ -19,7 +19,7 @@ key_at (x ∷ name) (suc depth) = key_at name depth
 abbrev pub IsRising : ℕ → ℕ → ℕ → Type 0
 IsRising depth from to = (i k : ℕ) → from ≤ i → i ≤ k → k < to → key_at (name_of i) depth ≤ key_at (name_of k) depth
 
--- a place in front of which keys are smaller than this one, and behind which none is
+-- an index before which keys are smaller than this one, and from which on none is
 pub record IsCut (depth from at to key : ℕ) : Type 0 where
   pub low : from ≤ at
   pub high : at ≤ to

@@ -8,12 +8,12 @@ use Rattle.h5_machine.specs.Parts.{Parts}
 use Rattle.h5_machine.specs.OutcomeOf.{made_of}
 use Rattle.h5_machine.specs.declared.transition.CurrentToken.{CurrentToken}
 
--- what is to be handed on, as a token
+-- the token that is left to emit
 abbrev pub left_of : Option CurrentToken → Parts → Option TokenText
 left_of None parts = None
 left_of (Some construct) parts = Some (made_of construct parts)
 
--- The end, in a state: this was put behind what had been there, and this is to be handed on, of what is under construction.
+-- The end, in a state: its text was appended, and this token of what is being built is left to emit.
 pub record Ends (state : State) (old new : List ℕ) (left : Option CurrentToken) (parts : Parts) : Type 0 where
   pub text : new ≡ old ++ (at_end references state).text
   pub token : left_of left parts ≡ (at_end references state).token

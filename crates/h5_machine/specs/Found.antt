@@ -1,4 +1,4 @@
--- What the search for a name finds.
+-- The results of the search for a name.
 use Rattle.std.specs.Prelude.{ℕ, List, Option, Some, None, take, drop}
 use Rattle.h5_states.specs.References.{Longest}
 use Rattle.h5_machine.specs.declared.search.Named.{Named}

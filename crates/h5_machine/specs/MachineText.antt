@@ -1,4 +1,4 @@
--- What a machine is, and what it does with the byte at hand and with a run.
+-- A machine, and what it does with the current byte and with a run.
 use Rattle.std.specs.Prelude.{◌≡◌, ℕ, Bool, true, false, List, ◌++◌, ◌⊎◌}
 use Rattle.h5_states.specs.declared.kinds.TextKind.{TextKind}
 use Rattle.h5_states.specs.declared.kinds.TextKind.TheVariants.{CdataSection, Data}
@@ -17,7 +17,7 @@ use Rattle.h5_machine.specs.declared.transition.CurrentToken.{CurrentToken}
 use Rattle.h5_machine.specs.declared.machine.Step.{Step}
 use Rattle.h5_machine.specs.declared.machine.Step.TheVariants as taken
 
--- a state, what is under construction, and lines
+-- a state, what is being built, and lines
 pub record MachineText : Type 0 where
   pub at : MachineState
   pub parts : Parts
@@ -26,7 +26,7 @@ pub record MachineText : Type 0 where
   pub line : ℕ
   pub began : ℕ
 
--- where reading is, as the definition has it
+-- the place of a reading, in the definition's terms
 abbrev pub place_of : MachineText → ReaderPlace
 place_of m = record {
   state = state_of m.at m.parts;
@@ -45,13 +45,13 @@ pub record Consumes (m : MachineText) (x : ℕ) (old new : List ℕ) (n : Machin
   pub place : place_of n ≡ behind x state (place_of m)
   pub put : new ≡ old ++ text
 
--- a LINE FEED behind a CARRIAGE RETURN was passed
+-- a LINE FEED after a CARRIAGE RETURN was skipped
 pub record Drops (m : MachineText) (x : ℕ) (old new : List ℕ) (n : MachineText) : Type 0 where
   pub dropped : is_dropped (place_of m) x ≡ true
   pub place : place_of n ≡ behind_newline (place_of m)
   pub put : new ≡ old
 
--- a text was emitted, and a byte is still at hand
+-- a text was emitted, and the byte is still current
 pub record Reconsumes (m : MachineText) (x : ℕ) (old new : List ℕ) (n : MachineText) : Type 0 where
   pub text : List ℕ
   pub state : State
@@ -60,7 +60,7 @@ pub record Reconsumes (m : MachineText) (x : ℕ) (old new : List ℕ) (n : Mach
   pub place : place_of n ≡ in_state state (place_of m)
   pub put : new ≡ old ++ text
 
--- a byte was consumed, and a token is complete, which began in this line. What follows is a text
+-- a byte was consumed, and a token is complete, which began in this line; a text follows
 pub record Completes (m : MachineText) (x : ℕ) (old new : List ℕ) (n : MachineText) (construct : CurrentToken) (told : ℕ) : Type 0 where
   pub kind : TextKind
   pub at : n.at ≡ at.Text (text.Text kind)
@@ -70,7 +70,7 @@ pub record Completes (m : MachineText) (x : ℕ) (old new : List ℕ) (n : Machi
   pub line : told ≡ m.began
   pub put : new ≡ old
 
--- a byte was consumed, and the adjusted current node is to be asked for; meanwhile it is in the HTML namespace
+-- a byte was consumed, and the adjusted current node must be checked; until then the state is that for the HTML namespace
 pub record Wonders (m : MachineText) (x : ℕ) (old new : List ℕ) (n : MachineText) : Type 0 where
   pub elsewhere : State
   pub not_dropped : is_dropped (place_of m) x ≡ false
@@ -84,26 +84,26 @@ Takes m x old new n taken.Reconsumed = Reconsumes m x old new n
 Takes m x old new n (taken.Emitted construct line) = Completes m x old new n construct line
 Takes m x old new n taken.Asks = Wonders m x old new n
 
--- From xs on, up to ys, bytes were passed that emit a text, which was put behind what had been there.
+-- From `xs` up to `ys`, bytes were passed that emit a text, which was appended to `old`.
 pub record PassesRun (m : MachineText) (xs old new : List ℕ) (n : MachineText) (ys : List ℕ) : Type 0 where
   pub text : List ℕ
   pub passes : Passes references (place_of m) xs text (place_of n) ys
   pub put : new ≡ old ++ text
 
--- no token is handed on at a byte, and nothing is asked
+-- a byte neither emits a token nor requires a check of the adjusted current node
 abbrev pub IsQuiet : Outcome → Type 0
 IsQuiet (Consumed text state) = Unit {0}
 IsQuiet (Reconsumed text state) = Unit {0}
 IsQuiet (Emitted token state) = ⊥
 IsQuiet (Asks there error elsewhere) = ⊥
 
--- where a NUL is handed on
+-- states in which a NUL is emitted
 abbrev pub hands_null : State → Bool
 hands_null (Text Data) = true
 hands_null (Text CdataSection) = true
 hands_null state = false
 
--- where a '[' may ask for the adjusted current node
+-- states in which a '[' may require a check of the adjusted current node
 abbrev pub asks_in : State → Bool
 asks_in (MarkupDeclarationOpen seen) = true
 asks_in state = false

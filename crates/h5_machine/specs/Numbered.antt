@@ -1,4 +1,4 @@
--- The references of the definition's list by their places in it, and the table of numbers.
+-- The references of the definition's list by their indices, and the table of numbers.
 use Rattle.std.specs.Prelude.{ℕ, List, [], get_or, slice_index}
 use Rattle.h5_states.specs.ReferenceTable.{references}
 use Rattle.h5_machine.specs.declared.numbers.TheConstants.{NAMES, NAME_BEGINS, TEXTS, TEXT_BEGINS}
@@ -12,14 +12,14 @@ name_of number = (get_or references number ([], [])).0
 abbrev pub text_of : ℕ → List ℕ
 text_of number = (get_or references number ([], [])).1
 
--- all names one behind the other, and where each begins
+-- all names, concatenated, and where each begins
 unfoldable pub all_names : List ℕ
 all_names = NAMES
 
 unfoldable pub name_begin : ℕ → ℕ
 name_begin number = slice_index NAME_BEGINS number
 
--- all texts one behind the other, and where each begins
+-- all texts, concatenated, and where each begins
 unfoldable pub all_texts : List ℕ
 all_texts = TEXTS.now
 

@@ -1,10 +1,10 @@
--- Where a start tag begins.
+-- The beginning of a start tag.
 use Rattle.std.specs.Prelude.{◌≡◌, ◌<◌, ◌++◌, ◌∷◌, ℕ, List, length, slice_index, true}
 use Rattle.std.specs.Char.{is_ascii_alphabetic}
 use Rattle.h5_machine.specs.Runs.{are_in}
 use Rattle.h5_machine.specs.declared.runs.Run.TheVariants as run
 
--- the `<` and a name stand at the front, the name a letter at first, and this follows them
+-- the text begins with `<` and a name whose first byte is a letter; this follows them
 pub record IsOpening (xs name behind : List ℕ) : Type 0 where
   pub split : xs ≡ 60 ∷ (name ++ behind)
   pub some : 0 < length name

@@ -1,4 +1,4 @@
--- What is under construction in a machine, as the definition has it.
+-- What is being built in a machine, in the definition's terms.
 use Rattle.std.specs.Prelude.{ℕ, Bool, true, false, List, Option, Some, None}
 use Rattle.h5_token.specs.TokenText.{DoctypeText}
 use Rattle.h5_states.specs.Construction.{Tag, Attribute}
@@ -18,7 +18,7 @@ abbrev pub current_of : Bool → List ℕ → List ℕ → Option Attribute
 current_of true name value = Some (record { name = name; value = value })
 current_of false name value = None
 
--- a name so far: what was made of it, or else what came of it
+-- a name so far: the one that was made, or else the bytes
 abbrev pub name_so_far : Option (List ℕ) → List ℕ → List ℕ
 name_so_far (Some name) text = name
 name_so_far None text = text

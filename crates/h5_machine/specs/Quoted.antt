@@ -1,4 +1,4 @@
--- Attributes that are written name="value" or name='value', without references.
+-- Attributes written name="value" or name='value', without references.
 use Rattle.std.specs.Prelude.{◌≡◌, ℕ, ◌<◌, true, false, List, ◌∷◌, ◌++◌, length}
 use Rattle.h5_reading.specs.Lines.{newlines}
 use Rattle.h5_states.specs.declared.kinds.Quote.{Quote}
@@ -6,7 +6,7 @@ use Rattle.h5_states.specs.Signs.{equals_sign, sign_of}
 use Rattle.h5_machine.specs.Runs.{are_in}
 use Rattle.h5_machine.specs.declared.runs.Run.TheVariants as run
 
--- such an attribute stands at the front: a name, its value, which has so many newlines, and this rest
+-- the text begins with such an attribute: a name, and its value, which has this number of newlines; `rest` follows
 pub record IsQuoted (xs name value : List ℕ) (lines : ℕ) (rest : List ℕ) : Type 0 where
   pub quote : Quote
   pub split : xs ≡ name ++ equals_sign ∷ (sign_of quote ∷ (value ++ sign_of quote ∷ rest))

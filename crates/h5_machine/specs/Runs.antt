@@ -1,4 +1,4 @@
--- Runs: bytes that a state only adds to a text or to what is under construction.
+-- Runs: bytes that a state only appends to a text or to what is being built.
 use Rattle.std.specs.Prelude.{ℕ, ◌+◌, Bool, true, false, not, ◌||◌, ◌==◌, nat_le, List, [], ◌++◌, map}
 use Rattle.std.specs.Io.Iter.{u64_saturate}
 use Rattle.std.specs.List.{list_all}
@@ -34,7 +34,7 @@ use Rattle.h5_machine.specs.declared.runs.Run.TheVariants as run
 abbrev pub is_changed : ℕ → Bool
 is_changed x = x == null || x == 13
 
--- what ends a run, of those that take all other bytes
+-- the bytes that end a run, for the runs of all other bytes
 abbrev pub ends : Run → ℕ → Bool
 ends run.References x = x == less_than_sign || (x == ampersand || is_changed x)
 ends run.Tags x = x == less_than_sign || is_changed x
@@ -50,7 +50,7 @@ ends run.DoctypeName x = is_blank x || (x == greater_than_sign || is_changed x)
 ends (run.Identifier quote) x = x == sign_of quote || (x == greater_than_sign || is_changed x)
 ends kind x = true
 
--- whether a byte is in a run
+-- true if a byte is in a run
 abbrev pub is_in : Run → ℕ → Bool
 is_in run.Nothing x = false
 is_in run.Letters x = is_ascii_alphabetic x
@@ -107,7 +107,7 @@ abbrev pub run_of_reference : ReferenceState → Run
 run_of_reference r.AmbiguousAmpersand = run.Alphanumerics
 run_of_reference state = run.Nothing
 
--- the run that a state takes
+-- the run of a state
 abbrev pub run_of : MachineState → Run
 run_of (at.Text state) = run_of_text_state state
 run_of (at.Tag state) = run_of_tag state
@@ -124,7 +124,7 @@ abbrev pub doctype_behind : DoctypeState → DoctypeState
 doctype_behind d.BeforeDoctypeName = d.DoctypeName
 doctype_behind state = state
 
--- the state behind a run
+-- the state after a run
 abbrev pub at_behind : MachineState → MachineState
 at_behind (at.Text state) = at.Text (text_behind state)
 at_behind (at.Tag state) = at.Tag state
@@ -153,7 +153,7 @@ tag_flushed to.Data xs tag = tag
 tag_flushed to.Rcdata xs tag = tag
 tag_flushed (to.Value value) xs tag = value_further xs tag
 
--- what is under construction behind a run
+-- what is being built after a run
 abbrev pub parts_behind : MachineState → List ℕ → Parts → Parts
 parts_behind (at.Text state) xs parts = record parts { buffer = buffer_behind state xs parts.buffer }
 parts_behind (at.Tag state) xs parts = record parts { tag = tag_behind state xs parts.tag }
@@ -170,7 +170,7 @@ text_flushed to.Data xs = xs
 text_flushed to.Rcdata xs = xs
 text_flushed (to.Value value) xs = []
 
--- what a run emits
+-- the text that a run emits
 abbrev pub put_by : MachineState → List ℕ → List ℕ
 put_by (at.Text state) xs = text_put state xs
 put_by (at.Tag state) xs = []
@@ -182,7 +182,7 @@ put_by (at.Reference state return_to) xs = text_flushed return_to xs
 abbrev pub are_in : Run → List ℕ → Bool
 are_in run xs = list_all (is_in run) xs
 
--- behind a run, in this state, in which there are so many newlines
+-- the place after a run with this number of newlines, in this state
 abbrev pub place_behind_run : ReaderPlace → State → ℕ → ReaderPlace
 place_behind_run p state n = record {
   state = state;

@@ -1,4 +1,4 @@
--- Bytes that are added to a text.
+-- Bytes that are appended to a text.
 use Rattle.std.specs.Prelude.{ℕ, List, [], ◌∷◌, ◌==◌, if◌then◌else◌}
 use Rattle.h5_states.specs.Signs.{null, replacement}
 

@@ -1,4 +1,4 @@
--- States that take bytes that are no ASCII as they are: in these, such bytes are taken as a run.
+-- States that take bytes other than ASCII as they are. In these, such bytes are taken as a run.
 use Rattle.std.specs.Prelude.{Bool, true, false}
 use Rattle.h5_states.specs.Turn.{Outcome, Consumed, Reconsumed, Emitted, Asks}
 use Rattle.h5_machine.specs.declared.machine_state.MachineState.{MachineState}

@@ -1,12 +1,12 @@
-//! The references whose names begin with what was seen. The table is in order, so they stand one behind the other, and a byte
-//! more leaves a part of them that two binary searches find.
+//! The references whose names begin with what was seen. The table is in order, so they are adjacent, and for one more byte two
+//! binary searches find which of them remain.
 ghost use Rattle.std.specs.Prelude.{◌≡◌, ◌<◌, ◌≤◌, ◌==◌, ℕ, List, [], ◌∷◌, ◌++◌, length};
 ghost use Rattle.h5_machine.specs.Numbered.{how_many, name_of};
 ghost use Rattle.h5_machine.specs.Candidates.{AreCandidates, IsCut, IsRising, key_at};
 
 use super::table::{COUNT, name};
 
-/// References whose names begin with what was seen, from one number to another.
+/// The references whose names begin with what was seen, as a range of numbers.
 #[derive(Clone, Copy)]
 pub struct Candidates {
     pub from: usize,
@@ -15,7 +15,7 @@ pub struct Candidates {
     ghost within_table: { to ≤ how_many },
 }
 
-// How a name goes on behind so many bytes: 0 where it ends, or else one more than the byte.
+// Returns how a name goes on after `depth` bytes: 0 if it ends there, else one more than the byte.
 fn key(number: usize, depth: usize) -> u16
     requires { number < how_many }
     ensures { result ≡ key_at (name_of number) depth }
@@ -29,7 +29,7 @@ fn key(number: usize, depth: usize) -> u16
 }
 
 impl Candidates {
-    /// All names begin with nothing.
+    /// Returns all references: every name begins with the empty text.
     pub fn all() -> Candidates
         ensures { AreCandidates [] result.from result.to }
     {
@@ -42,7 +42,7 @@ impl Candidates {
         self.from == self.to
     }
 
-    // The first of them that goes on with this key or a larger one, or where they end.
+    // Returns the first of them that goes on with this key or a larger one, or the end of the range.
     fn first_from(self, depth: usize, least: u16) -> usize
         ensures low { self.from ≤ result }
         ensures high { result ≤ self.to }
@@ -61,7 +61,7 @@ impl Candidates {
         low
     }
 
-    /// Those that go on with this byte behind the bytes that were seen, of which there were so many.
+    /// Returns those that go on with this byte after the `depth` bytes that were seen.
     pub fn narrowed(self, depth: usize, byte: u8) -> Candidates
         ensures { (seen : List ℕ) → length seen ≡ depth → AreCandidates seen self.from self.to
             → AreCandidates (seen ++ byte ∷ []) result.from result.to }
@@ -73,7 +73,7 @@ impl Candidates {
     }
 }
 
-/// The references whose names begin so.
+/// Returns the references whose names begin with this.
 pub fn candidates_of(seen: &[u8]) -> Candidates
     ensures { AreCandidates seen.now result.from result.to }
 {

@@ -1,4 +1,4 @@
-//! What the number of a character reference stands for (HTML standard, section 13.2.5.80).
+//! The numbers of character references (HTML standard, section 13.2.5.80).
 
 ghost use Rattle.std.specs.Prelude.{◌≡◌, ◌<◌, ◌≤◌, ◌-◌, ◌+◌, ◌*◌, ◌||◌, true, encode_utf8, if◌then◌else◌, nat_lt};
 ghost use Rattle.h5_states.specs.References as r;
@@ -9,14 +9,14 @@ ghost use Rattle.h5_states.specs.Told.{if_any};
 use super::row_errors::only_if;
 use h5_states::ParseError;
 
-// The code points that references to 0x80 to 0x9F stand for, 0 where they stand for themselves.
+// The code points of references to 0x80 to 0x9F; 0 if the number is the code point.
 const REPLACEMENTS: [u16; 32] = [
     0x20ac, 0, 0x201a, 0x0192, 0x201e, 0x2026, 0x2020, 0x2021, 0x02c6, 0x2030, 0x0160, 0x2039,
     0x0152, 0, 0x017d, 0, 0, 0x2018, 0x2019, 0x201c, 0x201d, 0x2022, 0x2013, 0x2014, 0x02dc,
     0x2122, 0x0161, 0x203a, 0x0153, 0, 0x017e, 0x0178,
 ];
 
-// A number past the end of Unicode stays past it.
+// A number above the last code point stays above it.
 const PAST_UNICODE: u32 = 0x110000;
 
 fn bounded(code: u32) -> u32
@@ -25,7 +25,7 @@ fn bounded(code: u32) -> u32
     code.min(PAST_UNICODE)
 }
 
-// The value of a hexadecimal digit.
+// Returns the value of a hexadecimal digit.
 fn digit(b: u8) -> u32
     requires { is_hex_digit b ≡ true }
     ensures { result ≡ r.digit b }
@@ -36,7 +36,7 @@ fn digit(b: u8) -> u32
     (b.to_ascii_lowercase() - b'a') as u32 + 10
 }
 
-/// The number with one digit more, in this base.
+/// Appends a digit to a number, in this base. A number above the last code point stays above it.
 pub fn with_digit(code: u32, base: u32, b: u8) -> u32
     requires { is_hex_digit b ≡ true }
     ensures { result ≡ r.bounded (code * base + r.digit b) }
@@ -56,7 +56,7 @@ fn is_control(code: u32) -> bool
     (code < 0x20 && !(code == 9 || code == 10 || code == 12)) || (0x7f <= code && code <= 0x9f)
 }
 
-/// The error of a number, if there is one.
+/// Returns the error of a number, if any.
 pub fn code_error(code: u32) -> Option<ParseError>
     ensures { if_any result ≡ r.code_errors code }
 {
@@ -75,8 +75,8 @@ pub fn code_error(code: u32) -> Option<ParseError>
     only_if(is_control(code), ParseError::ControlCharacterReference)
 }
 
-/// The error of a character of the input stream, if there is one: a noncharacter, or a control that is neither NUL nor
-/// ASCII whitespace (HTML standard, section 13.2.3.5).
+/// Returns the error of a character of the input stream, if any: a noncharacter, or a control other than NUL and ASCII
+/// whitespace (HTML standard, section 13.2.3.5).
 pub fn input_error(c: char) -> Option<ParseError>
     ensures { if_any result ≡ character_errors c }
 {
@@ -90,7 +90,7 @@ pub fn input_error(c: char) -> Option<ParseError>
     )
 }
 
-// What a code point of the C1 controls stands for.
+// Returns the replacement of a code point of the C1 controls.
 fn replaced(code: u32) -> u32
     requires low { 0x80 ≤ code }
     requires high { code ≤ 0x9f }
@@ -103,7 +103,7 @@ fn replaced(code: u32) -> u32
 
 const UNKNOWN: char = '\u{fffd}';
 
-// The character with a number, and U+FFFD where there is none.
+// Returns the character with a number, or U+FFFD if there is none.
 fn character(code: u32) -> char
     ensures { encode_utf8 result ≡ (if nat_lt 0x10ffff code || r.is_surrogate code then replacement else encode_utf8 code) }
 {
@@ -113,7 +113,7 @@ fn character(code: u32) -> char
     }
 }
 
-/// The character that a number stands for.
+/// Returns the character of a number.
 pub fn code_point(code: u32) -> char
     ensures { encode_utf8 result ≡ r.code_point code }
 {

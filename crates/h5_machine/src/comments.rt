@@ -1,4 +1,4 @@
-//! The rows of comments and of what is taken for one (HTML standard, sections 13.2.5.41 to 13.2.5.52).
+//! The rows of comments and bogus comments (HTML standard, sections 13.2.5.41 to 13.2.5.52).
 
 ghost use Rattle.std.specs.Prelude.{◌≡◌, ◌<◌, ◌==◌, ◌&&◌, true, ℕ, List, [], ◌∷◌, ◌++◌, IfOk, IfSome, string_bytes, codes};
 ghost use Rattle.h5_states.specs.Comments as c;
@@ -28,21 +28,21 @@ fn bogus_comment(comment: &mut String, b: u8) -> Result<Transition, AllocError>
     Ok(Transition::Consumed(MachineState::Comment(CommentState::BogusComment)))
 }
 
-// Whether one of the openings begins so.
+// Returns true if one of the openings begins with this.
 fn begins_opening(seen: &str) -> bool
     ensures { result ≡ c.begins_opening seen.now }
 {
     begins(seen, b"--") || begins_folded(seen, b"doctype") || begins(seen, b"[CDATA[")
 }
 
-// What was seen begins a comment.
+// Begins a bogus comment with what was seen.
 fn not_opened() -> Transition
     ensures { result ≡ Transition.Reconsumed (MachineState.Comment CommentState.BogusComment) }
 {
     Transition::Reconsumed(MachineState::Comment(CommentState::BogusComment))
 }
 
-// 13.2.5.42 Markup declaration open state. What was seen is kept as the comment that it begins where it is no opening.
+// 13.2.5.42 Markup declaration open state. If what was seen isn't an opening, it already is the comment that it begins.
 fn markup_declaration_open(seen: &mut String, b: u8) -> Result<Transition, AllocError>
     ensures { IfOk result (λ transition. DoesComment transition (string_bytes seen.new) (c.markup_declaration_open_state (string_bytes seen.old) b)) }
 {
@@ -205,7 +205,7 @@ fn comment_end_bang(comment: &mut String, b: u8) -> Result<Transition, AllocErro
     }
 }
 
-/// The row of a state of comments.
+/// The row of a comment state.
 pub fn comment_turn(state: CommentState, text: &mut String, b: u8) -> Result<Transition, AllocError>
     requires { comment_takes_wide state ≡ true → b < 128 }
     ensures { IfOk result (λ transition. (table : List Reference) (last : List ℕ) → DoesComment transition (string_bytes text.new)

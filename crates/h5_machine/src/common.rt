@@ -1,11 +1,11 @@
-//! The names that texts have most, told by their bytes alone. `write_table.py` writes this file.
+//! The most frequent names, found by their bytes alone. `write_table.py` writes this file.
 ghost use Rattle.std.specs.Prelude.{◌≡◌, ◌<◌, true, IfSome};
 ghost use Rattle.h5_states.specs.References.{ends_in};
 ghost use Rattle.h5_states.specs.Signs.{semicolon};
 ghost use Rattle.h5_states.specs.Words.{begins, same};
 ghost use Rattle.h5_machine.specs.Numbered.{how_many, name_of};
 
-/// The number of a common name that a text begins with. The name ends in a semicolon, so it is the longest one there.
+/// Returns the number of a common name that a text begins with. The name ends in a semicolon, so no longer name is there.
 #[tactic(auto, using(crate::proofs::CommonLemmas::common_names))]
 pub fn common(text: &[u8]) -> Option<usize>
     ensures within_table { IfSome result (λ number. number < how_many) }

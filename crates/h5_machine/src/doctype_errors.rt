@@ -15,7 +15,7 @@ use super::signs::{is_blank, is_quote, sign_of};
 use super::text_errors::begins_further_folded;
 use h5_states::{Identifier, ParseError, Quote};
 
-// The error of the one identifier, or of the other.
+// Returns the error of the one identifier, or of the other.
 fn chosen(id: Identifier, public: ParseError, system: ParseError) -> ParseError
     ensures { result ≡ d.chosen id public system }
 {
@@ -25,7 +25,7 @@ fn chosen(id: Identifier, public: ParseError, system: ParseError) -> ParseError
     }
 }
 
-// Whether one of the keywords begins with what was seen and this byte.
+// Returns true if one of the keywords begins with what was seen and this byte.
 fn begins_keyword(seen: &str, b: u8) -> bool
     ensures { result ≡ d.begins_keyword (seen.now ++ b ∷ []) }
 {
@@ -53,7 +53,7 @@ fn before_doctype_name_error(b: u8) -> Option<ParseError>
     }
 }
 
-// Whether it is a blank or a '>' before the first letter.
+// Returns true if the byte is whitespace or '>' before the first letter.
 fn is_before_keyword(seen: &str, b: u8) -> bool
     ensures { result ≡ ((length seen.now == 0) && (s.is_blank b || b == s.greater_than_sign)) }
 {
@@ -73,7 +73,7 @@ fn after_doctype_name_error(seen: &str, b: u8) -> Option<ParseError>
     )
 }
 
-// There is no identifier, or there are no quotes.
+// Returns the error of a missing identifier, or of missing quotes.
 fn identifier_error(id: Identifier, b: u8) -> ParseError
     ensures { result ≡ (if b == 62 then d.chosen id ParseError.MissingDoctypePublicIdentifier ParseError.MissingDoctypeSystemIdentifier
         else d.chosen id ParseError.MissingQuoteBeforeDoctypePublicIdentifier ParseError.MissingQuoteBeforeDoctypeSystemIdentifier) }

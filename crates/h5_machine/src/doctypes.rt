@@ -30,7 +30,7 @@ fn goes(state: DoctypeState) -> Transition
     Transition::Consumed(MachineState::Doctype(state))
 }
 
-/// A new doctype without a name. It takes no memory.
+/// Returns a new doctype without a name. Allocates nothing.
 pub fn nameless() -> Doctype
     ensures { doctype_text result ≡ nameless }
 {
@@ -42,7 +42,7 @@ pub fn nameless() -> Doctype
     }
 }
 
-/// A new doctype, whose name is so far this one.
+/// Returns a new doctype with this name so far.
 pub fn new_doctype(name: String) -> Doctype
     ensures { doctype_text result ≡ new_doctype (string_bytes name) }
 {
@@ -54,7 +54,7 @@ pub fn new_doctype(name: String) -> Doctype
     }
 }
 
-// Sets an identifier to the empty one.
+// Sets an identifier to the empty string.
 fn begin_identifier(id: Identifier, doctype: &mut Doctype, empty: String)
     requires { string_bytes empty ≡ [] }
     ensures { doctype_text doctype.new ≡ with_identifier id (doctype_text doctype.old) }
@@ -122,7 +122,7 @@ fn doctype_name(doctype: &mut Doctype, seen: &mut String, b: u8) -> Result<Trans
     Ok(goes(DoctypeState::DoctypeName))
 }
 
-/// Its name goes on so, letters in lower case.
+/// Appends to the name, with letters in lower case.
 pub fn push_doctype_name(doctype: &mut Doctype, more: &str) -> Result<(), AllocError>
     ensures { OnOk result (doctype_text doctype.new ≡ doctype_named_further (map to_ascii_lowercase more.now) (doctype_text doctype.old)) }
 {
@@ -132,7 +132,7 @@ pub fn push_doctype_name(doctype: &mut Doctype, more: &str) -> Result<(), AllocE
     }
 }
 
-// Its name goes on by an ASCII byte, a letter in lower case.
+// Appends an ASCII byte to the name, a letter in lower case.
 fn push_name_byte(doctype: &mut Doctype, b: u8) -> Result<(), AllocError>
     requires { b < 128 }
     ensures { OnOk result (doctype_text doctype.new ≡ doctype_named_further (to_ascii_lowercase b ∷ []) (doctype_text doctype.old)) }
@@ -143,7 +143,7 @@ fn push_name_byte(doctype: &mut Doctype, b: u8) -> Result<(), AllocError>
     }
 }
 
-// A part that is there goes on so.
+// Appends to a part, if it exists.
 fn push_part(part: &mut Option<String>, more: &str) -> Result<(), AllocError>
     ensures { OnOk result (optional_text part.new ≡ option_map (λ text. text ++ more.now) (optional_text part.old)) }
 {
@@ -153,7 +153,7 @@ fn push_part(part: &mut Option<String>, more: &str) -> Result<(), AllocError>
     }
 }
 
-// A part that is there goes on by an ASCII byte.
+// Appends an ASCII byte to a part, if it exists.
 fn push_part_byte(part: &mut Option<String>, b: u8) -> Result<(), AllocError>
     requires { b < 128 }
     ensures { OnOk result (optional_text part.new ≡ option_map (λ text. text ++ b ∷ []) (optional_text part.old)) }
@@ -164,7 +164,7 @@ fn push_part_byte(part: &mut Option<String>, b: u8) -> Result<(), AllocError>
     }
 }
 
-/// Its identifier goes on so.
+/// Appends to the identifier.
 pub fn push_identifier(id: Identifier, doctype: &mut Doctype, more: &str) -> Result<(), AllocError>
     ensures { OnOk result (doctype_text doctype.new ≡ identifier_further id more.now (doctype_text doctype.old)) }
 {
@@ -174,7 +174,7 @@ pub fn push_identifier(id: Identifier, doctype: &mut Doctype, more: &str) -> Res
     }
 }
 
-// Its identifier goes on by an ASCII byte.
+// Appends an ASCII byte to the identifier.
 fn push_identifier_byte(id: Identifier, doctype: &mut Doctype, b: u8) -> Result<(), AllocError>
     requires { b < 128 }
     ensures { OnOk result (doctype_text doctype.new ≡ identifier_further id (b ∷ []) (doctype_text doctype.old)) }
@@ -185,14 +185,14 @@ fn push_identifier_byte(id: Identifier, doctype: &mut Doctype, b: u8) -> Result<
     }
 }
 
-// Whether one of the keywords begins so.
+// Returns true if one of the keywords begins with this.
 fn begins_keyword(seen: &str) -> bool
     ensures { result ≡ d.begins_keyword seen.now }
 {
     begins_folded(seen, b"public") || begins_folded(seen, b"system")
 }
 
-// What was seen is neither keyword, nor does one begin so.
+// Handles what isn't a keyword, and doesn't begin one.
 fn without_keyword(doctype: &mut Doctype) -> Transition
     ensures transition { result ≡ Transition.Reconsumed (MachineState.Doctype DoctypeState.BogusDoctype) }
     ensures doctype { doctype_text doctype.new ≡ quirky (doctype_text doctype.old) }
@@ -231,7 +231,7 @@ fn after_doctype_name(
     Ok(without_keyword(doctype))
 }
 
-// An identifier in such quotes begins.
+// Begins an identifier in these quotes.
 fn begins_identifier(
     id: Identifier,
     quote: Quote,
@@ -246,7 +246,7 @@ fn begins_identifier(
     goes(DoctypeState::DoctypeIdentifier(id, quote))
 }
 
-// There is no identifier.
+// Handles a missing identifier.
 fn without_identifier(id: Identifier, doctype: &mut Doctype) -> Transition
     ensures transition { result ≡ HANDS }
     ensures doctype { doctype_text doctype.new ≡ quirky (doctype_text doctype.old) }
@@ -255,7 +255,7 @@ fn without_identifier(id: Identifier, doctype: &mut Doctype) -> Transition
     HANDS
 }
 
-// There are no quotes.
+// Handles missing quotes.
 fn without_quote(id: Identifier, doctype: &mut Doctype) -> Transition
     ensures transition { result ≡ Transition.Reconsumed (MachineState.Doctype DoctypeState.BogusDoctype) }
     ensures doctype { doctype_text doctype.new ≡ quirky (doctype_text doctype.old) }
@@ -394,7 +394,7 @@ fn bogus_doctype(b: u8) -> Transition
     goes(DoctypeState::BogusDoctype)
 }
 
-/// The row of a state of doctypes.
+/// The row of a doctype state.
 pub fn doctype_turn(
     state: DoctypeState,
     doctype: &mut Doctype,

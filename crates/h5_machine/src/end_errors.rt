@@ -1,4 +1,4 @@
-//! The errors of the end of the input: the rows that the standard has for "EOF" in each state.
+//! The errors at the end of the input: the rows for "EOF" of each state.
 
 ghost use Rattle.std.specs.Prelude.{◌≡◌, ◌++◌, ℕ, List, string_bytes};
 ghost use Rattle.h5_token.specs.TokenText.{DoctypeText};
@@ -101,7 +101,7 @@ fn flushed_error(return_to: ReturnTo) -> Option<ParseError>
     }
 }
 
-// An error of a character reference, and then that of its tag.
+// Returns the errors of a character reference, followed by that of its tag.
 fn referring(
     first: Option<ParseError>,
     second: Option<ParseError>,
@@ -130,7 +130,7 @@ pub fn reference_end_errors(
     let code = reference.code;
     match state {
         ReferenceState::CharacterReference => referring(None, None, return_to),
-        // Where no byte follows, NUL stands for the next one: it is neither '=' nor an alphanumeric.
+        // If no byte follows, NUL replaces the next one: it is neither '=' nor an alphanumeric.
         ReferenceState::NamedCharacterReference => {
             let seen = reference.seen.as_str();
             referring(named_error(return_to, seen, 0), None, return_to)

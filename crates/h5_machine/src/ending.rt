@@ -1,4 +1,4 @@
-//! What is left at the end of the input: the rows that the standard has for "EOF" in each state.
+//! What is left at the end of the input: the rows for "EOF" of each state.
 
 ghost use Rattle.std.specs.Prelude.{◌≡◌, ℕ, List, IfOk, OnOk, None, Some, string_bytes};
 ghost use Rattle.h5_token.specs.TokenText.{doctype_text};
@@ -46,7 +46,7 @@ fn end_tag(state: TagState, out: &mut String) -> Result<(), AllocError>
     }
 }
 
-// In a comment, which is handed on.
+// In a comment, which is emitted.
 fn end_comment(state: CommentState, comment: &mut String)
     ensures { (parts : Parts) → (out : List ℕ) → Ends (comment_state_of state (string_bytes comment.old)) out out
         (Some CurrentToken.Comment) (record parts { comment = string_bytes comment.new }) }
@@ -58,7 +58,7 @@ fn end_comment(state: CommentState, comment: &mut String)
     }
 }
 
-// In a doctype, which is handed on.
+// In a doctype, which is emitted.
 fn end_doctype(state: DoctypeState, doctype: &mut Doctype)
     ensures { (parts : Parts) → (out : List ℕ) → Ends (doctype_state_of state (doctype_text doctype.old) parts.buffer) out out
         (Some CurrentToken.Doctype) (record parts { doctype = doctype_text doctype.new }) }
@@ -71,7 +71,7 @@ fn end_doctype(state: DoctypeState, doctype: &mut Doctype)
     }
 }
 
-// In a character reference: what is flushed into a text is emitted; into a value, it is dropped with its tag.
+// In a character reference: what is flushed into a text is emitted; what is flushed into a value is dropped with its tag.
 fn end_reference(
     state: ReferenceState,
     return_to: ReturnTo,
@@ -86,7 +86,7 @@ fn end_reference(
     let code = reference.code;
     match state {
         ReferenceState::CharacterReference => flush(return_to, tag, out, "&"),
-        // Where no byte follows, NUL stands for the next one: it is neither '=' nor an alphanumeric.
+        // If no byte follows, NUL replaces the next one: it is neither '=' nor an alphanumeric.
         ReferenceState::NamedCharacterReference => {
             let _ = flush_named(return_to, seen, tag, out, 0)?;
             Ok(())
@@ -103,7 +103,8 @@ fn end_reference(
     }
 }
 
-/// What the end makes of what is under construction: a text, which is added to one, or what is to be handed on.
+/// Handles the end of the input in the current state: appends its text to `out`, and returns the token that is left to emit, if
+/// any.
 pub fn end_of(machine: &mut Machine, out: &mut String) -> Result<Option<CurrentToken>, AllocError>
     ensures ending { IfOk result (λ left. Ends (state_of machine.old.at machine.old.parts) (string_bytes out.old) (string_bytes out.new) left machine.new.parts) }
     ensures others { machine.new ≡ record machine.old { parts = machine.new.parts } }

@@ -1,20 +1,18 @@
-//! The machine that reads all of HTML: the standard's 80 states, in code (HTML standard, section 13.2.5); and the search for
-//! named character references (sections 13.2.5.73 and 13.5).
+//! The standard's 80 states of tokenization, in code (HTML standard, section 13.2.5), and the search for named character
+//! references (sections 13.2.5.73 and 13.5).
 //!
-//! `machine_state` has the states, and `transition` what a row does. `texts`, `tags`, `comments`, `doctypes` and `references` have the rows,
-//! as the pages of `h5_states` of the same names have them: a row takes one byte. `tag` has a tag under construction,
-//! `open_name` a name so far, and `codes` what numbers stand for. `machine` has a state with what is under construction in it, and
-//! `ending` what it leaves at the end. `text_errors`, `tag_errors`, `doctype_errors` and `reference_errors` have the errors of the rows
-//! (`row_errors`), `end_errors` those of the end, and `telling` tells them. `runs` has the bytes that a state only adds, which are taken at once, and `quoted` the
-//! attributes that are.
+//! `machine` has a state with what is being built in it, `machine_state` the states, and `transition` the results of rows. A
+//! row takes one byte: `texts`, `tags`, `comments`, `doctypes` and `references` have the rows as the definitions of these names
+//! in `h5_states` do. `tag` and `open_name` have what is being built, and `codes` the characters of numbers. `ending` has the
+//! end of the input; `telling`, `row_errors`, `end_errors` and the other modules of errors have parse errors. `runs` takes at
+//! once what a state only adds, and `quoted` whole attributes.
 //!
-//! `numbers` has the 2,231 names of references and their texts as bytes one behind the other, and where each begins; `write_table.py`
-//! writes it out of the definition's list. `table` has a reference by its number, `candidates` those that begin with what was seen,
-//! `common` the few names that most texts have, and `search` what the rows ask for. `proofs/NameLaws.antt` says how names
-//! are spelled.
+//! `numbers` has the 2,231 names of references with their texts; `write_table.py` writes it from the definition's list,
+//! `specs/ReferenceTable.antt` of `h5_states`. `table` has a reference by its number, `candidates` those that begin with what
+//! was seen, `common` the few most frequent names, and `search` the searches. `proofs/NameLaws.antt` has how names are spelled.
 //!
-//! It stands on `h5_states`, whose `specs/ReferenceTable.antt` is the list of names. It hands nothing on itself: `h5_standard` does. Begin with
-//! `src/machine.rt`, then read a chapter beside its definition; of the search begin with `specs/Candidates.antt` and `src/search.rt`.
+//! This crate depends on `h5_states`. It calls no token sink; `h5_standard` does. Begin with `src/machine.rt`, then compare a
+//! chapter with its definition; for the search, begin with `specs/Candidates.antt` and `src/search.rt`.
 #![tactic(auto)]
 
 mod candidates;

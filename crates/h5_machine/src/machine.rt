@@ -1,4 +1,4 @@
-//! The machine: a state, what is under construction in it, and lines.
+//! The machine: a state, what is being built in it, and lines.
 
 ghost use Rattle.std.specs.Prelude.{◌≡◌, ◌<◌, ◌≤◌, ◌-◌, ◌^◌, true, false, ◌⊎◌, IfOk, OnOk, [], ◌++◌, ℕ, List, IfSome, length, map, slice_index, string_bytes};
 ghost use Rattle.h5_token.specs.TokenText.{TagIs, tag_text, doctype_text};
@@ -45,7 +45,7 @@ use std::alloc::{AllocError, Global};
 use std::marker::Model;
 use std::mem;
 
-/// The machine of the standard's section 13.2.5.
+/// The tokenizer's state machine (HTML standard, section 13.2.5).
 pub struct Machine {
     pub(crate) at: MachineState,
     // The last start tag's name, or the empty text.
@@ -56,13 +56,13 @@ pub struct Machine {
     pub(crate) comment: String,
     pub(crate) doctype: Doctype,
     pub(crate) reference: OpenReference,
-    // The standard's temporary buffer, where it is looked at.
+    // The standard's temporary buffer, in the states that look at it.
     pub(crate) buffer: String,
-    // Whether a CARRIAGE RETURN was the last byte.
+    // True if the last byte was a CARRIAGE RETURN.
     after_return: bool,
-    // The line of what comes next.
+    // The current line.
     line: u64,
-    // The line in which what has not been handed on yet began.
+    // The line in which what isn't emitted yet began.
     began: u64,
 }
 
@@ -108,20 +108,20 @@ impl Model for Machine {
     } };
 }
 
-/// What became of the byte at hand.
+/// What happened to the current byte.
 #[derive(Clone, Copy, Debug, PartialEq, Eq)]
 pub enum Step {
-    /// It was consumed.
+    /// The byte was consumed.
     Consumed,
-    /// It is still at hand.
+    /// The byte is still current.
     Reconsumed,
-    /// It was consumed, and this is to be handed on, which began in this line.
+    /// The byte was consumed, and this token must be emitted, with the line in which it began.
     Emitted(CurrentToken, u64),
-    /// It was consumed, and the adjusted current node is to be asked for.
+    /// The byte was consumed, and the caller must check the adjusted current node.
     Asks,
 }
 
-// Whether all that was consumed has been emitted.
+// Returns true if all that was consumed has been emitted.
 fn is_all_emitted(at: MachineState) -> bool
     ensures { (parts : Parts) → result ≡ reading.is_all_emitted (state_of at parts) }
 {
@@ -142,7 +142,7 @@ fn is_all_emitted(at: MachineState) -> bool
     }
 }
 
-// Whether a NUL is handed on.
+// Returns true if a NUL is emitted as a token.
 fn hands_null(at: MachineState) -> bool
     ensures { (parts : Parts) → result ≡ hands_null (state_of at parts) }
 {
@@ -156,7 +156,7 @@ fn hands_null(at: MachineState) -> bool
     }
 }
 
-// Whether a '[' may ask for the adjusted current node.
+// Returns true if a '[' may require a check of the adjusted current node.
 fn asks_in(at: MachineState) -> bool
     ensures { (parts : Parts) → result ≡ asks_in (state_of at parts) }
 {
@@ -169,14 +169,14 @@ fn asks_in(at: MachineState) -> bool
     }
 }
 
-/// CARRIAGE RETURN is a LINE FEED.
+/// Converts CARRIAGE RETURN to LINE FEED.
 pub fn normal(b: u8) -> u8
     ensures { result ≡ normal b }
 {
     if b == b'\r' { b'\n' } else { b }
 }
 
-// Whether a start tag begins at the front.
+// Returns true if the text begins with a start tag.
 fn is_opening(rest: &str) -> bool
     ensures { result ≡ true → (0 < length rest.now) × (slice_index rest.now 0 ≡ 60) × (is_ascii_alphabetic (slice_index rest.now 1) ≡ true) }
 {
@@ -187,7 +187,7 @@ fn is_opening(rest: &str) -> bool
 }
 
 impl Machine {
-    /// A machine in this state, behind a start tag of this name, or none where it is empty. The line is 1.
+    /// Returns a machine in this state and in line 1, after a start tag with this name, or after none if the name is empty.
     pub fn new(alloc: Global, kind: TextKind, last: LastName) -> Machine
         ensures { place_of result ≡ record { state = Text kind; last = last; after_return = false; line = 1; began = 1 } }
     {
@@ -209,21 +209,21 @@ impl Machine {
         }
     }
 
-    /// The line of what comes next.
+    /// Returns the current line.
     pub fn line(&self) -> u64
         ensures { result ≡ self.now.line }
     {
         self.line
     }
 
-    /// The line in which what has not been handed on yet began.
+    /// Returns the line in which what isn't emitted yet began.
     pub fn began(&self) -> u64
         ensures { result ≡ self.now.began }
     {
         self.began
     }
 
-    // The row of the state, at a byte that was made normal.
+    // The row of the state, at a normalized byte.
     fn turn(&mut self, b: u8, out: &mut String) -> Result<Transition, AllocError>
         requires { takes_wide self.old.at ≡ true → b < 128 }
         ensures row { IfOk result (λ transition. Does transition (string_bytes out.old) (string_bytes out.new) self.new.parts
@@ -258,7 +258,7 @@ impl Machine {
         }
     }
 
-    // Goes to a state. What is emitted next begins in the line of what comes next, where all was emitted.
+    // Switches to a state. If all was emitted, what is emitted next begins in the current line.
     fn go(&mut self, at: MachineState)
         ensures place { place_of self.new ≡ reading.in_state (state_of at self.old.parts) (place_of self.old) }
         ensures at { self.new.at ≡ at }
@@ -270,7 +270,7 @@ impl Machine {
         }
     }
 
-    // Goes behind a byte that was consumed.
+    // Moves after a consumed byte, to this state.
     fn go_behind(&mut self, b: u8, at: MachineState)
         ensures place { place_of self.new ≡ reading.behind b (state_of at self.old.parts) (place_of self.old) }
         ensures at { self.new.at ≡ at }
@@ -283,7 +283,8 @@ impl Machine {
         self.go(at);
     }
 
-    /// Whether a token may be handed on at this byte, or a question asked. Then what was emitted before is to be handed on.
+    /// Returns true if this byte may emit a token or require a check of the adjusted current node. What was emitted before must
+    /// be passed to the sink first.
     pub fn may_hand(&self, b: u8) -> bool
         ensures { result ≡ false → reading.is_dropped (place_of self.now) b ≡ false → IsQuiet (reading.outcome references (place_of self.now) b) }
     {
@@ -302,21 +303,22 @@ impl Machine {
         }
     }
 
-    /// Whether it is a LINE FEED behind a CARRIAGE RETURN, which was a newline already.
+    /// Returns true if the byte is a LINE FEED after a CARRIAGE RETURN, which already was a newline.
     pub fn is_dropped(&self, b: u8) -> bool
         ensures { result ≡ reading.is_dropped (place_of self.now) b }
     {
         self.after_return && b == b'\n'
     }
 
-    /// Whether the state takes bytes that are no ASCII as they are. Such bytes are taken as a run.
+    /// Returns true if the state takes bytes other than ASCII as they are. Such bytes are taken as a run.
     pub fn takes_wide(&self) -> bool
         ensures { result ≡ takes_wide self.now.at }
     {
         takes_wide(self.at)
     }
 
-    /// Takes the byte at hand. What it emits is added to a text.
+    /// Takes the current byte, and appends the text that it emits to `out`. If `takes_wide` returns true, the byte must be
+    /// ASCII.
     pub fn take(&mut self, b: u8, out: &mut String) -> Result<Step, AllocError>
         requires { takes_wide self.old.at ≡ true → b < 128 }
         ensures { IfOk result (λ taken. Takes self.old b (string_bytes out.old) (string_bytes out.new) self.new taken) }
@@ -353,21 +355,21 @@ impl Machine {
         self.go(text(TextKind::CdataSection));
     }
 
-    /// Reads such a text from now on.
+    /// Switches to the state of such a text.
     pub fn read_text(&mut self, kind: TextKind)
         ensures { place_of self.new ≡ record (place_of self.old) { state = Text kind } }
     {
         self.at = text(kind);
     }
 
-    /// The last start tag had this name.
+    /// Sets the name of the last start tag.
     pub fn set_last(&mut self, name: LocalName)
         ensures { self.new ≡ record self.old { last = name } }
     {
         self.last = LastName::read(name);
     }
 
-    /// The tag that is complete.
+    /// Returns the complete tag, and takes it out of the machine.
     pub fn take_tag(&mut self) -> Result<Tag, AllocError>
         ensures tag { IfOk result (λ tag. TagIs (tag_text tag) ≡ token_of self.old.parts.tag) }
         ensures others { self.new ≡ record self.old { parts = record self.old.parts { tag = self.new.parts.tag } } }
@@ -375,7 +377,7 @@ impl Machine {
         self.tag.take()
     }
 
-    /// The comment that is complete.
+    /// Returns the complete comment, and takes it out of the machine.
     pub fn take_comment(&mut self) -> String
         ensures comment { string_bytes result ≡ self.old.parts.comment }
         ensures others { self.new ≡ record self.old { parts = record self.old.parts { comment = [] } } }
@@ -384,7 +386,7 @@ impl Machine {
         mem::replace(&mut self.comment, String::new(alloc))
     }
 
-    /// The doctype that is complete.
+    /// Returns the complete doctype, and takes it out of the machine.
     pub fn take_doctype(&mut self) -> Doctype
         ensures doctype { doctype_text result ≡ self.old.parts.doctype }
         ensures others { self.new ≡ record self.old { parts = record self.old.parts { doctype = self.new.parts.doctype } } }
@@ -392,7 +394,7 @@ impl Machine {
         mem::replace(&mut self.doctype, nameless())
     }
 
-    // Adds a run to a text or to what is under construction.
+    // Appends a run to a text or to what is being built.
     fn add_run(&mut self, front: &str, out: &mut String) -> Result<(), AllocError>
         requires { are_in (run_of self.old.at) front.now ≡ true }
         ensures parts { OnOk result (self.new ≡ record self.old { parts = parts_behind self.old.at front.now self.old.parts }) }
@@ -415,7 +417,7 @@ impl Machine {
         }
     }
 
-    // Goes behind a run that has so many newlines.
+    // Moves after a run with the given number of newlines.
     fn pass_run(&mut self, lines: u64)
         ensures place { place_of self.new ≡ place_behind_run (place_of self.old) (state_of (at_behind self.old.at) self.old.parts) lines }
         ensures at { self.new.at ≡ at_behind self.old.at }
@@ -426,7 +428,7 @@ impl Machine {
         self.go(at_behind(self.at));
     }
 
-    // Whether a LINE FEED is dropped next, which stands behind a CARRIAGE RETURN.
+    // Returns true if the next byte is a LINE FEED that is dropped, since it follows a CARRIAGE RETURN.
     fn drops_next(&self, rest: &str) -> bool
         ensures { result ≡ reading.is_dropped (place_of self.now) (slice_index rest.now 0) }
     {
@@ -436,7 +438,7 @@ impl Machine {
         }
     }
 
-    // Takes the bytes with which the name of a reference goes on, and gives what follows them.
+    // Takes the bytes that continue the name of a reference, and returns what follows them.
     fn take_name<'a>(&mut self, rest: &'a str) -> Result<&'a str, AllocError>
         requires named { (return_to : ReturnTo) × (self.old.at ≡ MachineState.Reference ReferenceState.NamedCharacterReference return_to) }
         requires kept { reading.is_dropped (place_of self.old) (slice_index rest.now 0) ≡ false }
@@ -453,7 +455,7 @@ impl Machine {
         Ok(behind)
     }
 
-    // Takes the run at the front, and gives what follows it. What it emits is added to a text.
+    // Takes the run at the start, and returns what follows it. Appends the text that it emits to `out`.
     fn take_bytes<'a>(&mut self, rest: &'a str, out: &mut String) -> Result<&'a str, AllocError>
         ensures passes { IfOk result (λ after. PassesRun self.old rest.now (string_bytes out.old) (string_bytes out.new) self.new after.now) }
         ensures narrow { IfOk result (λ after. takes_wide self.new.at ≡ true → 0 < length after.now → slice_index after.now 0 < 128) }
@@ -474,7 +476,7 @@ impl Machine {
         Ok(behind)
     }
 
-    // Takes the attribute at the front, where it is written with quotes, and gives what follows it.
+    // Takes the attribute at the start if it is quoted, and returns what follows it.
     fn take_quoted<'a>(&mut self, rest: &'a str) -> Result<&'a str, AllocError>
         requires { self.old.at ≡ MachineState.Tag TagState.BeforeAttributeName }
         ensures passes { IfOk result (λ after. (out : List ℕ) → PassesRun self.old rest.now out out self.new after.now) }
@@ -491,8 +493,8 @@ impl Machine {
         Ok(found.rest)
     }
 
-    /// Takes the run at the front, and an attribute behind it that is written with quotes, and gives what follows. What they
-    /// emit is added to a text.
+    /// Takes the run at the start, and a quoted attribute after it, and returns what follows. Appends the text that they emit
+    /// to `out`.
     pub fn take_run<'a>(&mut self, rest: &'a str, out: &mut String) -> Result<&'a str, AllocError>
         ensures passes { IfOk result (λ after. PassesRun self.old rest.now (string_bytes out.old) (string_bytes out.new) self.new after.now) }
         ensures narrow { IfOk result (λ after. takes_wide self.new.at ≡ true → 0 < length after.now → slice_index after.now 0 < 128) }
@@ -504,7 +506,7 @@ impl Machine {
         }
     }
 
-    // Whether the state is that of data.
+    // Returns true only in the data state.
     fn is_in_data(&self) -> bool
         ensures { result ≡ true → self.now.at ≡ MachineState.Text (TextState.Text TextKind.Data) }
     {
@@ -514,7 +516,7 @@ impl Machine {
         }
     }
 
-    /// Whether a tag that is nothing but its name may stand at the front. Such a tag is passed at once.
+    /// Returns true if the text may begin with a tag that has only a name, in the data state. Such a tag is taken at once.
     #[inline(always)]
     pub fn may_be_bare(&self, rest: &str) -> bool
         ensures { result ≡ true → self.now.at ≡ MachineState.Text (TextState.Text TextKind.Data) }
@@ -526,7 +528,7 @@ impl Machine {
         }
     }
 
-    /// The kind and the name of the tag at the front, and what follows it, where that is passed at once.
+    /// Returns the kind and the name of the tag at the start, and what follows it, if it can be taken at once.
     #[inline(always)]
     pub fn find_bare<'a>(&self, rest: &'a str) -> Option<(TagKind, &'a str, &'a str)>
         ensures { IfSome result (λ tag. (self.now.at ≡ MachineState.Text (TextState.Text TextKind.Data)) × IsBareTag rest.now tag.0 tag.1.now tag.2.now) }
@@ -537,8 +539,8 @@ impl Machine {
         find_bare(rest)
     }
 
-    /// The text that the character reference at the front stands for, and what follows it, where the state is that of data,
-    /// the reference one of the five commonest, and something follows it. Such a reference is passed at once.
+    /// Returns the text of the character reference at the start, and what follows it, if the state is the data state, the
+    /// reference is one of the five most frequent ones, and something follows it. Such a reference is taken at once.
     #[inline(always)]
     pub fn find_common<'a>(&self, rest: &'a str) -> Option<(&'static str, &'a str)>
         ensures { IfSome result (λ found. (self.now.at ≡ MachineState.Text (TextState.Text TextKind.Data)) × IsCommon rest.now found.0.now found.1.now) }
@@ -554,7 +556,7 @@ impl Machine {
         }
     }
 
-    /// Passes such a reference. What it stands for is added to a text.
+    /// Takes such a reference, and appends its text to `out`.
     pub fn pass_common(&mut self, text: &str, out: &mut String) -> Result<(), AllocError>
         ensures out { OnOk result (string_bytes out.new ≡ string_bytes out.old ++ text.now) }
         ensures others { OnOk result (self.new ≡ record self.old { after_return = false; began = self.old.line }) }
@@ -565,8 +567,8 @@ impl Machine {
         Ok(())
     }
 
-    /// The name of the start tag at the front, and what follows it, where the state is that of data. Such a name is passed at
-    /// once, with the `<` before it.
+    /// Returns the name of the start tag at the start, and what follows it, in the data state. Such a name is taken at once,
+    /// with the `<` before it.
     pub fn find_opening<'a>(&self, rest: &'a str) -> Option<(&'a str, &'a str)>
         ensures { IfSome result (λ found. (self.now.at ≡ MachineState.Text (TextState.Text TextKind.Data)) × IsOpening rest.now found.0.now found.1.now) }
     {
@@ -581,7 +583,7 @@ impl Machine {
         Some(inside.split_at(n))
     }
 
-    /// Passes the `<` and this name.
+    /// Takes the `<` and this name.
     pub fn pass_opening(&mut self, name: &str) -> Result<(), AllocError>
         requires { are_in Run.Name name.now ≡ true }
         ensures others { OnOk result (self.new ≡ record self.old {
@@ -591,7 +593,7 @@ impl Machine {
         }) }
         ensures fits { self.old.line ≤ 2 ^ 64 - 1 }
     {
-        // That the line fits holds for the contract.
+        // For the contract: the line is small enough.
         let _line = self.line();
         self.tag.begin(TagKind::StartTag);
         self.tag.push_name_run(&mut self.names, name)?;
@@ -600,7 +602,7 @@ impl Machine {
         Ok(())
     }
 
-    /// Passes such a tag, which is given.
+    /// Takes such a tag, and returns it.
     pub fn pass_bare(&mut self, kind: TagKind, name: &str) -> Result<Tag, AllocError>
         ensures tag { IfOk result (λ tag. TagIs (tag_text tag) ≡ bare_tag kind name.now) }
         ensures others { self.new ≡ record self.old { after_return = false; began = self.old.line } }

@@ -1,4 +1,4 @@
-//! The states of tokenization, without what is under construction in them (HTML standard, section 13.2.5).
+//! The states of tokenization, without what is being built in them (HTML standard, section 13.2.5).
 
 ghost use Rattle.std.specs.Prelude.{◌≡◌};
 ghost use Rattle.h5_states.specs.States.{Text, text_of, returned};
@@ -56,7 +56,7 @@ pub enum TagState {
     SelfClosingStartTag,
 }
 
-/// The states of comments and of what is taken for one: 41 to 52.
+/// The states of comments and bogus comments: 41 to 52.
 #[derive(Clone, Copy, Debug, PartialEq, Eq)]
 pub enum CommentState {
     BogusComment,
@@ -113,7 +113,7 @@ pub enum MachineState {
     Reference(ReferenceState, ReturnTo),
 }
 
-/// The state that reads such a text.
+/// Returns the state of such a text.
 pub fn text(kind: TextKind) -> MachineState
     ensures { result ≡ MachineState.Text (TextState.Text kind) }
 {
@@ -123,7 +123,7 @@ pub fn text(kind: TextKind) -> MachineState
 /// The data state.
 pub const DATA: MachineState = MachineState::Text(TextState::Text(TextKind::Data));
 
-/// The text that is read where no end tag ends it.
+/// Returns the state of the text that is read if no end tag ends it.
 pub fn text_of(kind: RawTextKind) -> MachineState
     ensures { (parts : Parts) → state_of result parts ≡ text_of kind }
 {
@@ -137,7 +137,7 @@ pub fn text_of(kind: RawTextKind) -> MachineState
     }
 }
 
-/// The state that a character reference returns to.
+/// Returns the return state of a character reference.
 pub fn returned(return_to: ReturnTo) -> MachineState
     ensures { (parts : Parts) → state_of result parts ≡ returned (return_of return_to parts.tag) }
 {

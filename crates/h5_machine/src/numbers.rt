@@ -1,7 +1,7 @@
-//! The table of named character references (HTML standard, section 13.5), without an address in it. `write_table.py`
+//! The table of named character references (HTML standard, section 13.5), with offsets in place of pointers. `write_table.py`
 //! writes this file.
 
-/// The names without their `&`, one behind the other.
+/// The names without their `&`, concatenated.
 pub static NAMES: [u8; 16641] = *b"\
     AEligAElig;AMPAMP;AacuteAacute;Abreve;AcircAcirc;Acy;Afr;AgraveAgrave;Alpha;Amacr;And;Aogon;\
     Aopf;ApplyFunction;AringAring;Ascr;Assign;AtildeAtilde;AumlAuml;Backslash;Barv;Barwed;Bcy;\
@@ -189,7 +189,7 @@ pub static NAMES: [u8; 16641] = *b"\
     yen;yfr;yicy;yopf;yscr;yucy;yumlyuml;zacute;zcaron;zcy;zdot;zeetrf;zeta;zfr;zhcy;zigrarr;zopf;\
     zscr;zwj;zwnj;";
 
-/// Where each name begins, and where the last one ends.
+/// The start of each name, and the end of the last one.
 pub static NAME_BEGINS: [u16; 2232] = [
     0, 5, 11, 14, 18, 24, 31, 38, 43, 49, 53, 57, 63, 70, 76, 82, 86, 92, 97, 111, 116, 122, 127,
     134, 140, 147, 151, 156, 166, 171, 178, 182, 190, 201, 206, 210, 215, 221, 226, 233, 238, 242,
@@ -346,7 +346,7 @@ pub static NAME_BEGINS: [u16; 2232] = [
     16622, 16627, 16632, 16636, 16641,
 ];
 
-/// The texts that the names stand for, one behind the other.
+/// The texts of the names, concatenated.
 pub static TEXTS: &str = "\
     \u{c6}\u{c6}&&\u{c1}\u{c1}\u{102}\u{c2}\u{c2}\u{410}\u{1d504}\u{c0}\u{c0}\u{391}\u{100}\u{2a53}\
     \u{104}\u{1d538}\u{2061}\u{c5}\u{c5}\u{1d49c}\u{2254}\u{c3}\u{c3}\u{c4}\u{c4}\u{2216}\u{2ae7}\
@@ -542,7 +542,7 @@ pub static TEXTS: &str = "\
     \u{44b}\u{a5}\u{a5}\u{1d536}\u{457}\u{1d56a}\u{1d4ce}\u{44e}\u{ff}\u{ff}\u{17a}\u{17e}\u{437}\
     \u{17c}\u{2128}\u{3b6}\u{1d537}\u{436}\u{21dd}\u{1d56b}\u{1d4cf}\u{200d}\u{200c}";
 
-/// Where each text begins, and where the last one ends.
+/// The start of each text, and the end of the last one.
 pub static TEXT_BEGINS: [u16; 2232] = [
     0, 2, 4, 5, 6, 8, 10, 12, 14, 16, 18, 22, 24, 26, 28, 30, 33, 35, 39, 42, 44, 46, 50, 53, 55,
     57, 59, 61, 64, 67, 70, 72, 75, 78, 80, 84, 88, 90, 93, 96, 98, 100, 102, 104, 107, 110, 113,

@@ -1,4 +1,4 @@
-//! A name under construction.
+//! A name that is being built.
 
 ghost use Rattle.std.specs.Prelude.{◌≡◌, ◌<◌, true, [], ◌∷◌, ◌++◌, None, OnOk, IfOk, map, string_bytes};
 ghost use Rattle.std.specs.Char.{to_ascii_lowercase};
@@ -14,12 +14,13 @@ use h5_names::{Attribute, LocalName};
 use std::alloc::{AllocError, Global};
 use std::marker::Model;
 
-/// A name so far, letters in lower case. One that comes at once is made at once: it takes no memory where HTML knows it.
+/// A name so far, with letters in lower case. A name that comes as one run is made at once: that allocates nothing if HTML
+/// knows it.
 #[derive(Drop)]
 pub struct OpenName {
-    // The name, where it came at once.
+    // The name, if it came as one run.
     made: Option<LocalName>,
-    // What came of it, where it didn't.
+    // The bytes of the name, if it didn't.
     text: String,
 }
 
@@ -32,7 +33,7 @@ impl Model for OpenName {
     ghost view = { λ n. name_so_far n.made (string_bytes n.text) };
 }
 
-// A name that was made is written down, so that it may go on.
+// Copies a name that was made to the text, so that it can continue.
 fn write_down(made: &mut Option<LocalName>, text: &mut String) -> Result<(), AllocError>
     ensures made { OnOk result (made.new ≡ None) }
     ensures text { OnOk result (string_bytes text.new ≡ name_so_far made.old (string_bytes text.old)) }
@@ -45,7 +46,7 @@ fn write_down(made: &mut Option<LocalName>, text: &mut String) -> Result<(), All
 }
 
 impl OpenName {
-    /// No name yet. It takes no memory.
+    /// Returns an empty name. Allocates nothing.
     pub fn new(alloc: Global) -> OpenName
         ensures { result ≡ [] }
     {
@@ -55,7 +56,7 @@ impl OpenName {
         }
     }
 
-    /// A new name, of which nothing came.
+    /// Begins a new name.
     pub fn clear(&mut self)
         ensures { self.new ≡ [] }
     {
@@ -63,7 +64,7 @@ impl OpenName {
         self.text.clear();
     }
 
-    // The name so far.
+    // Returns the name so far.
     fn as_str(&self) -> &str
         ensures { result.now ≡ self.now }
     {
@@ -73,7 +74,7 @@ impl OpenName {
         }
     }
 
-    /// Whether one of these attributes has this name.
+    /// Returns true if one of these attributes has this name.
     pub fn is_in(&self, attributes: &[Attribute]) -> bool
         ensures { result ≡ is_named_in self.now (attribute_texts attributes.now) }
     {
@@ -86,14 +87,14 @@ impl OpenName {
         false
     }
 
-    // Whether nothing came of it.
+    // Returns true only if the name is empty.
     fn is_empty(&self) -> bool
         ensures { result ≡ true → self.now ≡ [] }
     {
         self.made.is_none() && self.text.is_empty()
     }
 
-    /// It goes on so, letters in lower case.
+    /// Appends to the name, with letters in lower case.
     pub fn push(&mut self, more: &str) -> Result<(), AllocError>
         ensures { OnOk result (self.new ≡ self.old ++ map to_ascii_lowercase more.now) }
     {
@@ -101,7 +102,7 @@ impl OpenName {
         push_lowered(&mut self.text, more)
     }
 
-    /// It goes on by an ASCII byte, a letter in lower case.
+    /// Appends an ASCII byte, a letter in lower case.
     pub fn push_byte(&mut self, b: u8) -> Result<(), AllocError>
         requires { b < 128 }
         ensures { OnOk result (self.new ≡ self.old ++ to_ascii_lowercase b ∷ []) }
@@ -110,7 +111,7 @@ impl OpenName {
         push_byte(&mut self.text, b.to_ascii_lowercase())
     }
 
-    /// It goes on by a run of bytes that end no name, letters in lower case.
+    /// Appends a run of bytes none of which ends a name, with letters in lower case.
     pub fn push_run(&mut self, names: &mut SharedNames, run: &str) -> Result<(), AllocError>
         requires { are_in Run.Name run.now ≡ true }
         ensures { OnOk result (self.new ≡ self.old ++ map to_ascii_lowercase run.now) }
@@ -123,7 +124,7 @@ impl OpenName {
         Ok(())
     }
 
-    /// The name, which is complete.
+    /// Returns the complete name.
     pub fn take(&mut self) -> Result<LocalName, AllocError>
         ensures { IfOk result (λ name. name ≡ self.old) }
     {

@@ -1,4 +1,4 @@
-//! Attributes that are written `name="value"` or `name='value'`, without references. Most are.
+//! Attributes written `name="value"` or `name='value'`, without references. Most are.
 
 ghost use Rattle.std.specs.Prelude.{◌≡◌, ◌∷◌, IfSome};
 ghost use Rattle.h5_states.specs.Signs.{equals_sign, sign_of};
@@ -7,7 +7,7 @@ ghost use Rattle.h5_machine.specs.Quoted.{IsQuoted};
 use super::runs::{Run, count_run};
 use h5_states::Quote;
 
-/// An attribute that is written so, the newlines of its value, and what follows it.
+/// A quoted attribute, the newlines of its value, and what follows it.
 #[derive(Drop)]
 pub struct QuotedAttribute<'a> {
     pub name: &'a str,
@@ -16,7 +16,7 @@ pub struct QuotedAttribute<'a> {
     pub rest: &'a str,
 }
 
-// The quote of the value behind a `=`, and what follows it.
+// Returns the quote of the value after a `=`, and what follows it.
 fn open_value<'a>(text: &'a str) -> Option<(Quote, &'a str)>
     ensures { IfSome result (λ opened. text.now ≡ equals_sign ∷ (sign_of opened.0 ∷ opened.1.now)) }
 {
@@ -27,7 +27,7 @@ fn open_value<'a>(text: &'a str) -> Option<(Quote, &'a str)>
     }
 }
 
-// What follows the quote that ends a value.
+// Returns what follows the quote that ends a value.
 fn close_value<'a>(quote: Quote, text: &'a str) -> Option<&'a str>
     ensures { IfSome result (λ rest. text.now ≡ sign_of quote ∷ rest.now) }
 {
@@ -38,7 +38,7 @@ fn close_value<'a>(quote: Quote, text: &'a str) -> Option<&'a str>
     }
 }
 
-/// The attribute at the front, if it is written so and its closing quote is there.
+/// Returns the attribute at the start, if it is quoted, has no references, and its closing quote is there.
 pub fn find_quoted<'a>(text: &'a str) -> Option<QuotedAttribute<'a>>
     ensures { IfSome result (λ found. IsQuoted text.now found.name.now found.value.now found.lines found.rest.now) }
 {

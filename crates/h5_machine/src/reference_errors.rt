@@ -22,7 +22,7 @@ use super::signs::is_hex_digit;
 use crate::{Named, further_len, longest};
 use h5_states::ParseError;
 
-// Whether a name of the table begins with what was seen and this byte.
+// Returns true if a name of the table begins with what was seen and this byte.
 fn begins_further(seen: &str, b: u8) -> bool
     ensures { result ≡ r.is_beginning references (seen.now ++ b ∷ []) }
 {
@@ -32,7 +32,7 @@ fn begins_further(seen: &str, b: u8) -> bool
     true
 }
 
-// The error of a name that was found in what was seen. The byte is the one at hand.
+// Returns the error of a name that was found in what was seen. The byte is the current one.
 fn found_error(return_to: ReturnTo, seen: &str, found: &Named, b: u8) -> Option<ParseError>
     requires { IsAscii (take found.now.len seen.now) }
     ensures { (tag : Tag) → if_any result ≡ (r.named (return_of return_to tag) seen.now b (found_in seen.now (Some found.now))).errors }
@@ -47,7 +47,7 @@ fn found_error(return_to: ReturnTo, seen: &str, found: &Named, b: u8) -> Option<
     )
 }
 
-/// The error of what was seen, where it doesn't go on. The byte is the one at hand.
+/// Returns the error of what was seen if no name goes on with the byte, which is the current one.
 pub fn named_error(return_to: ReturnTo, seen: &str, b: u8) -> Option<ParseError>
     ensures { (tag : Tag) → if_any result ≡ (r.named (return_of return_to tag) seen.now b (longest references seen.now)).errors }
 {
@@ -67,7 +67,7 @@ fn named_reference_error(return_to: ReturnTo, seen: &str, b: u8) -> Option<Parse
     named_error(return_to, seen, b)
 }
 
-// Behind the digits of a number.
+// After the digits of a number.
 fn digits_error(code: u32, b: u8) -> Option<ParseError>
     ensures { (return : Return) → if_any result ≡ (behind_digits return code b).errors }
 {
@@ -97,7 +97,7 @@ fn decimal_error(code: u32, b: u8) -> Option<ParseError>
     digits_error(code, b)
 }
 
-// How much was seen behind the name that was found, if one was.
+// Returns how much was seen after the name that was found, if any.
 fn behind_found(seen: &str) -> usize
     ensures { result ≡ behind_found (longest references seen.now) }
 {
@@ -110,7 +110,7 @@ fn behind_found(seen: &str) -> usize
     }
 }
 
-/// How much of what was seen in a state of references the standard hasn't consumed.
+/// Returns how much of what was seen in a state of character references the standard hasn't consumed.
 pub fn seen_behind_name(state: ReferenceState, reference: &OpenReference) -> usize
     ensures { (return : Return) → result ≡ seen_ahead references (reference_state_of state return (string_bytes reference.now.seen) reference.now.code) }
 {

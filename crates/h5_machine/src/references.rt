@@ -22,7 +22,7 @@ use std::alloc::AllocError;
 /// A character reference so far.
 #[derive(Drop)]
 pub struct OpenReference {
-    /// What was seen of a name, or the sign behind which a hexadecimal number comes.
+    /// What was seen of a name, or the sign before a hexadecimal number.
     pub seen: String,
     pub code: u32,
 }
@@ -55,7 +55,7 @@ pub fn flush(
     }
 }
 
-/// The same of a character.
+/// Flushes a character consumed as a character reference.
 pub fn flush_char(
     return_to: ReturnTo,
     tag: &mut OpenTag,
@@ -102,7 +102,7 @@ fn character_reference(
     Ok(Transition::Reconsumed(returned(return_to)))
 }
 
-// The first byte of what follows, or the byte at hand.
+// Returns the first byte of what follows, or else the current byte.
 fn next_of(rest: &str, b: u8) -> u8
     ensures { result ≡ r.first_of rest.now b }
 {
@@ -112,7 +112,7 @@ fn next_of(rest: &str, b: u8) -> u8
     }
 }
 
-/// Whether a name ends in a semicolon.
+/// Returns true if a name ends in a semicolon.
 #[tactic(auto, using(crate::proofs::FlushLaws::ends_in_last))]
 pub fn is_closed(name: &str) -> bool
     ensures { result ≡ r.ends_in 59 name.now }
@@ -121,7 +121,7 @@ pub fn is_closed(name: &str) -> bool
     0 < bytes.len() && bytes[bytes.len() - 1] == b';'
 }
 
-/// The name that was found, and what was seen behind it.
+/// Splits what was seen after the name that was found.
 pub fn split_found<'a>(seen: &'a str, found: &Named) -> (&'a str, &'a str)
     requires { IsAscii (take found.now.len seen.now) }
     ensures name { result.0.now ≡ take found.now.len seen.now }
@@ -130,7 +130,7 @@ pub fn split_found<'a>(seen: &'a str, found: &Named) -> (&'a str, &'a str)
     seen.split_at(found.len.min(seen.len()))
 }
 
-/// For historical reasons, a name without a semicolon is text in an attribute where '=' or an alphanumeric follows.
+/// For historical reasons, a name without a semicolon in an attribute is text if '=' or an alphanumeric follows.
 pub fn is_historical(return_to: ReturnTo, name: &str, rest: &str, b: u8) -> bool
     ensures { (tag : Tag) (text : List ℕ) →
         result ≡ r.is_historical (return_of return_to tag) (record { name = name.now; text = text; rest = rest.now }) b }
@@ -153,7 +153,7 @@ fn flush_both(
     flush(return_to, tag, out, more)
 }
 
-// Flushes what was seen, as it is or for the name that it begins with. The byte is the one at hand.
+// Flushes what was seen, unchanged or with its name replaced. The byte is the current one.
 fn flush_found(
     return_to: ReturnTo,
     seen: &str,
@@ -173,8 +173,8 @@ fn flush_found(
     flush_both(return_to, tag, out, found.text, rest)
 }
 
-/// Flushes what was seen, as it is or for the name that it begins with. The byte is the one at hand. Whether there was such
-/// a name.
+/// Flushes what was seen, unchanged or with the name that it begins with replaced. The byte is the current one. Returns true if
+/// there was such a name.
 pub fn flush_named(
     return_to: ReturnTo,
     seen: &str,
@@ -198,7 +198,7 @@ pub fn flush_named(
     }
 }
 
-// Whether a name of the table begins with what was seen and this byte. Then that was seen, too.
+// Returns true if a name of the table begins with what was seen and this byte, and then appends the byte to what was seen.
 fn goes_on(seen: &mut String, b: u8) -> Result<bool, AllocError>
     ensures { IfOk result (λ further. (further ≡ r.is_beginning references (string_bytes seen.old ++ b ∷ []))
         × (string_bytes seen.new ≡ (if further then string_bytes seen.old ++ b ∷ [] else string_bytes seen.old))) }
@@ -266,7 +266,7 @@ fn numeric_character_reference(
     Ok(again(ReferenceState::DecimalStart, return_to))
 }
 
-/// Flushes `&#` and the sign behind it, which no digit follows.
+/// Flushes `&#` and the sign after it, if no digit follows.
 pub fn flush_digitless(
     return_to: ReturnTo,
     seen: &str,
@@ -314,7 +314,7 @@ fn decimal_start(
     Ok(Transition::Reconsumed(returned(return_to)))
 }
 
-// A number ends here, in a ';' or without one.
+// A number ends here, with or without a ';'.
 fn behind_digits(
     return_to: ReturnTo,
     code: u32,
@@ -378,7 +378,7 @@ fn numeric_character_reference_end(
     Ok(Transition::Reconsumed(returned(return_to)))
 }
 
-/// The row of a state of character references. What it emits is added to a text.
+/// The row of a state of character references. Appends the text that it emits to `out`.
 pub fn reference_turn(
     state: ReferenceState,
     return_to: ReturnTo,

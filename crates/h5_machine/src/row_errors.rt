@@ -8,7 +8,7 @@ ghost use Rattle.h5_machine.specs.RowErrors.{all_of};
 
 use h5_states::{ErrorSink, ParseError, Position};
 
-/// The errors of a row, in their order. There are three at most: a '>' behind `</a b/ c=` has three.
+/// The errors of a row, in order. There are at most three: a '>' after `</a b/ c=` has three.
 #[derive(Clone, Copy, Debug, PartialEq, Eq)]
 pub struct RowErrors {
     pub first: Option<ParseError>,
@@ -16,14 +16,14 @@ pub struct RowErrors {
     pub third: Option<ParseError>,
 }
 
-/// An error, where this holds.
+/// Returns an error if this is true.
 pub fn only_if(holds: bool, error: ParseError) -> Option<ParseError>
     ensures { if_any result ≡ (if holds then error ∷ [] else []) }
 {
     if holds { Some(error) } else { None }
 }
 
-/// An error, where both of these hold.
+/// Returns an error if both are true.
 pub fn only_both(first: bool, second: bool, error: ParseError) -> Option<ParseError>
     ensures { if_any result ≡ (if first && second then error ∷ [] else []) }
 {
@@ -37,14 +37,14 @@ pub const NO_ERRORS: RowErrors = RowErrors {
     third: None,
 };
 
-/// The error of a NUL, which is replaced.
+/// Returns the error of a NUL that is replaced.
 pub fn null_error(b: u8) -> Option<ParseError>
     ensures { if_any result ≡ (if b == null then ParseError.UnexpectedNullCharacter ∷ [] else []) }
 {
     only_if(b == 0, ParseError::UnexpectedNullCharacter)
 }
 
-// Where an error stands, so much behind the place where the standard tells such an error.
+// Returns the position of an error, which is earlier by `ahead` characters if the standard reports it while it looks ahead.
 fn error_position(ahead: u64, at: Position, error: ParseError) -> Position
     ensures { result ≡ error_position ahead at error }
 {
@@ -55,7 +55,7 @@ fn error_position(ahead: u64, at: Position, error: ParseError) -> Position
     }
 }
 
-// Tells an error of a row, if there is one.
+// Reports an error of a row, if there is one.
 fn tell_one<E: ErrorSink>(error: Option<ParseError>, ahead: u64, at: Position, errors: &mut E)
     ensures { Tells E.Told errors.old errors.new (told_of_row ahead at (if_any error)) }
 {
@@ -66,7 +66,7 @@ fn tell_one<E: ErrorSink>(error: Option<ParseError>, ahead: u64, at: Position, e
 }
 
 impl RowErrors {
-    /// One error at most.
+    /// Returns at most one error.
     pub fn one(error: Option<ParseError>) -> RowErrors
         ensures { all_of result ≡ if_any error }
     {
@@ -77,7 +77,8 @@ impl RowErrors {
         }
     }
 
-    /// Tells them, in their order, as standing here, or so much before where the standard looks ahead.
+    /// Reports the errors in order, at the position, or `ahead` characters earlier if the standard reports them while it looks
+    /// ahead.
     pub fn tell<E: ErrorSink>(&self, ahead: u64, at: Position, errors: &mut E)
         ensures { Tells E.Told errors.old errors.new (told_of_row ahead at (all_of self.now)) }
     {

@@ -1,4 +1,4 @@
-//! Runs: bytes that a state only adds to a text or to what is under construction, taken at once.
+//! Runs: bytes that a state only appends to a text or to what is being built, taken at once.
 
 ghost use Rattle.std.specs.Prelude.{◌≡◌, ◌<◌, ◌≤◌, true, false, [], ◌++◌, map, OnOk, length, take, slice_index, string_bytes};
 ghost use Rattle.std.specs.Char.{to_ascii_lowercase};
@@ -20,42 +20,42 @@ use h5_states::{Quote, TextKind};
 use h5_token::Doctype;
 use std::alloc::AllocError;
 
-/// Which bytes are a run. All that end one are ASCII.
+/// The bytes of a run. All bytes that end a run are ASCII.
 #[derive(Clone, Copy, Debug, PartialEq, Eq)]
 pub enum Run {
-    /// None.
+    /// No bytes.
     Nothing,
-    /// All but `<`, `&`, NUL and CR.
+    /// All except `<`, `&`, NUL and CR.
     References,
-    /// All but `<`, NUL and CR.
+    /// All except `<`, NUL and CR.
     Tags,
-    /// All but NUL and CR.
+    /// All except NUL and CR.
     Plain,
-    /// All but `]`, NUL and CR.
+    /// All except `]`, NUL and CR.
     Brackets,
-    /// All but `-`, `<`, NUL and CR.
+    /// All except `-`, `<`, NUL and CR.
     Dashes,
-    /// Bytes that are no ASCII.
+    /// Bytes other than ASCII.
     Wide,
     /// ASCII letters.
     Letters,
     /// ASCII letters and digits.
     Alphanumerics,
-    /// Blanks but CR.
+    /// ASCII whitespace except CR.
     Blanks,
-    /// All but blanks, `/`, `>` and NUL.
+    /// All except ASCII whitespace, `/`, `>` and NUL.
     Name,
-    /// All but blanks, `/`, `>`, `=` and NUL.
+    /// All except ASCII whitespace, `/`, `>`, `=` and NUL.
     AttributeName,
-    /// All but the quote, `&`, NUL and CR.
+    /// All except the quote, `&`, NUL and CR.
     Quoted(Quote),
-    /// All but blanks, `&`, `>` and NUL.
+    /// All except ASCII whitespace, `&`, `>` and NUL.
     Unquoted,
-    /// All but `>`, NUL and CR.
+    /// All except `>`, NUL and CR.
     Bogus,
-    /// All but blanks, `>` and NUL.
+    /// All except ASCII whitespace, `>` and NUL.
     DoctypeName,
-    /// All but the quote, `>`, NUL and CR.
+    /// All except the quote, `>`, NUL and CR.
     Identifier(Quote),
 }
 
@@ -67,7 +67,7 @@ fn is_changed(b: u8) -> bool
     b == 0 || b == b'\r'
 }
 
-/// Whether a byte is in a run.
+/// Returns true if a byte is in a run.
 #[inline(always)]
 pub fn is_in(run: Run, b: u8) -> bool
     ensures { result ≡ is_in run b }
@@ -176,7 +176,7 @@ fn run_of_reference(state: ReferenceState) -> Run
     }
 }
 
-/// The run that a state takes.
+/// Returns the run of a state.
 pub fn run_of(at: MachineState) -> Run
     ensures { result ≡ run_of at }
 {
@@ -189,7 +189,7 @@ pub fn run_of(at: MachineState) -> Run
     }
 }
 
-// The length of a run at the front, and how many newlines are in it. It is made for each run by itself.
+// Returns the length of the run at the start, and its newlines. It is inlined for each run.
 #[inline(always)]
 fn count_in(run: Run, bytes: &[u8]) -> (usize, u64)
     ensures within { result.0 ≤ length bytes.now }
@@ -209,7 +209,7 @@ fn count_in(run: Run, bytes: &[u8]) -> (usize, u64)
     (bytes.len(), lines)
 }
 
-// The same for text with references: what is text in every state, and then one byte after another.
+// Counts a run of text with references: first the bytes that are text in every state, then one byte after another.
 fn count_references(text: &str) -> (usize, u64)
     ensures within { result.0 ≤ length text.now }
     ensures taken { are_in Run.References (take result.0 text.now) ≡ true }
@@ -222,7 +222,7 @@ fn count_references(text: &str) -> (usize, u64)
     (n + m, lines + others)
 }
 
-/// The length of the run at the front, and how many newlines are in it. The common runs are looked for each by itself.
+/// Returns the length of the run at the start, and its newlines. The most frequent runs are counted by separate code.
 pub fn count_run(run: Run, text: &str) -> (usize, u64)
     ensures within { result.0 ≤ length text.now }
     ensures taken { are_in run (take result.0 text.now) ≡ true }
@@ -264,7 +264,7 @@ fn doctype_behind(state: DoctypeState) -> DoctypeState
     }
 }
 
-/// The state behind a run.
+/// Returns the state after a run.
 pub fn at_behind(at: MachineState) -> MachineState
     ensures { result ≡ at_behind at }
 {
@@ -277,7 +277,7 @@ pub fn at_behind(at: MachineState) -> MachineState
     }
 }
 
-/// Adds a run to a text, or to the name of an end tag.
+/// Appends a run to a text, or to the name of an end tag.
 pub fn add_text_run(
     state: TextState,
     front: &str,
@@ -293,7 +293,7 @@ pub fn add_text_run(
     }
 }
 
-/// Adds a run to a tag. Blanks are added nowhere.
+/// Appends a run to a tag. Whitespace is skipped.
 pub fn add_tag_run(
     state: TagState,
     front: &str,
@@ -311,7 +311,7 @@ pub fn add_tag_run(
     }
 }
 
-// Begins a doctype, whose name begins so.
+// Begins a doctype, and the name with this run.
 fn begin_doctype_name(front: &str, doctype: &mut Doctype, empty: String) -> Result<(), AllocError>
     requires { string_bytes empty ≡ [] }
     ensures { OnOk result (doctype_text doctype.new ≡ construction.new_doctype (map to_ascii_lowercase front.now)) }
@@ -322,7 +322,7 @@ fn begin_doctype_name(front: &str, doctype: &mut Doctype, empty: String) -> Resu
     Ok(())
 }
 
-/// Adds a run to a doctype. Blanks and what is bogus are added nowhere.
+/// Appends a run to a doctype. Whitespace and what is bogus is skipped.
 pub fn add_doctype_run(
     state: DoctypeState,
     front: &str,
@@ -340,7 +340,7 @@ pub fn add_doctype_run(
     }
 }
 
-/// Adds a run behind an ambiguous ampersand.
+/// Appends a run after an ambiguous ampersand.
 pub fn add_reference_run(
     return_to: ReturnTo,
     front: &str,

@@ -1,4 +1,5 @@
-//! What a reader asks of the table: how much of a text begins a name, and the longest name in what was seen.
+//! Searches in the table of references: how much of a text begins a name, and the longest name in what was seen. They allocate
+//! nothing.
 ghost use Rattle.std.specs.Prelude.{◌≡◌, ◌<◌, ◌≤◌, ◌+◌, true, false, ◌++◌, length, take};
 ghost use Rattle.h5_states.specs.References.{is_beginning, longest};
 ghost use Rattle.h5_states.specs.ReferenceTable.{references};
@@ -12,20 +13,20 @@ use super::table::{name, text};
 /// The longest name that a text begins with.
 #[derive(Clone, Copy, Debug, PartialEq, Eq)]
 pub struct Named {
-    /// How many bytes of the text are the name.
+    /// The length of the name in bytes.
     pub len: usize,
-    /// What the name stands for.
+    /// The characters of the name.
     pub text: &'static str,
 }
 
-/// Whether the name of a reference begins so (HTML standard, section 13.2.5.73).
+/// Returns true if the name of a reference begins with this (HTML standard, section 13.2.5.73).
 pub fn is_beginning(seen: &[u8]) -> bool
     ensures { result ≡ is_beginning references seen.now }
 {
     !candidates_of(seen).is_empty()
 }
 
-/// How many bytes of a text go on what was seen, so that a name still begins so.
+/// Returns how many bytes of a text can be appended to what was seen so that a name still begins with it.
 pub fn further_len(seen: &[u8], text: &[u8]) -> usize
     ensures within { result ≤ length text.now }
     ensures begins { is_beginning references seen.now ≡ true → is_beginning references (seen.now ++ take result text.now) ≡ true }
@@ -47,7 +48,7 @@ pub fn further_len(seen: &[u8], text: &[u8]) -> usize
     text.len()
 }
 
-/// How many bytes of a text are the longest beginning of it with which a name begins.
+/// Returns the length of the longest prefix of a text that a name begins with.
 pub fn seen_len(text: &[u8]) -> usize
     ensures within { result ≤ length text.now }
     ensures begins { is_beginning references (take result text.now) ≡ true }
@@ -56,7 +57,7 @@ pub fn seen_len(text: &[u8]) -> usize
     further_len(&[], text)
 }
 
-// A reference's name, by how long it is, and its text.
+// Returns the length and the text of a reference's name.
 fn reference(number: usize) -> Named
     requires { number < how_many }
     ensures len { result.len ≡ length (name_of number) }
@@ -68,7 +69,7 @@ fn reference(number: usize) -> Named
     }
 }
 
-/// The longest beginning of what was seen that is a name (HTML standard, section 13.2.5.73).
+/// Returns the longest prefix of what was seen that is a name (HTML standard, section 13.2.5.73).
 pub fn longest(seen: &[u8]) -> Option<Named>
     ensures { found_in seen.now result ≡ longest references seen.now }
 {

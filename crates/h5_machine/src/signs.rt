@@ -1,4 +1,4 @@
-//! Bytes that the rows name, and what is added to a text.
+//! Bytes that the rows name, and appending to texts.
 
 ghost use Rattle.std.specs.Prelude.{◌≡◌, ◌<◌, ◌==◌, ℕ, List, [], ◌∷◌, ◌++◌, OnOk, map, string_bytes};
 ghost use Rattle.std.specs.Char.{to_ascii_lowercase};
@@ -10,7 +10,7 @@ ghost use Rattle.h5_machine.specs.Signs.{cleaned};
 use h5_states::Quote;
 use std::alloc::AllocError;
 
-/// TAB, LF, FF or SPACE: a CR was made a LF before.
+/// Returns true for TAB, LF, FF and SPACE. A CR has become a LF before.
 #[inline(always)]
 pub fn is_blank(b: u8) -> bool
     ensures { result ≡ is_blank b }
@@ -18,7 +18,7 @@ pub fn is_blank(b: u8) -> bool
     b == b'\t' || b == b'\n' || b == 0x0c || b == b' '
 }
 
-/// What ends a name.
+/// Returns true for a byte that ends a name.
 #[inline(always)]
 pub fn is_name_end(b: u8) -> bool
     ensures { result ≡ is_name_end b }
@@ -56,10 +56,10 @@ pub fn is_hex_digit(b: u8) -> bool
     b.is_ascii_digit() || (b'A' <= b && b <= b'F') || (b'a' <= b && b <= b'f')
 }
 
-/// U+FFFD REPLACEMENT CHARACTER, which stands for a NUL.
+/// U+FFFD REPLACEMENT CHARACTER, which replaces a NUL.
 pub const REPLACEMENT: &str = "\u{fffd}";
 
-/// Adds an ASCII byte to a text.
+/// Appends an ASCII byte.
 pub fn push_byte(text: &mut String, b: u8) -> Result<(), AllocError>
     requires { b < 128 }
     ensures { OnOk result (string_bytes text.new ≡ string_bytes text.old ++ b ∷ []) }
@@ -67,7 +67,7 @@ pub fn push_byte(text: &mut String, b: u8) -> Result<(), AllocError>
     text.push(b as char)
 }
 
-/// Adds an ASCII byte to a text, and U+FFFD for a NUL.
+/// Appends an ASCII byte, or U+FFFD for a NUL.
 pub fn push_cleaned(text: &mut String, b: u8) -> Result<(), AllocError>
     requires { b < 128 }
     ensures { OnOk result (string_bytes text.new ≡ string_bytes text.old ++ cleaned b) }
@@ -78,14 +78,14 @@ pub fn push_cleaned(text: &mut String, b: u8) -> Result<(), AllocError>
     push_byte(text, b)
 }
 
-/// Takes an ASCII byte from a text's end.
+/// Removes an ASCII byte from the end of a text.
 pub fn pop_byte(text: &mut String)
     ensures { (front : List ℕ) (x : ℕ) → x < 128 → string_bytes text.old ≡ front ++ x ∷ [] → string_bytes text.new ≡ front }
 {
     let _ = text.pop();
 }
 
-/// Whether a text is this one, once its letters are in lower case.
+/// Returns true if `text` equals `written` with letters in lower case.
 pub fn is_lowered(text: &[u8], written: &[u8]) -> bool
     ensures { result ≡ is_same_text text.now (map to_ascii_lowercase written.now) }
 {
@@ -100,11 +100,11 @@ pub fn is_lowered(text: &[u8], written: &[u8]) -> bool
     true
 }
 
-/// Adds to a text, letters in lower case.
+/// Appends a text, with letters in lower case.
 pub fn push_lowered(text: &mut String, more: &str) -> Result<(), AllocError>
     ensures { OnOk result (string_bytes text.new ≡ string_bytes text.old ++ map to_ascii_lowercase more.now) }
 {
-    // Most names are written so.
+    // Most names are written in lower case.
     if is_lowered(more.as_bytes(), more.as_bytes()) {
         return text.push_str(more);
     }
@@ -113,7 +113,7 @@ pub fn push_lowered(text: &mut String, more: &str) -> Result<(), AllocError>
     text.push_str(lower.as_str())
 }
 
-/// Whether a word begins so, where the case of its letters doesn't count.
+/// Returns true if a word begins with `seen`, in any case of letters.
 pub fn begins_folded(seen: &str, word: &[u8]) -> bool
     ensures { result ≡ begins to_ascii_lowercase seen.now word.now }
 {
@@ -124,14 +124,14 @@ pub fn begins_folded(seen: &str, word: &[u8]) -> bool
     bytes.eq_ignore_ascii_case(&word[..bytes.len()])
 }
 
-/// Whether this is a word, where the case of its letters doesn't count.
+/// Returns true if `seen` is a word, in any case of letters.
 pub fn is_folded(seen: &str, word: &[u8]) -> bool
     ensures { result ≡ is_all to_ascii_lowercase seen.now word.now }
 {
     seen.as_bytes().eq_ignore_ascii_case(word)
 }
 
-/// Whether this is a word.
+/// Returns true if `seen` is a word.
 #[tactic(auto, using(crate::proofs::FoldLaws::is_all_same))]
 pub fn is_word(seen: &str, word: &[u8]) -> bool
     ensures { result ≡ is_all same seen.now word.now }
@@ -139,7 +139,7 @@ pub fn is_word(seen: &str, word: &[u8]) -> bool
     seen.as_bytes() == word
 }
 
-/// Whether a word begins so.
+/// Returns true if a word begins with `seen`.
 #[tactic(auto, using(crate::proofs::WordLaws::begins_same))]
 pub fn begins(seen: &str, word: &[u8]) -> bool
     ensures { result ≡ begins same seen.now word.now }

@@ -1,4 +1,4 @@
-//! The named character references by their numbers, which are their places in the table.
+//! The named character references by their numbers, which are their indices in the table.
 ghost use Rattle.std.specs.Prelude.{◌≡◌, ◌<◌, ◌≤◌};
 ghost use Rattle.h5_machine.specs.Numbered.{
   all_names,
@@ -12,7 +12,7 @@ ghost use Rattle.h5_machine.specs.Numbered.{
 
 use super::numbers::{NAME_BEGINS, NAMES, TEXT_BEGINS, TEXTS};
 
-/// How many there are.
+/// The number of references.
 pub const COUNT: usize = 2231;
 
 #[tactic(auto, unfolding(crate::specs::Numbered::all_names))]
@@ -29,7 +29,7 @@ fn all_texts() -> &'static str
     TEXTS
 }
 
-// Where a name begins, and behind the last one where that ends.
+// Returns the start of a name; for `COUNT`, the end of the last name.
 #[tactic(auto, unfolding(crate::specs::Numbered::name_begin))]
 fn name_begin(number: usize) -> usize
     requires { number ≤ how_many }
@@ -38,7 +38,7 @@ fn name_begin(number: usize) -> usize
     NAME_BEGINS[number] as usize
 }
 
-// Where a text begins, and behind the last one where that ends.
+// Returns the start of a text; for `COUNT`, the end of the last text.
 #[tactic(auto, unfolding(crate::specs::Numbered::text_begin))]
 fn text_begin(number: usize) -> usize
     requires { number ≤ how_many }
@@ -47,7 +47,7 @@ fn text_begin(number: usize) -> usize
     TEXT_BEGINS[number] as usize
 }
 
-/// A reference's name, without its `&`.
+/// Returns a reference's name, without its `&`.
 pub fn name(number: usize) -> &'static [u8]
     requires { number < how_many }
     ensures { result.now ≡ name_of number }
@@ -57,7 +57,7 @@ pub fn name(number: usize) -> &'static [u8]
     &all_names()[from..to]
 }
 
-/// The text that a reference stands for, one or two characters.
+/// Returns a reference's text, which is one or two characters.
 pub fn text(number: usize) -> &'static str
     requires { number < how_many }
     ensures { result.now ≡ text_of number }

@@ -1,4 +1,4 @@
-//! A tag under construction.
+//! A tag that is being built.
 
 ghost use Rattle.std.specs.Prelude.{◌≡◌, ◌<◌, true, [], ◌∷◌, ◌++◌, OnOk, IfOk, map, encode_utf8};
 ghost use Rattle.std.specs.Char.{to_ascii_lowercase};
@@ -13,14 +13,14 @@ use std::alloc::{AllocError, Global};
 use std::marker::Model;
 use std::mem;
 
-/// A tag so far: its attributes that are complete, and its current one.
+/// A tag so far: its complete attributes, and its current one.
 #[derive(Drop)]
 pub struct OpenTag {
     kind: TagKind,
     name: OpenName,
     self_closing: bool,
     kept: Keeping,
-    // Whether there is a current attribute.
+    // True if there is a current attribute.
     in_attribute: bool,
     attribute: OpenName,
     value: String,
@@ -51,7 +51,7 @@ impl OpenTag {
     ghost use Rattle.h5_states.specs.Turn.{is_end};
     ghost use Rattle.h5_states.specs.Construction.{is_repeated, new_tag, named_further, attribute_named_further, value_further, completed, with_attribute, self_closed, token_of};
 
-    /// Whether it is an end tag.
+    /// Returns true if it is an end tag.
     pub fn is_end(&self) -> bool
         ensures { result ≡ is_end self.now.kind }
     {
@@ -61,14 +61,14 @@ impl OpenTag {
         }
     }
 
-    /// Whether it closes itself.
+    /// Returns the self-closing flag.
     pub fn closes_itself(&self) -> bool
         ensures { result ≡ self.now.self_closing }
     {
         self.self_closing
     }
 
-    /// Whether it has attributes, once its current one is complete.
+    /// Returns true if it has attributes once its current one is complete.
     pub fn has_attributes(&self) -> bool
         ensures { result ≡ nat_lt 0 (length (completed self.now).attrs) }
     {
@@ -78,14 +78,14 @@ impl OpenTag {
         !self.kept.attributes.as_slice().is_empty()
     }
 
-    /// Whether its current attribute's name stands in it already.
+    /// Returns true if it already has an attribute with the name of its current one.
     pub fn is_repeated(&self) -> bool
         ensures { result ≡ is_repeated self.now }
     {
         self.in_attribute && self.attribute.is_in(&self.kept.attributes)
     }
 
-    /// A start tag without a name. It takes no memory.
+    /// Returns a start tag without a name. Allocates nothing.
     pub fn new(alloc: Global) -> OpenTag
         ensures { result ≡ new_tag StartTag [] }
     {
@@ -100,7 +100,7 @@ impl OpenTag {
         }
     }
 
-    /// A new tag, without a name.
+    /// Begins a new tag, without a name.
     pub fn begin(&mut self, kind: TagKind)
         ensures { self.new ≡ new_tag kind [] }
     {
@@ -112,14 +112,14 @@ impl OpenTag {
         self.in_attribute = false;
     }
 
-    /// Its name goes on so, letters in lower case.
+    /// Appends to the name, with letters in lower case.
     pub fn push_name(&mut self, more: &str) -> Result<(), AllocError>
         ensures { OnOk result (self.new ≡ named_further (map to_ascii_lowercase more.now) self.old) }
     {
         self.name.push(more)
     }
 
-    /// Its name goes on by a run, letters in lower case.
+    /// Appends a run to the name, with letters in lower case.
     pub fn push_name_run(&mut self, names: &mut SharedNames, run: &str) -> Result<(), AllocError>
         requires { are_in Run.Name run.now ≡ true }
         ensures { OnOk result (self.new ≡ named_further (map to_ascii_lowercase run.now) self.old) }
@@ -127,7 +127,7 @@ impl OpenTag {
         self.name.push_run(names, run)
     }
 
-    /// Its name goes on by an ASCII byte, a letter in lower case.
+    /// Appends an ASCII byte to the name, a letter in lower case.
     pub fn push_name_byte(&mut self, b: u8) -> Result<(), AllocError>
         requires { b < 128 }
         ensures { OnOk result (self.new ≡ named_further (to_ascii_lowercase b ∷ []) self.old) }
@@ -135,7 +135,7 @@ impl OpenTag {
         self.name.push_byte(b)
     }
 
-    /// The current attribute is complete. It is dropped where its name stands in the tag already.
+    /// Completes the current attribute. It is dropped if the tag already has one with its name.
     pub fn complete(&mut self) -> Result<(), AllocError>
         ensures { OnOk result (self.new ≡ completed self.old) }
     {
@@ -149,7 +149,7 @@ impl OpenTag {
         self.kept.keep_finished(name, value)
     }
 
-    /// A new attribute is started, without a name.
+    /// Begins a new attribute, without a name.
     pub fn begin_attribute(&mut self) -> Result<(), AllocError>
         ensures { OnOk result (self.new ≡ with_attribute [] self.old) }
     {
@@ -160,14 +160,14 @@ impl OpenTag {
         Ok(())
     }
 
-    /// The current attribute's name goes on so, letters in lower case.
+    /// Appends to the current attribute's name, with letters in lower case.
     pub fn push_attribute(&mut self, more: &str) -> Result<(), AllocError>
         ensures { OnOk result (self.new ≡ attribute_named_further (map to_ascii_lowercase more.now) self.old) }
     {
         self.attribute.push(more)
     }
 
-    /// The current attribute's name goes on by a run, letters in lower case.
+    /// Appends a run to the current attribute's name, with letters in lower case.
     pub fn push_attribute_run(
         &mut self,
         names: &mut SharedNames,
@@ -179,7 +179,7 @@ impl OpenTag {
         self.attribute.push_run(names, run)
     }
 
-    /// A new attribute is started, of this name and this value.
+    /// Begins a new attribute, with this name and this value.
     pub fn push_quoted(
         &mut self,
         names: &mut SharedNames,
@@ -194,7 +194,7 @@ impl OpenTag {
         self.push_value(value)
     }
 
-    /// The current attribute's name goes on by an ASCII byte, a letter in lower case.
+    /// Appends an ASCII byte to the current attribute's name, a letter in lower case.
     pub fn push_attribute_byte(&mut self, b: u8) -> Result<(), AllocError>
         requires { b < 128 }
         ensures { OnOk result (self.new ≡ attribute_named_further (to_ascii_lowercase b ∷ []) self.old) }
@@ -202,14 +202,14 @@ impl OpenTag {
         self.attribute.push_byte(b)
     }
 
-    /// The current attribute's value goes on so.
+    /// Appends to the current attribute's value.
     pub fn push_value(&mut self, more: &str) -> Result<(), AllocError>
         ensures { OnOk result (self.new ≡ value_further more.now self.old) }
     {
         self.value.push_str(more)
     }
 
-    /// The current attribute's value goes on by an ASCII byte.
+    /// Appends an ASCII byte to the current attribute's value.
     pub fn push_value_byte(&mut self, b: u8) -> Result<(), AllocError>
         requires { b < 128 }
         ensures { OnOk result (self.new ≡ value_further (b ∷ []) self.old) }
@@ -217,28 +217,28 @@ impl OpenTag {
         push_byte(&mut self.value, b)
     }
 
-    /// The current attribute's value goes on by a character.
+    /// Appends a character to the current attribute's value.
     pub fn push_value_char(&mut self, more: char) -> Result<(), AllocError>
         ensures { OnOk result (self.new ≡ value_further (encode_utf8 more) self.old) }
     {
         self.value.push(more)
     }
 
-    /// It closes itself.
+    /// Sets the self-closing flag.
     pub fn close_itself(&mut self)
         ensures { self.new ≡ self_closed self.old }
     {
         self.self_closing = true;
     }
 
-    /// The tag, which is complete. What is left is a tag without attributes.
+    /// Returns the complete tag. What is left is a tag without attributes.
     pub fn take(&mut self) -> Result<Tag, AllocError>
         ensures { IfOk result (λ tag. TagIs (tag_text tag) ≡ token_of self.old) }
     {
         let alloc = *self.value.allocator();
         let name = self.name.take()?;
         let mut kept = mem::replace(&mut self.kept, Keeping::new(alloc, 1));
-        // No room for more attributes stays with the tag.
+        // A tag keeps no room for more attributes.
         kept.attributes.shrink_to_fit();
         Ok(Tag {
             kind: self.kind,

@@ -15,7 +15,7 @@ use super::signs::{is_blank, is_name_end, is_quote, sign_of};
 use super::tag::OpenTag;
 use h5_states::{ParseError, Quote};
 
-// Behind this error, if there is one, those of a tag that is handed on: of an end tag with attributes or a '/'.
+// Returns this error, if there is one, followed by those of a tag that is emitted: of an end tag with attributes or a '/'.
 fn handed_with(first: Option<ParseError>, tag: &OpenTag, closes_itself: bool) -> RowErrors
     ensures { all_of result ≡ if_any first ++ (hand_tag (record tag.now { self_closing = closes_itself })).errors }
 {
@@ -30,7 +30,7 @@ fn handed_with(first: Option<ParseError>, tag: &OpenTag, closes_itself: bool) ->
     }
 }
 
-// Those of a tag that is handed on.
+// Returns the errors of a tag that is emitted.
 fn handed(tag: &OpenTag) -> RowErrors
     ensures { all_of result ≡ (hand_tag tag.now).errors }
 {

@@ -118,7 +118,7 @@ fn before_attribute_name(tag: &mut OpenTag, b: u8) -> Result<Transition, AllocEr
     }
 }
 
-// 13.2.5.33 Attribute name state: where it is left, a name that stands there already is an error
+// 13.2.5.33 Attribute name state: on leaving it, a name that the tag already has is an error
 fn attribute_name(tag: &mut OpenTag, b: u8) -> Result<Transition, AllocError>
     requires { b < 128 }
     ensures { IfOk result (λ transition. DoesTag transition tag.new (g.attribute_name_state tag.old b)) }
@@ -261,7 +261,7 @@ fn self_closing_start_tag(tag: &mut OpenTag, b: u8) -> Result<Transition, AllocE
     Ok(Transition::Reconsumed(MachineState::Tag(TagState::BeforeAttributeName)))
 }
 
-/// The row of a state of tags. What it emits is added to a text.
+/// The row of a tag state. Appends the text that it emits to `out`.
 pub fn tag_turn(
     state: TagState,
     tag: &mut OpenTag,

@@ -1,4 +1,4 @@
-//! Parse errors of the byte at hand, and of the end.
+//! The parse errors of the current byte, and of the end.
 
 ghost use Rattle.std.specs.Prelude.{◌≡◌};
 ghost use Rattle.h5_states.specs.AtEnd.{at_end};
@@ -26,7 +26,7 @@ use super::tag_errors::tag_errors;
 use super::text_errors::{comment_error, text_error};
 use h5_states::{ErrorSink, Position};
 
-/// Tells the error of a character of the input stream, if there is one, as standing here.
+/// Reports the error of a character of the input stream, if there is one, at this position.
 pub fn tell_input_error<E: ErrorSink>(c: char, at: Position, errors: &mut E)
     ensures { Tells E.Told errors.old errors.new (told_at at (character_errors c)) }
 {
@@ -36,7 +36,7 @@ pub fn tell_input_error<E: ErrorSink>(c: char, at: Position, errors: &mut E)
     }
 }
 
-// How much of what was seen in a state of comments the standard hasn't consumed.
+// Returns how much of what was seen in a comment state the standard hasn't consumed.
 fn comment_ahead(state: CommentState, text: &str) -> usize
     ensures { result ≡ seen_ahead references (comment_state_of state text.now) }
 {
@@ -46,7 +46,7 @@ fn comment_ahead(state: CommentState, text: &str) -> usize
     }
 }
 
-// The same in a state of doctypes.
+// Returns how much of what was seen in a doctype state the standard hasn't consumed.
 fn doctype_ahead(state: DoctypeState, seen: &str) -> usize
     ensures { (doctype : DoctypeText) → result ≡ seen_ahead references (doctype_state_of state doctype seen.now) }
 {
@@ -57,7 +57,7 @@ fn doctype_ahead(state: DoctypeState, seen: &str) -> usize
 }
 
 impl Machine {
-    // The errors of the row of the state, at a byte that was made normal.
+    // Returns the errors of the state's row, at a normalized byte.
     fn row_errors(&self, b: u8) -> RowErrors
         ensures { all_of result ≡ (turn references self.now.last (state_of self.now.at self.now.parts) b).errors }
     {
@@ -83,7 +83,7 @@ impl Machine {
         }
     }
 
-    // Those of the end, in the state.
+    // Returns the errors of the end, in the state.
     fn end_errors(&self) -> RowErrors
         ensures { all_of result ≡ (at_end references (state_of self.now.at self.now.parts)).errors }
     {
@@ -101,7 +101,7 @@ impl Machine {
         }
     }
 
-    /// How much of what was seen in the state the standard hasn't consumed, since it looks ahead there.
+    /// Returns how much of what was seen in the state the standard hasn't consumed, since it looks ahead there.
     pub fn seen_ahead(&self) -> usize
         ensures { result ≡ seen_ahead references (state_of self.now.at self.now.parts) }
     {
@@ -114,7 +114,8 @@ impl Machine {
         }
     }
 
-    /// Tells the errors of the row at the byte at hand, as standing here, or before what was seen where the standard looks ahead.
+    /// Reports the errors of the row at the current byte, at this position, or before what was seen if the standard looks
+    /// ahead.
     pub fn tell_errors<E: ErrorSink>(&self, b: u8, at: Position, errors: &mut E)
         ensures { Tells E.Told errors.old errors.new (told_of_row (seen_ahead references (place_of self.now).state) at (row_errors references (place_of self.now) b)) }
     {
@@ -122,7 +123,7 @@ impl Machine {
             .tell(self.seen_ahead() as u64, at, errors);
     }
 
-    /// Tells the errors of the end of the input in the same way.
+    /// Reports the errors of the end of the input, at this position, or before what was seen if the standard looks ahead.
     pub fn tell_errors_at_end<E: ErrorSink>(&self, at: Position, errors: &mut E)
         ensures { Tells E.Told errors.old errors.new (told_of_row (seen_ahead references (place_of self.now).state) at (end_errors references (place_of self.now))) }
     {

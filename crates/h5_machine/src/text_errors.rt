@@ -43,7 +43,7 @@ pub fn text_error(state: TextState, b: u8) -> Option<ParseError>
     }
 }
 
-// Whether a word begins with what was seen and this byte.
+// Returns true if a word begins with what was seen and this byte.
 #[tactic(auto, using(crate::proofs::FurtherLaws::same_none, crate::proofs::FurtherLaws::same_next, crate::proofs::FurtherLaws::same_other))]
 fn begins_further(seen: &str, b: u8, word: &[u8]) -> bool
     ensures { result ≡ begins same (seen.now ++ b ∷ []) word.now }
@@ -58,7 +58,7 @@ fn begins_further(seen: &str, b: u8, word: &[u8]) -> bool
     begins(seen, word)
 }
 
-/// The same, where the case of letters doesn't count.
+/// Returns true if a word begins with what was seen and this byte, in any case of letters.
 #[tactic(auto, using(crate::proofs::FurtherLaws::lower_none, crate::proofs::FurtherLaws::lower_next, crate::proofs::FurtherLaws::lower_other))]
 pub fn begins_further_folded(seen: &str, b: u8, word: &[u8]) -> bool
     ensures { result ≡ begins to_ascii_lowercase (seen.now ++ b ∷ []) word.now }
@@ -73,7 +73,7 @@ pub fn begins_further_folded(seen: &str, b: u8, word: &[u8]) -> bool
     begins_folded(seen, word)
 }
 
-// Whether one of the openings begins with what was seen and this byte.
+// Returns true if one of the openings begins with what was seen and this byte.
 fn begins_opening(seen: &str, b: u8) -> bool
     ensures { result ≡ c.begins_opening (seen.now ++ b ∷ []) }
 {

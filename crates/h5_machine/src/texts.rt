@@ -43,7 +43,7 @@ fn data(out: &mut String, b: u8) -> Result<Transition, AllocError>
     }
 }
 
-// A text in which NUL is replaced.
+// Appends to a text in which NUL is replaced.
 fn replacing(out: &mut String, b: u8, state: TextState) -> Result<Transition, AllocError>
     requires { b < 128 }
     ensures transition { IfOk result (λ transition. transition ≡ Transition.Consumed (MachineState.Text state)) }
@@ -104,7 +104,7 @@ fn plaintext(out: &mut String, b: u8) -> Result<Transition, AllocError>
     replacing(out, b, TextState::Text(TextKind::Plaintext))
 }
 
-// 13.2.5.69 CDATA section state: a NUL goes to the tree builder as it is
+// 13.2.5.69 CDATA section state: a NUL is emitted unchanged
 fn cdata_section(out: &mut String, b: u8) -> Result<Transition, AllocError>
     requires { b < 128 }
     ensures { IfOk result (λ transition. DoesText transition (string_bytes out.old) (string_bytes out.new) (t.cdata_section_state b)) }
@@ -224,7 +224,7 @@ fn raw_end_tag_open(
     Ok(Transition::Reconsumed(text_of(kind)))
 }
 
-// Whether an end tag token of this name is appropriate: there was a start tag, and the last one has this name.
+// Returns true if an end tag token with this name is appropriate: there was a start tag, and the last one has this name.
 fn is_appropriate(last: &LastName, buffer: &String) -> bool
     ensures { result ≡ t.is_appropriate last.now (string_bytes buffer.now) }
 {
@@ -232,7 +232,7 @@ fn is_appropriate(last: &LastName, buffer: &String) -> bool
     !last.is_empty() && is_lowered(last.as_bytes(), buffer.as_bytes())
 }
 
-// An appropriate end tag, whose name ends in this byte.
+// Begins an appropriate end tag, whose name ends before this byte.
 fn appropriate_end_tag(tag: &mut OpenTag, name: &str, b: u8) -> Result<Transition, AllocError>
     ensures { IfOk result (λ transition. DoesTag transition tag.new (end_tag_behind name.now b)) }
 {
@@ -247,15 +247,15 @@ fn appropriate_end_tag(tag: &mut OpenTag, name: &str, b: u8) -> Result<Transitio
     Ok(Transition::Emitted(CurrentToken::Tag, TextKind::Data))
 }
 
-// Whether this byte ends the name of an appropriate end tag.
+// Returns true if this byte ends the name of an appropriate end tag.
 fn ends_end_tag(last: &LastName, buffer: &String, b: u8) -> bool
     ensures { result ≡ (is_name_end b && t.is_appropriate last.now (string_bytes buffer.now)) }
 {
     is_name_end(b) && is_appropriate(last, buffer)
 }
 
-// 13.2.5.11, 14, 17, 25: RCDATA, RAWTEXT, Script data and Script data escaped end tag name state. The buffer has the name as
-// it was written.
+// 13.2.5.11, 14, 17, 25: RCDATA, RAWTEXT, Script data and Script data escaped end tag name state. The buffer has the name as it
+// was written.
 fn raw_end_tag_name(
     kind: RawTextKind,
     last: &LastName,
@@ -479,7 +479,7 @@ fn cdata_section_end(out: &mut String, b: u8) -> Result<Transition, AllocError>
     }
 }
 
-/// The row of a state of texts. What it emits is added to a text.
+/// The row of a text state. Appends the text that it emits to `out`.
 pub fn text_turn(
     state: TextState,
     last: &LastName,

@@ -1,28 +1,28 @@
-//! What a row does.
+//! The results of rows.
 
 use super::machine_state::MachineState;
 use h5_states::TextKind;
 
-/// What is handed on.
+/// The token to emit.
 #[derive(Clone, Copy, Debug, PartialEq, Eq)]
 pub enum CurrentToken {
-    /// A NUL, which the tree builder takes as it is.
+    /// A NUL, which the tree builder gets unchanged.
     Null,
     Tag,
     Comment,
     Doctype,
 }
 
-/// What a row does with the byte at hand, beside what it adds to a text or to what is under construction.
+/// What a row does with the current byte, apart from what it appends to a text or to what is being built.
 #[derive(Clone, Copy, Debug, PartialEq, Eq)]
 pub enum Transition {
-    /// It is consumed, and the state is this.
+    /// The byte is consumed, and this is the next state.
     Consumed(MachineState),
-    /// It is reconsumed in this state.
+    /// The byte is reconsumed in this state.
     Reconsumed(MachineState),
-    /// It is consumed, and what is under construction is complete. The state is this, unless the sink changes it.
+    /// The byte is consumed, and a token is complete. This is the next state, unless the sink changes it.
     Emitted(CurrentToken, TextKind),
-    /// It is consumed. Where the adjusted current node isn't in the HTML namespace the state is that of a CDATA section, and
-    /// elsewhere that of a bogus comment.
+    /// The byte is consumed. If the adjusted current node isn't in the HTML namespace, the CDATA section state is next, else
+    /// the bogus comment state.
     Asks,
 }

@@ -1,4 +1,4 @@
-//! States that take bytes that are no ASCII as they are: in these, such bytes are taken as a run.
+//! States that take bytes other than ASCII as they are. In these, such bytes are taken as a run.
 
 ghost use Rattle.std.specs.Prelude.{◌≡◌};
 ghost use Rattle.h5_machine.specs.Wide.{comment_takes_wide, doctype_takes_wide, tag_takes_wide, takes_wide, text_takes_wide};
@@ -50,7 +50,7 @@ fn doctype_takes_wide(state: DoctypeState) -> bool
     }
 }
 
-/// Whether a state takes such bytes.
+/// Returns true if a state takes such bytes.
 pub fn takes_wide(at: MachineState) -> bool
     ensures { result ≡ takes_wide at }
 {

@@ -1,4 +1,4 @@
--- Cuts by an index.
+-- Splits at an index.
 use Rattle.std.proofs.Common.{◌≡◌, ℕ, zero, suc, ◌<◌, ◌≤◌, ◌+◌, Bool, true, false, List, [], ◌∷◌, cond, length, take, drop, get_or, refl, sym, ap, ◌∙◌, subst, arith, IsUtf8}
 use Rattle.std.proofs.Common.{⊎_elim}
 use Rattle.std.proofs.lemmas.Bool.{cases_lt, false≢true}

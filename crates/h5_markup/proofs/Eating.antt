@@ -1,11 +1,11 @@
--- How much a search takes off the front.
+-- The number of bytes that a search consumes.
 use Rattle.std.proofs.Common.{ℕ, ◌+◌, ◌≤◌, Bool, true, false, List, [], ◌∷◌, cond, eqb, length, suc, arith}
 use Rattle.std.specs.Char.{to_ascii_lowercase}
 use Rattle.h5_markup.specs.Matching.{Match, Open, No, Found, and_then, or_else, literal, word, peek, ahead, prefixed}
 use Rattle.h5_markup.specs.Ending.{ends, next, up_to_end}
 use Rattle.h5_markup.specs.declared.ending.Inside.{Inside}
 
--- at least k of n bytes are taken
+-- at least k of n bytes are consumed
 abbrev pub Takes : {A : Type 0} → ℕ → ℕ → Match A → Type 0
 Takes k n Open = Unit {0}
 Takes k n No = Unit {0}

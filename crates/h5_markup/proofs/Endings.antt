@@ -1,4 +1,4 @@
--- Where a construct ends, found in pieces.
+-- The end of a comment, a doctype or a tag, found in steps.
 use Rattle.std.proofs.Common.{◌≡◌, ℕ, suc, ◌+◌, ◌<◌, ◌≤◌, Bool, true, false, List, [], ◌∷◌, ◌++◌, cond, eqb, refl, sym, ap, ◌∙◌, Option, Some, None, length, take, drop, get_or, arith, length-drop, take-append-drop, subst, IsUtf8, add-zero}
 use Rattle.std.specs.Str.{IsCharBoundary}
 use Rattle.std.proofs.lemmas.Str.{IsCharBoundary-before_ascii, IsCharBoundary-after_ascii, IsUtf8-drop}
@@ -13,7 +13,7 @@ if_some : {A : Type 0} (b : Bool) (m : Option A) (a : A) → cond b None m ≡ S
 if_some true m a h = cc
 if_some false m a h = (refl, h)
 
--- a byte behind the walk
+-- a byte after the walk
 pub walk_more : (place now : Inside) (xs : List ℕ) (x : ℕ) → walk place xs ≡ Some now → ends now x ≡ false → walk place (xs ++ x ∷ []) ≡ Some (next now x)
 walk_more place now [] x h e = let same : place ≡ now = cc in rw (same, e)
 walk_more place now (y ∷ xs) x h e = let t = if_some (ends place y) (walk (next place y) xs) now h in rw t.0 (walk_more (next place y) now xs x t.1 e)
@@ -26,7 +26,7 @@ pub walk_place : (place now : Inside) (xs : List ℕ) → walk place xs ≡ Some
 walk_place place now [] h = cc
 walk_place place now (x ∷ xs) h = let t = if_some (ends place x) (walk (next place x) xs) now h in walk_place (next place x) now xs t.1
 
--- a construct that hasn't ended
+-- one that hasn't ended
 pub end_open : (place now : Inside) (xs : List ℕ) → walk place xs ≡ Some now → up_to_end place xs ≡ Open
 end_open place now [] h = refl
 end_open place now (x ∷ xs) h = let t = if_some (ends place x) (walk (next place x) xs) now h in rw t.0 (ap (prefixed x) (end_open (next place x) now xs t.1))
@@ -42,13 +42,13 @@ walk_turn place now xs i lt h e = ap (walk place) (take_more xs i 0 lt) ∙ walk
 pub walk_along : (place middle now : Inside) (xs : List ℕ) (from n : ℕ) → walk place (take from xs) ≡ Some middle → walk middle (take n (drop from xs)) ≡ Some now → walk place (take (from + n) xs) ≡ Some now
 walk_along place middle now xs from n h k = ap (walk place) (take-add from n xs) ∙ walk_append place middle (take from xs) (take n (drop from xs)) h ∙ k
 
--- the end that was looked for in two parts isn't there yet
+-- an end that was sought in two parts isn't there yet
 pub sought_open : (place middle now : Inside) (xs : List ℕ) (from n : ℕ) → n ≡ length (drop from xs) → walk place (take from xs) ≡ Some middle → walk middle (take n (drop from xs)) ≡ Some now → (up_to_end place xs ≡ Open) × (walk place xs ≡ Some now)
 sought_open place middle now xs from n e h k =
     let whole : walk place xs ≡ Some now = ap (walk place) (sym (take_all (from + n) xs (omega (arith, length-drop from xs)))) ∙ walk_along place middle now xs from n h k in
     (end_open place now xs whole, whole)
 
--- the end that was looked for in two parts is there
+-- an end that was sought in two parts is there
 pub sought_end : (place middle now : Inside) (xs : List ℕ) (from n : ℕ) → from ≤ length xs → n < length (drop from xs) → walk place (take from xs) ≡ Some middle → walk middle (take n (drop from xs)) ≡ Some now → ends now (get_or (drop from xs) n 0) ≡ true → (up_to_end place xs ≡ Found (take (from + n) xs) (drop 1 (drop (from + n) xs))) × (place_after place (take (from + n) xs) ≡ now)
 sought_end place middle now xs from n le lt h k e =
     let whole = walk_along place middle now xs from n h k in

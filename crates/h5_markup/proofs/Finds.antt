@@ -1,4 +1,4 @@
--- What std's tests of a text's front say, in the words of Matching.
+-- The standard library's tests of prefixes, in the words of Matching.
 use Rattle.std.proofs.Common.{◌≡◌, ℕ, Bool, true, false, List, [], ◌∷◌, ◌++◌, cond, eqb, drop, refl, sym, ap, ◌∙◌, subst, append-nil}
 use Rattle.std.proofs.lemmas.Bool.{eqb-true, eq-eqb}
 use Rattle.h5_markup.specs.Matching.{Match, Open, No, Found, literal}
@@ -11,7 +11,7 @@ literal_short : (s m : List ℕ) (y : ℕ) → literal (s ++ y ∷ m) s ≡ Open
 literal_short [] m y = refl
 literal_short (x ∷ s) m y = rw (eq-eqb x x refl) (literal_short s m y)
 
--- the three ways
+-- the three results
 data Way (n s : List ℕ) : Match (Unit {0}) → Type 0 where
   stands : (r : List ℕ) → s ≡ n ++ r → Way n s (Found tt r)
   begins : (y : ℕ) (m : List ℕ) → n ≡ s ++ y ∷ m → Way n s Open
@@ -36,7 +36,7 @@ no_by n s m (stands r h) f g = absurd (f r h)
 no_by n s m (begins y t h) f g = absurd (g (y ∷ t) h)
 no_by n s m differs f g = refl
 
--- neither there, nor on its way
+-- the text neither begins with the needle nor is a prefix of it
 pub literal_no : (n s : List ℕ) → ((r : List ℕ) → s ≡ n ++ r → ⊥) → ((r : List ℕ) → n ≡ s ++ r → ⊥) → literal n s ≡ No
 literal_no n s f g = no_by n s _ (way n s) f g
 
@@ -55,6 +55,6 @@ gives_by n s r m (stands t h) e = let same : t ≡ r = cc in rw (← same) h
 gives_by n s r m (begins y t h) e = cc
 gives_by n s r m differs e = cc
 
--- what a literal leaves
+-- the remainder after a literal
 pub literal_gives : (n s r : List ℕ) → literal n s ≡ Found tt r → s ≡ n ++ r
 literal_gives n s r e = gives_by n s r (literal n s) (way n s) e

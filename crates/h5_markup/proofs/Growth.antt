@@ -1,4 +1,4 @@
--- What is decided stays so, whatever follows.
+-- A decided result stays, whatever follows.
 use Rattle.std.proofs.Common.{ℕ, Bool, true, false, List, [], ◌∷◌, ◌++◌, cond, eqb, refl, sym, ap, subst}
 use Rattle.std.specs.Char.{to_ascii_lowercase}
 use Rattle.h5_markup.specs.Matching.{Match, Open, No, Found, and_then, or_else, literal, word, peek, ahead, prefixed, Grows}
@@ -47,7 +47,7 @@ up_to_end_grows : (place : Inside) (xs more : List ℕ) → Grows (up_to_end pla
 up_to_end_grows place [] more = tt
 up_to_end_grows place (x ∷ xs) more = if_grows (ends place x) _ _ _ _ more refl (prefixed_grows x _ _ more (up_to_end_grows (next place x) xs more))
 
--- what this search has decided stays so
+-- a decided result of this search stays
 pub record Stable {A : Type 0} (p : List ℕ → Match A) : Type 0 where
   pub grows : (xs more : List ℕ) → Grows (p xs) more (p (xs ++ more))
 

@@ -1,4 +1,4 @@
--- The names of attributes behind the first few.
+-- The names of attributes after the first few.
 use Rattle.std.proofs.Common.{◌≡◌, ℕ, ◌≤◌, Bool, true, false, ◌||◌, List, [], ◌∷◌, ◌++◌, cond, length, take, drop, refl, sym, ap, ◌∙◌, arith}
 use Rattle.std.proofs.lemmas.List.{take-map, take-append-drop, drop-append-le, drop_all, length-map}
 use Rattle.std.proofs.lemmas.List.Folds.{list_any-append}
@@ -21,14 +21,14 @@ named_in_parts n name xs =
 pub named_before : (n : ℕ) (name : List ℕ) (xs : List Attribute) (found : Bool) → found ≡ is_named_in name (attribute_texts (take n xs)) → found ≡ true → found ≡ is_named_in name (attribute_texts xs)
 named_before n name xs found e h = h ∙ sym (named_in_parts n name xs ∙ ap (λ b. b || is_named_in name (drop n (attribute_texts xs))) (sym e ∙ h))
 
--- one that isn't is looked up
+-- another name is looked up
 pub named_behind : (n : ℕ) (name : List ℕ) (xs : List Attribute) (names : BTreeSet (List ℕ)) (found : Bool) → found ≡ is_named_in name (attribute_texts (take n xs)) → found ≡ false → AreNamesBehind n (attribute_texts xs) names → contains text_order names name ≡ is_named_in name (attribute_texts xs)
 named_behind n name xs names found e h are = are.each name ∙ sym (named_in_parts n name xs ∙ ap (λ b. b || is_named_in name (drop n (attribute_texts xs))) (sym e ∙ h))
 
 none_behind : (n : ℕ) (xs : List Attribute) → length xs ≤ n → drop n (attribute_texts xs) ≡ []
 none_behind n xs le = drop_all n (attribute_texts xs) (omega (arith, length-map xs attribute_text))
 
--- behind the first few there are none as long as there are no more than these
+-- if there are only the first few, there are no later ones
 pub still_none : (n : ℕ) (xs ys : List Attribute) (names : BTreeSet (List ℕ)) → AreNamesBehind n (attribute_texts xs) names → length xs ≤ n → length ys ≤ n → AreNamesBehind n (attribute_texts ys) names
 still_none n xs ys names are le more = record { each = λ name. are.each name ∙ ap (is_named_in name) (none_behind n xs le ∙ sym (none_behind n ys more)) }
 

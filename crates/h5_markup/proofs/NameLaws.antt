@@ -1,4 +1,4 @@
--- A name that HTML knows is read as it stands, but for ASCII case.
+-- A known name is read unchanged, except for ASCII case.
 use Rattle.std.proofs.Common.{◌≡◌, false, refl}
 use Rattle.h5_names.specs.declared.known_name.KnownName.{KnownName}
 use Rattle.h5_names.specs.declared.known_name.KnownName.TheVariants.{A}

@@ -1,4 +1,4 @@
--- Bytes that begin nothing but text.
+-- Bytes that are only text.
 use Rattle.std.proofs.Common.{◌≡◌, ℕ, zero, suc, ◌<◌, ◌≤◌, Bool, true, false, not, ◌||◌, List, ◌∷◌, eqb, length, get_or, refl, sym, ◌∙◌, subst, arith, max, ⊎_elim, IsUtf8}
 use Rattle.std.proofs.lemmas.Bool.{false≢true, cases_lt}
 use Rattle.std.proofs.lemmas.Bool.Decides.{nat_tests}
@@ -45,7 +45,7 @@ ascii x h = ⊎_elim (λ lt. lt) (λ le. absurd (false≢true (sym h ∙ high x 
 cut_more : (xs : List ℕ) (n : ℕ) → n ≤ length xs → (n < length xs → is_plain (get_or xs n 0) ≡ false) → IsCharBoundary xs n
 cut_more xs n le stops = ⊎_elim (λ lt. IsCharBoundary-before_ascii xs n lt (ascii (get_or xs n 0) (stops lt))) (λ ge. let e : length xs ≡ n = omega arith in subst (IsCharBoundary xs) e (IsCharBoundary-end xs)) (cases_lt n (length xs))
 
--- a text may be cut behind its plain bytes, or behind one that is not
+-- a text may be split after its plain bytes, or after another byte
 pub cut_plain : (xs : List ℕ) (c n : ℕ) → IsUtf8 xs → 0 < length xs → c ≤ length xs → (c < length xs → is_plain (get_or xs c 0) ≡ false) → n ≡ max c 1 → IsCharBoundary xs n
 cut_plain xs zero n utf8 some le stops e = rw e (IsCharBoundary-after_ascii xs 0 utf8 some (ascii (get_or xs 0 0) (stops some)))
 cut_plain xs (suc c) n utf8 some le stops e = let same : n ≡ suc c = omega arith in rw same (cut_more xs (suc c) le stops)

@@ -24,7 +24,7 @@ value_walk xs n lt h e =
     walk_turn AttributeValueDoubleQuoted AttributeValueDoubleQuoted xs n lt (walk_stays AttributeValueDoubleQuoted (λ x. eqb x 34) xs n in_double_quotes h) (never (eqb (get_or xs n 0) 62))
     ∙ rw e refl
 
--- behind such an attribute another may begin
+-- after such an attribute another may begin
 pub quoted_walk : (xs inner : List ℕ) (name value n : ℕ) → 0 < name → name ≤ length xs → ((k : ℕ) → k < name → is_in AttributeNameEnd (get_or xs k 0) ≡ false) → drop name xs ≡ 61 ∷ 34 ∷ inner → value < length inner → ((k : ℕ) → k < value → eqb (get_or inner k 0) 34 ≡ false) → eqb (get_or inner value 0) 34 ≡ true → n ≡ name + value + 3 → walk BeforeAttributeName (take n xs) ≡ Some BeforeAttributeName
 quoted_walk xs inner name value n some le names e lt values closes m =
     let same : name + suc (suc (value + 1)) ≡ n = omega arith in

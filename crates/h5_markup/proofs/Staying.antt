@@ -1,4 +1,4 @@
--- Bytes that leave the place in a construct as it is.
+-- Bytes that don't change the state.
 use Rattle.std.proofs.Common.{◌≡◌, ℕ, zero, suc, ◌<◌, Bool, true, false, not, List, [], ◌∷◌, ◌||◌, cond, eqb, refl, sym, Some, take, get_or, arith}
 use Rattle.std.proofs.lemmas.Bool.{false≢true}
 use Rattle.std.proofs.lemmas.Bool.Decides.{nat_tests}
@@ -9,7 +9,7 @@ use Rattle.h5_markup.specs.declared.cut.Class.TheVariants.{BetweenAttributes, Na
 use Rattle.h5_markup.specs.declared.ending.Inside.{Inside}
 use Rattle.h5_markup.specs.declared.ending.Inside.TheVariants.{Comment, Doctype, TagName, BeforeAttributeName, AttributeName, AttributeValueDoubleQuoted, AttributeValueSingleQuoted, AttributeValueUnquoted}
 
--- each byte but those that stop leaves the place as it is
+-- every byte that isn't a stop leaves the state unchanged
 pub record Stays (place : Inside) (stop : ℕ → Bool) : Type 0 where
   pub goes_on : (x : ℕ) → stop x ≡ false → ends place x ≡ false
   pub same : (x : ℕ) → stop x ≡ false → next place x ≡ place

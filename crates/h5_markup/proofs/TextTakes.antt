@@ -1,4 +1,4 @@
--- How much is taken off the front of a text.
+-- The number of bytes that a replacement consumes.
 use Rattle.std.proofs.Common.{◌≡◌, ℕ, ◌+◌, ◌<◌, ◌≤◌, Bool, true, false, List, [], ◌∷◌, length, subst, arith}
 use Rattle.std.specs.Prelude.{codes}
 use Rattle.h5_markup.specs.Matching.{Match, Found, literal}
@@ -26,6 +26,6 @@ pub escape_eats : (references : Bool) → Eats 1 (escape references)
 escape_eats true = or_else_eats reference_eats cleaned_eats
 escape_eats false = or_else_eats (no_eats 1) cleaned_eats
 
--- what is found leaves less
+-- a match leaves fewer bytes
 pub found_shorter : {A : Type 0} {p : List ℕ → Match A} (a : A) (xs rest : List ℕ) → Eats 1 p → p xs ≡ Found a rest → length rest < length xs
 found_shorter {A} a xs rest h e = let P : Match A → Type 0 = λ m. Takes 1 (length xs) m in let t : 1 + length rest ≤ length xs = subst P e (h.takes xs) in omega arith

@@ -1,4 +1,4 @@
--- Words, compared byte by byte.
+-- Fixed texts, compared byte by byte.
 use Rattle.std.proofs.Common.{◌≡◌, ℕ, zero, suc, ◌<◌, ◌≤◌, ◌+◌, ◌-◌, Bool, true, false, List, [], ◌∷◌, cond, eqb, length, drop, get_or, refl, subst, arith, IsUtf8, ⊎_elim}
 use Rattle.std.proofs.lemmas.Bool.{eqb-true, cases_lt}
 use Rattle.std.proofs.lemmas.Bool.Decides.{nat_tests}

@@ -7,17 +7,17 @@ use Rattle.h5_markup.specs.declared.cut.Class.{Class}
 use Rattle.h5_markup.specs.declared.cut.Class.TheVariants.{Blank, BetweenAttributes, AttributeNameEnd, ValueEnd, DoubleQuote, SingleQuote}
 use Rattle.h5_markup.specs.Text.{text_of, name_of}
 
--- an attribute as it is written, and what follows it
+-- an attribute as it is written, and the text after it
 pub record Written : Type 0 where
   pub name : List ℕ
   pub value : List ℕ
   pub rest : List ℕ
 
--- a value that goes up to a byte of this class
+-- a value up to a byte of this class
 abbrev pub value_to : Class → List ℕ → List ℕ → List ℕ → Written
 value_to class name xs rest = record { name = name; value = before (is_in class) xs; rest = rest }
 
--- the value behind a '=' and blanks
+-- the value after a '=' and whitespace
 abbrev pub valued : List ℕ → List ℕ → Written
 valued name [] = record { name = name; value = []; rest = [] }
 valued name (x ∷ xs) =
@@ -25,7 +25,7 @@ valued name (x ∷ xs) =
     else (if x == 39 then value_to SingleQuote name xs (drop 1 (from (is_in SingleQuote) xs))
     else value_to ValueEnd name (x ∷ xs) (from (is_in ValueEnd) (x ∷ xs)))
 
--- a name, and what follows it and blanks
+-- a name, and the part after it and after whitespace
 abbrev pub with_value : List ℕ → List ℕ → Written
 with_value name [] = record { name = name; value = []; rest = [] }
 with_value name (x ∷ xs) = if x == 61 then valued name (past Blank xs) else record { name = name; value = []; rest = x ∷ xs }
@@ -44,7 +44,7 @@ abbrev pub one_and_more : (List ℕ → List AttributeText) → List ℕ → Lis
 one_and_more more [] = []
 one_and_more more (x ∷ xs) = attribute_of (attribute_at x xs) ∷ more (attribute_at x xs).rest
 
--- the attributes of a tag, repeated names too; there are no more of them than bytes
+-- the attributes of a tag, including duplicates; there are at most as many as bytes
 abbrev pub attributes_up_to : ℕ → List ℕ → List AttributeText
 attributes_up_to zero xs = []
 attributes_up_to (suc n) xs = one_and_more (attributes_up_to n) (past BetweenAttributes xs)
@@ -52,16 +52,16 @@ attributes_up_to (suc n) xs = one_and_more (attributes_up_to n) (past BetweenAtt
 unfoldable pub attributes_of : List ℕ → List AttributeText
 attributes_of xs = attributes_up_to (length xs) xs
 
--- whether an attribute of this name is among some
+-- true if an attribute has this name
 abbrev pub is_named_in : List ℕ → List AttributeText → Bool
 is_named_in name = list_any (λ a. is_same_text a.name.local name)
 
--- some, and of others each whose name didn't come before
+-- attributes, followed by those of others whose name didn't come before
 abbrev pub distinct : List AttributeText → List AttributeText → List AttributeText
 distinct kept [] = kept
 distinct kept (a ∷ others) = if is_named_in a.name.local kept then distinct kept others else distinct (kept ++ a ∷ []) others
 
--- whether a name comes that some have, or comes twice
+-- true if a name is among those before, or comes twice
 abbrev pub repeats : List AttributeText → List AttributeText → Bool
 repeats kept [] = false
 repeats kept (a ∷ others) = if is_named_in a.name.local kept then true else repeats (kept ++ a ∷ []) others
@@ -69,6 +69,6 @@ repeats kept (a ∷ others) = if is_named_in a.name.local kept then true else re
 abbrev pub has_duplicates : List AttributeText → Bool
 has_duplicates = repeats []
 
--- some attributes with one more, unless its name is among them
+-- attributes with one more, unless its name is among them
 abbrev pub kept_with : List ℕ → List ℕ → List AttributeText → List AttributeText
 kept_with name value kept = if is_named_in name kept then kept else kept ++ attribute_named name value ∷ []

@@ -1,4 +1,4 @@
--- Tags that are nothing but their names.
+-- Tags that have only a name.
 use Rattle.std.specs.Prelude.{◌≡◌, ℕ, ◌<◌, true, false, List, [], length, slice_index, take, drop}
 use Rattle.std.specs.Char.{is_ascii_alphabetic}
 use Rattle.h5_token.specs.TokenText.{TokenText, TagIs}
@@ -18,7 +18,7 @@ bare_tag kind name = TagIs (record {
   had_duplicate_attributes = false;
 })
 
--- so many bytes are a name, a letter at first, and the '>' that ends the tag stands behind them
+-- the first n bytes are a name that begins with a letter, and the '>' that ends the tag follows
 pub record IsBareName (xs : List ℕ) (n : ℕ) : Type 0 where
   pub some : 0 < n
   pub within : n < length xs
@@ -27,19 +27,19 @@ pub record IsBareName (xs : List ℕ) (n : ℕ) : Type 0 where
   pub starts : is_ascii_alphabetic (slice_index xs 0) ≡ true
   pub ends : slice_index xs n ≡ 62
 
--- what stands behind the opening of a tag is a name, the '>' that ends the tag, and this rest
+-- after the opening of a tag: a name, the '>' that ends the tag, and this remainder
 pub record IsBare (xs name rest : List ℕ) : Type 0 where
   pub size : ℕ
   pub is_name : IsBareName xs size
   pub front : name ≡ take size xs
   pub back : rest ≡ drop 1 (drop size xs)
 
--- this stands behind the opening of such a tag
+-- this text follows the opening of such a tag
 abbrev pub Opens : TagKind → List ℕ → List ℕ → Type 0
 Opens StartTag xs inner = (0 < length xs) × (slice_index xs 0 ≡ 60) × (inner ≡ drop 1 xs)
 Opens EndTag xs inner = (1 < length xs) × (slice_index xs 0 ≡ 60) × (slice_index xs 1 ≡ 47) × (inner ≡ drop 2 xs)
 
--- such a tag stands at the front
+-- a text begins with such a tag
 pub record IsBareTag (xs : List ℕ) (kind : TagKind) (name rest : List ℕ) : Type 0 where
   pub inner : List ℕ
   pub opens : Opens kind xs inner

@@ -1,4 +1,4 @@
--- Doctypes: what stands between '<!DOCTYPE' and '>' (HTML standard, sections 13.2.5.53 to 13.2.5.68).
+-- Doctypes: the text between '<!DOCTYPE' and '>' (HTML standard, sections 13.2.5.53 to 13.2.5.68).
 use Rattle.std.specs.Prelude.{ℕ, true, false, List, [], ◌∷◌, ◌==◌, if◌then◌else◌, Option, Some, None, codes}
 use Rattle.std.specs.Option.{option_map}
 use Rattle.h5_markup.specs.Cuts.{is_in, before, from, past}
@@ -7,7 +7,7 @@ use Rattle.h5_markup.specs.declared.cut.Class.TheVariants.{Blank, DoubleQuote, S
 use Rattle.h5_token.specs.TokenText.{DoctypeText}
 use Rattle.h5_markup.specs.Text.{text_of, name_of}
 
--- a quoted identifier, and what follows it and blanks
+-- a quoted identifier, and the text after it and after whitespace
 pub record Quoted : Type 0 where
   pub identifier : List ℕ
   pub rest : List ℕ
@@ -22,7 +22,7 @@ quoted (x ∷ xs) =
     if x == 34 then closed_by (before (is_in DoubleQuote) xs) (from (is_in DoubleQuote) xs)
     else (if x == 39 then closed_by (before (is_in SingleQuote) xs) (from (is_in SingleQuote) xs) else None)
 
--- the identifiers as they are written, where they fit
+-- the identifiers as they are written, if they are valid
 pub record Identifiers : Type 0 where
   pub public_id : Option (List ℕ)
   pub system_id : Option (List ℕ)
@@ -40,7 +40,7 @@ abbrev pub with_system : Option (List ℕ) → Option (List ℕ) → Option Iden
 with_system public_id None = None
 with_system public_id (Some id) = Some (record { public_id = public_id; system_id = Some id })
 
--- behind PUBLIC: one or two
+-- the identifiers after PUBLIC: one or two
 abbrev pub public_and : List ℕ → List ℕ → Option Identifiers
 public_and id [] = Some (record { public_id = Some id; system_id = None })
 public_and id (x ∷ xs) = with_system (Some id) (last (quoted (x ∷ xs)))
@@ -49,7 +49,7 @@ abbrev pub public_ids : Option Quoted → Option Identifiers
 public_ids None = None
 public_ids (Some q) = public_and q.identifier q.rest
 
--- behind SYSTEM: one
+-- the identifier after SYSTEM
 abbrev pub system_at : Match (Unit {0}) → Option Identifiers
 system_at Open = None
 system_at No = None
@@ -60,7 +60,7 @@ ids_at xs Open = None
 ids_at xs No = system_at (word (codes "SYSTEM") xs)
 ids_at xs (Found t rest) = public_ids (quoted (past Blank rest))
 
--- what stands behind the name and blanks
+-- the identifiers after the name and whitespace
 abbrev pub identifiers : List ℕ → Option Identifiers
 identifiers [] = Some (record { public_id = None; system_id = None })
 identifiers (x ∷ xs) = ids_at (x ∷ xs) (word (codes "PUBLIC") (x ∷ xs))
@@ -68,7 +68,7 @@ identifiers (x ∷ xs) = ids_at (x ∷ xs) (word (codes "PUBLIC") (x ∷ xs))
 abbrev pub made : Option (List ℕ) → Option (List ℕ)
 made = option_map (text_of false)
 
--- where they don't fit there are none, and quirks are forced
+-- if the identifiers are invalid, there are none, and quirks are forced
 abbrev pub identified : List ℕ → Option Identifiers → DoctypeText
 identified name None = record { name = Some name; public_id = None; system_id = None; force_quirks = true }
 identified name (Some ids) = record { name = Some name; public_id = made ids.public_id; system_id = made ids.system_id; force_quirks = false }

@@ -1,4 +1,4 @@
--- What a search in a text found, without where it lies in memory.
+-- The result of a search in a text, independent of where it is in memory.
 use Rattle.h5_markup.specs.declared.matches.Match.{Match}
 use Rattle.h5_markup.specs.declared.matches.Match.TheVariants.{Open, No, Found}
 use Rattle.h5_markup.specs.Matching as m

@@ -1,4 +1,4 @@
--- Identifiers of doctypes, without where they lie in memory.
+-- Identifiers of doctypes, independent of where they are in memory.
 use Rattle.std.specs.Option.{option_map}
 use Rattle.h5_markup.specs.Doctypes as d
 use Rattle.h5_markup.specs.declared.doctypes.Quoted.{Quoted}

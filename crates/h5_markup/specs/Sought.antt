@@ -1,4 +1,4 @@
--- What was found of a construct's end, without where it lies in memory.
+-- The result of a search for an end, independent of where it is in memory.
 use Rattle.std.specs.Prelude.{◌≡◌, ℕ, List, Some}
 use Rattle.h5_markup.specs.Matching as m
 use Rattle.h5_markup.specs.Ending.{up_to_end, place_after, walk}

@@ -1,4 +1,4 @@
--- How a text begins, against a needle without ASCII case.
+-- The start of a text, compared with a needle ASCII case-insensitively.
 use Rattle.std.specs.Prelude.{◌≡◌, ℕ, ◌≤◌, List, length, drop}
 use Rattle.h5_markup.specs.Matching.{Open, No, Found, word}
 use Rattle.h5_markup.specs.declared.needle.Spelled.{Spelled}

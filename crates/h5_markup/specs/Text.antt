@@ -1,13 +1,13 @@
--- What stands for something else in a text, and whole texts.
+-- Replacements in a text, and the meaning of whole texts.
 use Rattle.std.specs.Prelude.{◌≡◌, ◌⊎◌, ◌<◌, ℕ, zero, suc, Bool, false, List, [], ◌∷◌, ◌++◌, length, map, if◌then◌else◌, ◌==◌, codes}
 use Rattle.std.specs.Char.{to_ascii_lowercase}
 use Rattle.h5_markup.specs.Matching.{Match, Open, No, Found, and_then, or_else, literal}
 
--- these bytes, in place of what is found
+-- these bytes, as a replacement of the match
 abbrev pub gives : List ℕ → Match (Unit {0}) → Match (List ℕ)
 gives bytes m = and_then m (λ _ rest. Found bytes rest)
 
--- the five character references that are read
+-- the five character references that are supported
 abbrev pub reference : List ℕ → Match (List ℕ)
 reference xs =
     or_else (gives (38 ∷ []) (literal (codes "&amp;") xs))
@@ -28,11 +28,11 @@ replaced xs = gives (0xef ∷ 0xbf ∷ 0xbd ∷ []) (literal (0 ∷ []) xs)
 abbrev pub cleaned : List ℕ → Match (List ℕ)
 cleaned xs = or_else (newline xs) (replaced xs)
 
--- a newline, a NUL, and a reference where they are read
+-- a newline, a NUL, or, with `references`, a character reference
 abbrev pub escape : Bool → List ℕ → Match (List ℕ)
 escape references xs = or_else (if references then reference xs else No) (cleaned xs)
 
--- what comes of the front of a whole text, and then of the rest; a CR that ends it is a newline
+-- the replacement of the start of a whole text, followed by that of the remainder; a CR at the end is a newline
 abbrev pub put : (List ℕ → List ℕ) → ℕ → List ℕ → Match (List ℕ) → List ℕ
 put more x xs Open = (if x == 13 then 10 else x) ∷ more xs
 put more x xs No = x ∷ more xs
@@ -43,19 +43,19 @@ read_up_to zero references xs = []
 read_up_to (suc n) references [] = []
 read_up_to (suc n) references (x ∷ xs) = put (read_up_to n references) x xs (escape references (x ∷ xs))
 
--- what a whole text stands for
+-- the meaning of a whole text
 unfoldable pub text_of : Bool → List ℕ → List ℕ
 text_of references xs = read_up_to (length xs) references xs
 
--- a name: in ASCII lower case
+-- the meaning of a name: in ASCII lower case
 abbrev pub name_of : List ℕ → List ℕ
 name_of xs = map to_ascii_lowercase (text_of false xs)
 
--- a byte that stands for itself at the front of a whole text
+-- a byte at the start of a whole text that means itself
 abbrev pub IsPlainAt : Bool → List ℕ → Type 0
 IsPlainAt references xs = (escape references xs ≡ No) ⊎ ((escape references xs ≡ Open) × (literal (13 ∷ []) xs ≡ No))
 
--- the front of a whole text was read, and what it stands for was put behind what had been there
+-- the start of a whole text was read, and its meaning was appended
 pub record ReadsBit (references : Bool) (xs rest old new : List ℕ) : Type 0 where
   pub same : new ++ text_of references rest ≡ old ++ text_of references xs
   pub shorter : length rest < length xs

@@ -1,4 +1,4 @@
--- Attributes as they are written, without where they lie in memory.
+-- Attributes as they are written, independent of where they are in memory.
 use Rattle.std.specs.Prelude.{◌≡◌, ℕ, List, [], ◌∷◌}
 use Rattle.h5_markup.specs.Attributes as a
 use Rattle.h5_markup.specs.declared.attributes.Written.{Written}

@@ -14,7 +14,7 @@ use super::shared_names::SharedNames;
 use h5_names::Attribute;
 use std::alloc::{AllocError, Global};
 
-/// An attribute as it is written, and what follows it.
+/// An attribute as it is written, and the text after it.
 #[derive(Drop)]
 pub struct Written<'a> {
     pub name: &'a str,
@@ -36,7 +36,7 @@ fn cut_quoted<'a>(name: &'a str, text: &'a str, class: Class) -> Written<'a>
     Written { name, value, rest }
 }
 
-// The value behind a `=` and blanks.
+// The value after a `=` and whitespace.
 fn cut_value<'a>(name: &'a str, text: &'a str) -> Written<'a>
     ensures { written result ≡ a.valued name.entry.now text.entry.now }
 {
@@ -51,7 +51,7 @@ fn cut_value<'a>(name: &'a str, text: &'a str) -> Written<'a>
     }
 }
 
-// What follows a name and blanks.
+// The part after a name and whitespace.
 fn cut_rest<'a>(name: &'a str, text: &'a str) -> Written<'a>
     ensures { written result ≡ a.with_value name.entry.now text.entry.now }
 {
@@ -70,14 +70,14 @@ fn cut_rest<'a>(name: &'a str, text: &'a str) -> Written<'a>
     }
 }
 
-// The attribute at the front.
+// The first attribute of a text.
 fn cut_attribute<'a>(text: &'a str) -> Written<'a>
     requires { 0 < length text.now }
     ensures { WrittenAt text.now (written result) }
 {
     let (name, behind) = cut_name(text, Class::AttributeNameEnd);
     match behind.as_bytes() {
-        // Most are written so, and nothing else is asked of them.
+        // The common form; it needs no other tests.
         [b'=', b'"', ..] => {
             let (_, inner) = behind.split_at(2);
             cut_quoted(name, inner, Class::DoubleQuote)
@@ -86,18 +86,17 @@ fn cut_attribute<'a>(text: &'a str) -> Written<'a>
     }
 }
 
-/// The attributes that were kept, each name once, and whether one came twice.
+/// The attributes of a tag, each name once, and whether a duplicate was dropped.
 #[derive(Drop)]
 pub struct Kept {
     pub attributes: Vec<Attribute>,
     pub duplicates: bool,
 }
 
-// For how many attributes there is room beforehand at the most.
+// The greatest number of attributes to reserve memory for in advance.
 const MOST: usize = 8;
 
-// How many attributes these bytes are likely to be: as many as there is `=` in the front of them. Few bytes are one, and aren't
-// looked at.
+// Estimates the number of attributes: the number of `=` in the first bytes. Few bytes count as one attribute and aren't read.
 fn likely_count(bytes: &[u8]) -> usize {
     if bytes.len() < 16 {
         return 1;
@@ -112,9 +111,8 @@ fn likely_count(bytes: &[u8]) -> usize {
     (count as usize).max(1).min(MOST)
 }
 
-/// The attributes of a tag, by what stands between its name and the `>` that ends it, in their order. One
-/// whose name came before is left out. `AllocError` where memory is refused (HTML standard, sections
-/// 13.2.5.32, "Before attribute name state", to 13.2.5.40, "Self-closing start tag state").
+/// Returns the attributes in the text between a tag's name and its `>`, in order, without duplicates of names. Fails with `AllocError` if
+/// an allocation fails (HTML standard, sections 13.2.5.32, "Before attribute name state", to 13.2.5.40, "Self-closing start tag state").
 pub fn read_attributes(
     alloc: Global,
     names: &mut SharedNames,
@@ -137,7 +135,7 @@ pub fn read_attributes(
         let attribute = cut_attribute(front);
         let name = names.name(alloc, attribute.name)?;
         kept.keep(alloc, name, attribute.value)?;
-        // That it is text holds for the loop's next turn.
+        // The next iteration needs the fact that this is text.
         let _bytes = attribute.rest.as_bytes();
         rest = attribute.rest;
     }

@@ -1,4 +1,4 @@
-//! Tags that are nothing but their names. Most tags are.
+//! Tags that have only a name, as most tags do.
 ghost use Rattle.std.specs.Prelude.{◌≡◌, ◌<◌, false, true, IfSome, IfOk};
 ghost use Rattle.std.specs.Char.{is_ascii_alphabetic};
 ghost use Rattle.h5_token.specs.TokenText.{TagIs, tag_text};
@@ -10,7 +10,7 @@ use super::shared_names::SharedNames;
 use h5_token::{Tag, TagKind};
 use std::alloc::{AllocError, Global};
 
-// Whether a byte may stand in such a name: a letter, or behind the first byte a digit.
+// Returns true only if a byte may be in such a name: a letter or, after the first byte, a digit.
 fn is_name_byte(b: u8, first: bool) -> bool
     ensures name { result ≡ true → is_in Class.NameEnd b ≡ false }
     ensures high { result ≡ true → 13 < b }
@@ -19,7 +19,7 @@ fn is_name_byte(b: u8, first: bool) -> bool
     b.is_ascii_alphabetic() || (!first && b.is_ascii_digit())
 }
 
-// The length of a name of letters and digits that a `>` follows, where there is one.
+// The length of a name of letters and digits, if a `>` follows it.
 fn bare_name(bytes: &[u8]) -> Option<usize>
     ensures { IfSome result (λ n. IsBareName bytes.now n) }
 {
@@ -31,7 +31,7 @@ fn bare_name(bytes: &[u8]) -> Option<usize>
     None
 }
 
-// The tag behind its opening.
+// The tag whose name begins here.
 fn cut_bare<'a>(kind: TagKind, text: &'a str) -> Option<(TagKind, &'a str, &'a str)>
     ensures { IfSome result (λ tag. (tag.0 ≡ kind) × IsBare text.now tag.1.now tag.2.now) }
 {
@@ -41,8 +41,8 @@ fn cut_bare<'a>(kind: TagKind, text: &'a str) -> Option<(TagKind, &'a str, &'a s
     Some((kind, name, rest))
 }
 
-/// The kind and the name of the tag at the front, and what follows it, where the tag is nothing but its name, of letters and
-/// digits (HTML standard, section 13.2.5.8, "Tag name state").
+/// The kind and the name of the tag that the text begins with, and the text after it, if the tag has only a name, of letters and digits
+/// (HTML standard, section 13.2.5.8, "Tag name state").
 #[inline(always)]
 pub fn find_bare<'a>(text: &'a str) -> Option<(TagKind, &'a str, &'a str)>
     ensures { IfSome result (λ tag. IsBareTag text.now tag.0 tag.1.now tag.2.now) }
@@ -59,7 +59,7 @@ pub fn find_bare<'a>(text: &'a str) -> Option<(TagKind, &'a str, &'a str)>
     cut_bare(TagKind::StartTag, inner)
 }
 
-/// Such a tag, by its name. `AllocError` where memory is refused (HTML standard, section 13.2.5.8, "Tag name state").
+/// Returns the tag of such a name. Fails with `AllocError` if an allocation fails (HTML standard, section 13.2.5.8, "Tag name state").
 pub fn make_bare(
     alloc: Global,
     names: &mut SharedNames,

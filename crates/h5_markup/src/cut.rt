@@ -1,21 +1,21 @@
-//! Whole texts, cut where a byte of some class stands.
+//! Splits whole texts at the first byte of a class.
 ghost use Rattle.std.specs.Prelude.{◌≡◌, ℕ, Bool, ◌<◌, ◌≤◌, ◌==◌, true, false, IfSome, not, length, slice_index};
 ghost use Rattle.h5_markup.specs.Cuts.{is_in, before, from, past};
 
 use memchr::memchr;
 
-/// Bytes that end or separate the parts of a tag or a doctype, all of them ASCII.
+/// Classes of bytes that end or separate the parts of a tag or a doctype. All of them are ASCII.
 #[derive(Clone, Copy, Debug, PartialEq, Eq)]
 pub enum Class {
-    /// TAB, LF, FF, CR and SPACE.
+    /// ASCII whitespace: TAB, LF, FF, CR and SPACE.
     Blank,
-    /// A blank or `/`.
+    /// ASCII whitespace or `/`.
     BetweenAttributes,
-    /// A blank, `/` or `>`.
+    /// ASCII whitespace, `/` or `>`.
     NameEnd,
-    /// A blank, `/`, `>` or `=`.
+    /// ASCII whitespace, `/`, `>` or `=`.
     AttributeNameEnd,
-    /// A blank or `>`.
+    /// ASCII whitespace or `>`.
     ValueEnd,
     DoubleQuote,
     SingleQuote,
@@ -37,8 +37,7 @@ fn is_in(class: Class, b: u8) -> bool
     }
 }
 
-// The index of the first byte that is in the class, or the first that isn't; the length where there is
-// none.
+// The index of the first byte that is in the class, or that isn't, as `wanted` says; the length if there is none.
 pub(crate) fn first_index(bytes: &[u8], class: Class, wanted: bool) -> usize
     ensures within { result ≤ length bytes.now }
     ensures passed { (k : ℕ) → k < result → is_in class (slice_index bytes.now k) ≡ not wanted }
@@ -52,7 +51,7 @@ pub(crate) fn first_index(bytes: &[u8], class: Class, wanted: bool) -> usize
     bytes.len()
 }
 
-// The index of the first such byte, or the length where there is none.
+// The index of the first `wanted` byte, or the length if there is none.
 pub(crate) fn first_byte(bytes: &[u8], wanted: u8) -> usize
     ensures within { result ≤ length bytes.now }
     ensures passed { (k : ℕ) → k < result → (slice_index bytes.now k == wanted) ≡ false }
@@ -64,7 +63,7 @@ pub(crate) fn first_byte(bytes: &[u8], wanted: u8) -> usize
     }
 }
 
-// The quote that is all of its class.
+// The only byte of a class, if the class is one of quotes.
 fn quote_of(class: Class) -> Option<u8>
     ensures { IfSome result (λ quote. (x : ℕ) → is_in class x ≡ (x == quote)) }
 {
@@ -75,7 +74,7 @@ fn quote_of(class: Class) -> Option<u8>
     }
 }
 
-// The index of the first byte that is in the class, or the length where there is none.
+// The index of the first byte that is in the class, or the length if there is none.
 fn first_inside(bytes: &[u8], class: Class) -> usize
     ensures within { result ≤ length bytes.now }
     ensures passed { (k : ℕ) → k < result → is_in class (slice_index bytes.now k) ≡ false }
@@ -87,7 +86,7 @@ fn first_inside(bytes: &[u8], class: Class) -> usize
     }
 }
 
-/// What stands before the first byte of the class, and that byte with what follows it.
+/// Returns the text before the first byte of the class, and the text from that byte on.
 pub fn cut_at(text: &str, class: Class) -> (&str, &str)
     ensures front { result.0.now ≡ before (is_in class) text.now }
     ensures back { result.1.now ≡ from (is_in class) text.now }
@@ -96,7 +95,7 @@ pub fn cut_at(text: &str, class: Class) -> (&str, &str)
     text.split_at(n)
 }
 
-/// What follows a run of bytes of the class.
+/// Returns the text after leading bytes of the class.
 pub fn skip(text: &str, class: Class) -> &str
     ensures { result.now ≡ past class text.now }
 {
@@ -108,13 +107,13 @@ pub fn skip(text: &str, class: Class) -> &str
 ghost use Rattle.std.specs.Prelude.{drop};
 ghost use Rattle.h5_markup.specs.Cuts.{CutsName};
 
-/// What stands before the first byte of the class, and what follows that byte.
+/// Returns the text before the first byte of the class, and the text after that byte.
 pub fn cut_past(text: &str, class: Class) -> (&str, &str)
     ensures front { result.0.now ≡ before (is_in class) text.now }
     ensures back { result.1.now ≡ drop 1 (from (is_in class) text.now) }
 {
     let (front, back) = cut_at(text, class);
-    // That it is text holds for the next cut.
+    // The next split needs the fact that this is text.
     let _bytes = back.as_bytes();
     if back.is_empty() {
         return (front, back);
@@ -123,7 +122,7 @@ pub fn cut_past(text: &str, class: Class) -> (&str, &str)
     (front, rest)
 }
 
-/// A first byte with what stands behind it up to the first byte of the class, and what follows.
+/// Returns the first byte with everything up to the next byte of the class, and the text from that byte on. The text must not be empty.
 pub fn cut_name(text: &str, class: Class) -> (&str, &str)
     requires { 0 < length text.now }
     ensures { CutsName class text.now result.0.now result.1.now }

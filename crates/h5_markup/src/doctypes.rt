@@ -15,7 +15,7 @@ use super::text::text_of;
 use h5_token::Doctype;
 use std::alloc::{AllocError, Global};
 
-/// A quoted identifier, and what follows it and blanks.
+/// A quoted identifier, and the text after it and after whitespace.
 #[derive(Clone, Copy)]
 pub struct Quoted<'a> {
     pub identifier: &'a str,
@@ -29,7 +29,7 @@ pub struct Identifiers<'a> {
     pub system_id: Option<&'a str>,
 }
 
-// An identifier up to its closing quote, if that is there.
+// An identifier up to its closing quote, if that follows.
 fn closed_by<'a>(text: &'a str, class: Class) -> Option<Quoted<'a>>
     ensures { option_map quoted_of result
         ≡ d.closed_by (before (is_in class) text.entry.now) (from (is_in class) text.entry.now) }
@@ -59,7 +59,7 @@ fn cut_quoted<'a>(text: &'a str) -> Option<Quoted<'a>>
     }
 }
 
-// An identifier that ends the doctype.
+// An identifier at the end of the doctype.
 fn last<'a>(quoted: Option<Quoted<'a>>) -> Option<&'a str>
     ensures { option_map (λ id. id.now) result ≡ d.last (option_map quoted_of quoted.entry) }
 {
@@ -91,7 +91,7 @@ fn with_system<'a>(
     }
 }
 
-// Behind PUBLIC: one identifier or two.
+// The identifiers after PUBLIC: one or two.
 fn public_ids<'a>(text: &'a str) -> Option<Identifiers<'a>>
     ensures { option_map identifiers_of result ≡ d.public_ids (d.quoted text.entry.now) }
 {
@@ -109,7 +109,7 @@ fn public_ids<'a>(text: &'a str) -> Option<Identifiers<'a>>
     }
 }
 
-// What stands behind the name and blanks, if it fits.
+// The identifiers after the name and whitespace, if they are valid.
 fn cut_identifiers<'a>(text: &'a str) -> Option<Identifiers<'a>>
     ensures { option_map identifiers_of result ≡ d.identifiers text.entry.now }
 {
@@ -161,9 +161,9 @@ fn make_named(alloc: Global, name: &str, rest: &str) -> Result<Doctype, AllocErr
     }
 }
 
-/// The doctype, by what stands between `<!DOCTYPE` and `>`. Where there is no name, or what follows it is
-/// no `PUBLIC` or `SYSTEM` with its identifiers, it has no identifiers and forces quirks. `AllocError` where
-/// memory is refused (HTML standard, sections 13.2.5.53, "DOCTYPE state", to 13.2.5.68).
+/// Returns the doctype of the text between `<!DOCTYPE` and `>`. If there is no name, or the name is followed by anything except `PUBLIC` or
+/// `SYSTEM` with its identifiers, the doctype has no identifiers and forces quirks. Fails with `AllocError` if an allocation fails (HTML
+/// standard, sections 13.2.5.53, "DOCTYPE state", to 13.2.5.68).
 pub fn make_doctype(alloc: Global, text: &str) -> Result<Doctype, AllocError>
     ensures { IfOk result (λ doctype. doctype_text doctype ≡ d.doctype_of text.now) }
 {

@@ -1,12 +1,12 @@
-//! Where a comment, a doctype or a tag ends.
+//! Finds the end of a comment, a doctype or a tag.
 ghost use Rattle.std.specs.Prelude.{◌≡◌, ◌<◌, ◌≤◌, Some, true, length, take, slice_index};
 ghost use Rattle.h5_markup.specs.Ending.{may_end, ends, named, next, walk};
 
 use super::cut::{Class, first_byte, first_index};
 use super::quoted::passed_len;
 
-/// Where in a construct a byte stands, by the names of the standard's states (HTML standard, sections
-/// 13.2.5.6 to 13.2.5.54).
+/// The state at a byte of a comment, a doctype or a tag, by the names of the standard's states (HTML standard, sections 13.2.5.6 to
+/// 13.2.5.54).
 #[derive(Clone, Copy, Debug, PartialEq, Eq)]
 pub enum Inside {
     Comment,
@@ -108,7 +108,7 @@ fn choose(test: bool, yes: Inside, no: Inside) -> Inside
     if test { yes } else { no }
 }
 
-// How many bytes may be passed at once: the next stands at the same place.
+// A number of bytes that don't change the state, and that can be passed at once.
 fn unmoved(bytes: &[u8], place: Inside) -> usize
     ensures within { result ≤ length bytes.now }
     ensures walked { walk place (take result bytes.now) ≡ Some place }
@@ -126,8 +126,8 @@ fn unmoved(bytes: &[u8], place: Inside) -> usize
     }
 }
 
-// The index of the `>` that ends a construct, or the length where none does, and where in the construct
-// that is. The bytes go on from the place.
+// Returns the index of the `>` that ends a comment, a doctype or a tag, or the length if there is none, and the state at that index. The
+// bytes begin in the state `place`.
 fn find_end(bytes: &[u8], place: Inside) -> (usize, Inside)
     ensures within { result.0 ≤ length bytes.now }
     ensures walked { walk place (take result.0 bytes.now) ≡ Some result.1 }
@@ -149,17 +149,17 @@ fn find_end(bytes: &[u8], place: Inside) -> (usize, Inside)
 
 ghost use Rattle.h5_markup.specs.Sought.{EndsAs};
 
-/// What was found of a construct's end.
+/// The result of a search for the end.
 #[derive(Drop)]
 pub enum Sought<'a> {
-    /// What stands before the `>`, what follows it, and where in the construct it is.
+    /// The text before the `>`, the text after it, and the state at the `>`.
     End(&'a str, &'a str, Inside),
-    /// There is none so far, and what comes next stands here in the construct.
+    /// The text has no end so far; the state at the next byte.
     Open(Inside),
 }
 
-/// Looks for the `>` that ends a construct, in what stands behind its opening. The first bytes were
-/// looked at before, and led to the place.
+/// Looks for the `>` that ends a comment, a doctype or a tag, in the text after its opening. The first `from` bytes must have been read
+/// before and have led to the state `place`.
 #[inline(always)]
 pub fn seek_end(text: &str, from: usize, place: Inside) -> Sought<'_>
     requires { from ≤ length text.now }

@@ -1,4 +1,4 @@
-//! The attributes of a tag, kept while it is read.
+//! Collects the attributes of a tag while it is read.
 ghost use Rattle.std.specs.Prelude.{◌≡◌, ◌≤◌, ◌++◌, ◌∷◌, [], true, false, IfOk, OnOk, vec_len, string_bytes, ◌||◌};
 ghost use Rattle.h5_names.specs.AttributeText.{attribute_text, attribute_texts};
 ghost use Rattle.h5_markup.specs.Attributes as a;
@@ -11,7 +11,7 @@ use h5_names::{Attribute, LocalName, Namespace, QualName};
 use std::alloc::{AllocError, Global};
 use std::collections::BTreeSet;
 
-// How many attributes are looked through one after another. Most tags have fewer.
+// The number of attributes that are searched one after another. Most tags have fewer.
 const FEW: usize = 32;
 
 fn make_attribute(alloc: Global, name: LocalName, value: &str) -> Result<Attribute, AllocError>
@@ -35,20 +35,20 @@ fn is_named_in(name: &LocalName, attributes: &[Attribute]) -> bool
     false
 }
 
-/// The attributes that were kept so far, each name once, and whether one came twice. However many there are,
-/// a name is found among them in few steps (HTML standard, section 13.2.5.33, "Attribute name state").
+/// The attributes so far, each name once, and whether there was a duplicate. A name is found in few steps, even among many attributes (HTML
+/// standard, section 13.2.5.33, "Attribute name state").
 #[derive(Drop)]
 pub struct Keeping {
     pub attributes: Vec<Attribute>,
     pub duplicates: bool,
-    // For how many there is to be room with the first.
+    // The number of attributes to reserve memory for with the first one.
     room: usize,
-    // The names of those behind the first few, in order, so that many take little more time each than few.
+    // The names of the attributes after the first few, in order, so that each of many takes little more time than each of few.
     later: BTreeSet<LocalName>,
     ghost later_names: { AreNamesBehind FEW (attribute_texts attributes.items) later },
 }
 
-// Room for so many attributes with the first of them, so that most tags ask for memory once.
+// Reserves memory for this number of attributes with the first one, so that most tags allocate once.
 fn make_room(attributes: &mut Vec<Attribute>, room: usize) -> Result<(), AllocError>
     ensures items { attributes.new.items ≡ attributes.old.items }
     ensures len { vec_len attributes.new ≡ vec_len attributes.old }
@@ -63,7 +63,7 @@ impl Keeping {
     ghost use Rattle.std.specs.Prelude.{List};
     ghost use Rattle.h5_names.specs.AttributeText.{AttributeText};
 
-    /// No attributes, which take no memory. The first makes room for so many.
+    /// No attributes yet, without an allocation. The first one reserves memory for `room` attributes.
     pub fn new(alloc: Global, room: usize) -> Keeping
         ensures attributes { result.attributes.items ≡ [] }
         ensures duplicates { result.duplicates ≡ false }
@@ -76,7 +76,7 @@ impl Keeping {
         }
     }
 
-    // Whether one of them has this name.
+    // Returns true if an attribute has this name.
     fn is_named(&self, name: &LocalName) -> bool
         ensures { result ≡ a.is_named_in name.now (attribute_texts self.now.attributes.items) }
     {
@@ -86,7 +86,7 @@ impl Keeping {
         is_named_in(name, &self.attributes[..FEW]) || self.later.contains(name)
     }
 
-    // Whether one of them has this name, which is noted.
+    // Returns true if an attribute has this name, and records the duplicate.
     fn is_repeated(&mut self, name: &LocalName) -> bool
         ensures named { result ≡ a.is_named_in name.now (attribute_texts self.old.attributes.items) }
         ensures attributes { self.new.attributes ≡ self.old.attributes }
@@ -97,7 +97,7 @@ impl Keeping {
         is_repeated
     }
 
-    // Adds an attribute behind the first few.
+    // Adds an attribute after the first few.
     #[cold]
     #[inline(never)]
     fn push_later(&mut self, attribute: Attribute) -> Result<(), AllocError>
@@ -107,7 +107,7 @@ impl Keeping {
         ensures duplicates { self.new.duplicates ≡ self.old.duplicates }
     {
         let name = attribute.name.local.clone()?;
-        // With room for the attribute, it is added with its name or not at all.
+        // The memory for the attribute is reserved first, so that the attribute and its name are added together or not at all.
         self.attributes.reserve(1)?;
         self.later.insert(name)?;
         self.attributes.push(attribute)?;
@@ -128,8 +128,7 @@ impl Keeping {
         Ok(())
     }
 
-    /// Keeps an attribute, unless its name is there. `AllocError` where memory is refused, and then none is
-    /// added.
+    /// Adds an attribute, unless there is one with its name. Fails with `AllocError` if an allocation fails; then no attribute is added.
     pub fn keep(&mut self, alloc: Global, name: LocalName, value: &str) -> Result<(), AllocError>
         ensures attributes { IfOk result (λ _. (others : List AttributeText) →
             a.distinct (attribute_texts self.new.attributes.items) others
@@ -145,8 +144,8 @@ impl Keeping {
         self.push(attribute)
     }
 
-    /// Keeps an attribute whose value was read, unless its name is there. `AllocError` where memory is refused, and then none
-    /// is added.
+    /// Adds an attribute with a finished value, unless there is one with its name. Fails with `AllocError` if an allocation fails; then no
+    /// attribute is added.
     pub fn keep_finished(&mut self, name: LocalName, value: String) -> Result<(), AllocError>
         ensures attributes { OnOk result (attribute_texts self.new.attributes.items
             ≡ a.kept_with name (string_bytes value) (attribute_texts self.old.attributes.items)) }

@@ -1,14 +1,15 @@
-//! How the parts of HTML are written: names, attributes, doctypes, texts and their character references (HTML standard,
-//! section 13.1, "Writing HTML documents", and what of 13.2.5 a plain reader needs).
+//! The syntax of parts of HTML: names, attributes, doctypes, texts and their character references (HTML standard, section 13.1, "Writing
+//! HTML documents", and those parts of section 13.2.5 that the plain tokenizer needs).
 //!
-//! `matches`, `needle` and `ending` look at the front of a text where more may follow: whether something stands there, and
-//! where a tag, a comment or a doctype ends; `quoted` passes attributes that are written as most are, and `bare` finds and
-//! makes tags that are nothing but their names. `cut` cuts whole texts. `text`, `attributes` and `doctypes` tell what a text,
-//! the inside of a tag or of a doctype stands for; `keeping` keeps each name of an attribute once, `shared_names` makes names,
-//! and `plain` tells which bytes say themselves.
+//! `matches`, `needle` and `ending` look at the start of a text that may continue: is something there, and where does a tag, a comment or a
+//! doctype end? `quoted` passes attributes in their common form, and `bare` finds and makes tags that have only a name. `cut` splits whole
+//! texts. `text`, `attributes` and `doctypes` compute the meaning of a text, and of the inside of a tag or a doctype; `keeping` drops
+//! duplicate attributes, `shared_names` makes names, and `plain` finds bytes that mean themselves.
 //!
-//! It stands on names and tokens alone, and the tokenizer stands on it. Begin with `specs/Matching.antt` (found, not
-//! found, open) and `specs/Cuts.antt`, then `specs/Text.antt` and `src/text.rt`.
+//! Each function returns what its definition in specs/ says.
+//!
+//! This crate depends on h5_names and h5_token. The tokenizers use it. Begin with `specs/Matching.antt` (found, not found, open) and
+//! `specs/Cuts.antt`; then read `specs/Text.antt` and `src/text.rt`.
 #![tactic(auto)]
 
 mod attributes;

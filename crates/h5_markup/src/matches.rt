@@ -1,12 +1,12 @@
-//! The answer of a search.
+//! The result of a search at the start of a text.
 
-/// What stands at the front of a text.
+/// The result of a search at the start of a text that may continue.
 #[derive(Drop)]
 pub enum Match<'a, T> {
-    /// What has come doesn't decide it.
+    /// The text is too short to decide.
     Open,
-    /// It isn't there.
+    /// Not found.
     No,
-    /// It is there, and this text follows it.
+    /// Found; this text follows.
     Found(T, &'a str),
 }

@@ -1,4 +1,4 @@
-//! Texts that are known beforehand.
+//! Searches for fixed texts.
 ghost use Rattle.std.specs.Prelude.{◌≡◌, ◌<◌, ◌-◌, length, slice_index};
 ghost use Rattle.std.specs.Char.{is_ascii_alphabetic};
 ghost use Rattle.h5_markup.specs.Matching.{and_then, ahead, literal, peek, word};
@@ -9,7 +9,7 @@ ghost use Rattle.h5_markup.specs.Spelled.{Spells};
 use super::cut::Class;
 use super::matches::Match;
 
-/// Whether the text begins with the needle.
+/// Returns whether the text begins with the needle.
 pub fn literal<'a>(text: &'a str, needle: &str) -> Match<'a, ()>
     ensures { match_of (λ _. tt) result ≡ literal needle.now text.now }
 {
@@ -22,7 +22,7 @@ pub fn literal<'a>(text: &'a str, needle: &str) -> Match<'a, ()>
     }
 }
 
-// How a text begins, against a needle.
+// A comparison of the start of a text with a needle.
 #[derive(Clone, Copy)]
 enum Spelled {
     Whole,
@@ -30,7 +30,7 @@ enum Spelled {
     Otherwise,
 }
 
-// Compares without ASCII case.
+// Compares ASCII case-insensitively.
 fn compare(text: &[u8], needle: &[u8]) -> Spelled
     ensures { Spells result needle.now text.now }
 {
@@ -47,7 +47,7 @@ fn compare(text: &[u8], needle: &[u8]) -> Spelled
     Spelled::Whole
 }
 
-/// Whether the text begins with the needle, in any ASCII case.
+/// Returns whether the text begins with the needle, ASCII case-insensitively. The needle must end with an ASCII character.
 pub fn word<'a>(text: &'a str, needle: &str) -> Match<'a, ()>
     requires some { 0 < length needle.now }
     requires ascii { slice_index needle.now (length needle.now - 1) < 128 }
@@ -63,14 +63,14 @@ pub fn word<'a>(text: &'a str, needle: &str) -> Match<'a, ()>
     }
 }
 
-/// Whether the byte ends a tag's name: a blank, `/` or `>`.
+/// Returns true if the byte ends a tag's name: ASCII whitespace, `/` or `>`.
 pub fn ends_name(b: u8) -> bool
     ensures { result ≡ is_in Class.NameEnd b }
 {
     b == b'>' || (b == b'/' || b.is_ascii_whitespace())
 }
 
-/// Whether the text begins with this name, in any ASCII case, and the name ends there. All of it is left.
+/// Returns whether the text begins with this name, ASCII case-insensitively, and the name ends there. If found, the whole text follows.
 pub fn name_is<'a>(text: &'a str, name: &str) -> Match<'a, ()>
     ensures { match_of (λ _. tt) result
         ≡ ahead (and_then (word name.now text.now) (λ _ rest. peek (is_in Class.NameEnd) rest)) text.now }
@@ -91,7 +91,7 @@ pub fn name_is<'a>(text: &'a str, name: &str) -> Match<'a, ()>
     }
 }
 
-/// Whether the text begins with an ASCII letter. All of it is left.
+/// Returns whether the text begins with an ASCII letter. If found, the whole text follows.
 pub fn peek_letter<'a>(text: &'a str) -> Match<'a, ()>
     ensures { match_of (λ _. tt) result ≡ peek is_ascii_alphabetic text.now }
 {

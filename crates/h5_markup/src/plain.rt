@@ -1,17 +1,17 @@
-//! Text that stands for itself.
+//! Text that means itself.
 ghost use Rattle.std.specs.Prelude.{◌≡◌, ℕ, true, false, ◌<◌, ◌≤◌, length, slice_index};
 ghost use Rattle.h5_markup.specs.Plain.{is_plain};
 
-/// Whether a byte is text in every state: it begins no tag, no reference and no end of a CDATA part, and stands for no other
-/// byte (HTML standard, section 13.2.5, "Tokenization").
+/// Returns true if a byte is text in every state: it begins no tag, no character reference and no end of a CDATA section, and it isn't
+/// replaced (HTML standard, section 13.2.5, "Tokenization").
 pub fn is_plain(b: u8) -> bool
     ensures { result ≡ is_plain b }
 {
     b > b']' || !(b == b'<' || b == b'&' || b == b'\r' || b == 0 || b == b']')
 }
 
-/// Whether all of a few bytes are text in every state. No byte ends the look, so many are looked at at once. There are
-/// few enough of them that a byte counts them.
+/// Returns true only if each of fewer than 256 bytes is text in every state. The loop doesn't end early, so that several bytes are compared
+/// at once; a byte can count them.
 #[inline(always)]
 pub fn are_plain(bytes: &[u8]) -> bool
     requires { length bytes.now < 256 }
@@ -26,7 +26,7 @@ pub fn are_plain(bytes: &[u8]) -> bool
     others == 0
 }
 
-// How many bytes at the front are plain, as far as 64 at once are.
+// The length of a prefix of plain bytes, in blocks of 64.
 fn plain_blocks(bytes: &[u8]) -> usize
     ensures within { result ≤ length bytes.now }
     ensures plain { (k : ℕ) → k < result → is_plain (slice_index bytes.now k) ≡ true }
@@ -43,7 +43,7 @@ fn plain_blocks(bytes: &[u8]) -> usize
     n
 }
 
-// The index of the first byte that isn't plain, or the length where all are.
+// The index of the first byte that isn't plain, or the length if all are.
 fn first_other(bytes: &[u8]) -> usize
     ensures within { result ≤ length bytes.now }
     ensures plain { (k : ℕ) → k < result → is_plain (slice_index bytes.now k) ≡ true }
@@ -57,8 +57,8 @@ fn first_other(bytes: &[u8]) -> usize
     bytes.len()
 }
 
-/// How many bytes at the front are text in every state: none of them begins a tag, a reference or the end
-/// of a CDATA part, or stands for another byte (HTML standard, section 13.2.5, "Tokenization").
+/// The length of the longest prefix of bytes that are text in every state: none of them begins a tag, a character reference or the end of a
+/// CDATA section, or is replaced (HTML standard, section 13.2.5, "Tokenization").
 pub fn plain_len(text: &str) -> usize
     ensures within { result ≤ length text.now }
     ensures plain { (k : ℕ) → k < result → is_plain (slice_index text.now k) ≡ true }

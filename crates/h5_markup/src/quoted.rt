@@ -1,11 +1,11 @@
-//! Attributes that are written `name="value"`. Most are.
+//! Attributes in the common form `name="value"`.
 ghost use Rattle.std.specs.Prelude.{◌≡◌, ◌<◌, ◌≤◌, IfSome, Some, length, take};
 ghost use Rattle.h5_markup.specs.Ending.{walk};
 ghost use Rattle.h5_markup.specs.declared.ending.Inside.TheVariants.{BeforeAttributeName};
 
 use super::cut::{Class, first_byte, first_index};
 
-// How many bytes the attribute at the front is, if it is written so and its closing quote is there.
+// The length of the first attribute in bytes, if it has this form and its closing quote is there.
 fn quoted_len(bytes: &[u8]) -> Option<usize>
     ensures some { IfSome result (λ n. 0 < n) }
     ensures within { IfSome result (λ n. n ≤ length bytes.now) }
@@ -26,8 +26,7 @@ fn quoted_len(bytes: &[u8]) -> Option<usize>
     }
 }
 
-/// How many bytes may be passed at once where an attribute may begin: blanks, slashes, and attributes that are written
-/// so.
+/// A number of bytes that can be passed at once where an attribute may begin: ASCII whitespace, slashes, and attributes of this form.
 pub(crate) fn passed_len(bytes: &[u8]) -> usize
     ensures within { result ≤ length bytes.now }
     ensures walked { walk BeforeAttributeName (take result bytes.now) ≡ Some BeforeAttributeName }

@@ -1,4 +1,4 @@
-//! Names of tags and attributes, shared between those that are written alike.
+//! Names of tags and attributes. Names with the same spelling share their text.
 ghost use Rattle.std.specs.Prelude.{◌≡◌, ◌<◌, ◌≤◌, IfOk, OnOk, vec_len};
 ghost use Rattle.h5_markup.specs.Text as t;
 
@@ -7,10 +7,10 @@ use h5_names::{KnownName, LocalName};
 use std::alloc::{AllocError, Global};
 use std::marker::Model;
 
-// How many slots there are for names that HTML doesn't know.
+// The number of slots for names that HTML doesn't know.
 const SLOTS: usize = 64;
 
-// A name that stands as it is written.
+// A name that equals its spelling.
 #[derive(Drop)]
 struct AsWritten {
     name: LocalName,
@@ -27,8 +27,7 @@ impl Model for AsWritten {
     ghost invariant = { λ kept. name_of kept.name ≡ kept.name };
 }
 
-/// The names that HTML doesn't know, as they were read last, one for each slot: most of them come again, and then share
-/// their text.
+/// Recent names that HTML doesn't know, one in each slot. Most of them occur again, and then share their text.
 #[derive(Drop)]
 pub struct SharedNames {
     slots: Vec<Option<AsWritten>>,
@@ -48,7 +47,7 @@ fn slot_of(name: &[u8]) -> usize
     (len % SLOTS * 7 + first * 3 + middle * 5 + last) % SLOTS
 }
 
-// A name that HTML doesn't know as it is written: NULs are U+FFFD, newlines LF, and ASCII letters in lower case.
+// A name that HTML doesn't know in this spelling: NULs become U+FFFD, newlines LF, and ASCII letters lower case.
 fn make_name(alloc: Global, text: &str) -> Result<LocalName, AllocError>
     ensures { IfOk result (λ name. name ≡ t.name_of text.now) }
 {
@@ -68,27 +67,27 @@ fn make_slots(slots: &mut Vec<Option<AsWritten>>) -> Result<(), AllocError>
 }
 
 impl SharedNames {
-    /// None yet, which takes no memory.
+    /// No names yet, without an allocation.
     pub fn new(alloc: Global) -> SharedNames {
         SharedNames {
             slots: Vec::new(alloc),
         }
     }
 
-    /// A name as a tag or an attribute has it: NULs are U+FFFD, newlines LF, and ASCII letters in lower case.
-    /// `AllocError` where memory is refused (HTML standard, section 13.2.5.8, "Tag name state").
+    /// Returns the name of a tag or an attribute: NULs become U+FFFD, newlines LF, and ASCII letters lower case. Fails with `AllocError` if
+    /// an allocation fails (HTML standard, section 13.2.5.8, "Tag name state").
     #[inline(always)]
     pub fn name(&mut self, alloc: Global, text: &str) -> Result<LocalName, AllocError>
         ensures { IfOk result (λ name. name ≡ t.name_of text.now) }
     {
-        // Most names are known, and take no memory.
+        // Most names are known, and need no allocation.
         match KnownName::from_text(text) {
             KnownName::Other => self.unknown(alloc, text),
             known => Ok(LocalName::from_known(known.to_ascii_lowercase())),
         }
     }
 
-    // A name that HTML doesn't know as it is written: that of the slot, where it is written so.
+    // A name that HTML doesn't know in this spelling. It is taken from its slot if the name there has this spelling.
     #[inline(never)]
     fn unknown(&mut self, alloc: Global, text: &str) -> Result<LocalName, AllocError>
         ensures { IfOk result (λ name. name ≡ t.name_of text.now) }
@@ -106,7 +105,7 @@ impl SharedNames {
         Ok(name)
     }
 
-    // Keeps a name that stands as it is written.
+    // Stores a name that equals its spelling.
     fn keep(&mut self, slot: usize, name: LocalName) -> Result<(), AllocError>
         requires slot { slot < SLOTS }
         requires name { t.name_of name ≡ name }

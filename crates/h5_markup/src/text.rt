@@ -1,4 +1,4 @@
-//! What stands for something else in a text, and whole texts.
+//! Replacements in a text, and the meaning of whole texts.
 ghost use Rattle.std.specs.Prelude.{◌≡◌};
 ghost use Rattle.h5_markup.specs.MatchOf.{match_of};
 ghost use Rattle.h5_markup.specs.Text as t;
@@ -18,9 +18,8 @@ fn gives<'a>(bytes: &'static str, found: Match<'a, ()>) -> Match<'a, &'static st
     }
 }
 
-/// One of the five character references that are read, at the front of a text: the character that it
-/// stands for, and what follows. `Open` where what follows decides whether there is one (HTML standard,
-/// section 13.2.5.73, "Named character reference state").
+/// One of the five character references that are supported, at the start of a text: its character, and the text after it. `Open` if what
+/// follows decides (HTML standard, section 13.2.5.73, "Named character reference state").
 pub fn reference<'a>(text: &'a str) -> Match<'a, &'static str>
     ensures { match_of (λ text. text.now) result ≡ t.reference text.now }
 {
@@ -36,8 +35,8 @@ pub fn reference<'a>(text: &'a str) -> Match<'a, &'static str>
     }
 }
 
-/// CR LF or CR at the front of a text, which become LF, and what follows. A CR that ends the text is
-/// `Open` (HTML standard, section 13.2.3.5, "Preprocessing the input stream").
+/// CR LF or CR at the start of a text, which become LF, and the text after it. A CR at the end is `Open` (HTML standard, section 13.2.3.5,
+/// "Preprocessing the input stream").
 pub fn newline<'a>(text: &'a str) -> Match<'a, &'static str>
     ensures { match_of (λ text. text.now) result ≡ t.newline text.now }
 {
@@ -47,8 +46,8 @@ pub fn newline<'a>(text: &'a str) -> Match<'a, &'static str>
     }
 }
 
-/// A newline at the front of a text, or a NUL, which becomes U+FFFD, and what follows. A CR that ends the
-/// text is `Open` (HTML standard, section 13.2.5, "Tokenization").
+/// A newline at the start of a text, or a NUL, which becomes U+FFFD, and the text after it. A CR at the end is `Open` (HTML standard,
+/// section 13.2.5, "Tokenization").
 pub fn cleaned<'a>(text: &'a str) -> Match<'a, &'static str>
     ensures { match_of (λ text. text.now) result ≡ t.cleaned text.now }
 {
@@ -60,8 +59,8 @@ pub fn cleaned<'a>(text: &'a str) -> Match<'a, &'static str>
     }
 }
 
-/// What stands for something else at the front of a text: a newline, a NUL, and a reference where they are
-/// read. `Open` where what follows decides (HTML standard, section 13.2.5, "Tokenization").
+/// The replacement at the start of a text: of a newline, a NUL or, with `references`, a character reference. `Open` if what follows decides
+/// (HTML standard, section 13.2.5, "Tokenization").
 pub fn escape<'a>(references: bool, text: &'a str) -> Match<'a, &'static str>
     ensures { match_of (λ text. text.now) result ≡ t.escape references text.now }
 {
@@ -78,7 +77,7 @@ ghost use Rattle.std.specs.Prelude.{IfOk, Bool, length, ◌<◌, ℕ};
 ghost use Rattle.std.specs.String.{string_bytes};
 ghost use Rattle.h5_markup.specs.Text.{ReadsBit, IsPlainAt};
 
-// Reads plain bytes, or one that might have begun something.
+// Reads plain bytes, or a byte that might have begun something.
 fn read_plain<'a>(text: &'a str, out: &mut String) -> Result<&'a str, AllocError>
     requires { 0 < length text.now }
     ensures { IfOk result (λ rest. (references : Bool) → IsPlainAt references text.now
@@ -90,7 +89,7 @@ fn read_plain<'a>(text: &'a str, out: &mut String) -> Result<&'a str, AllocError
     Ok(rest)
 }
 
-// Reads the front of a whole text.
+// Reads the start of a whole text.
 fn read_bit<'a>(references: bool, text: &'a str, out: &mut String) -> Result<&'a str, AllocError>
     requires { 0 < length text.now }
     ensures { IfOk result (λ rest. ReadsBit references text.now rest.now (string_bytes out.old) (string_bytes out.new)) }
@@ -111,9 +110,9 @@ fn read_bit<'a>(references: bool, text: &'a str, out: &mut String) -> Result<&'a
     }
 }
 
-/// What a whole text stands for: newlines are LF, NULs are U+FFFD, and references are read if that is
-/// asked for. What the end of the text leaves undecided stands for itself, but a CR, which is a newline.
-/// `AllocError` where memory is refused (HTML standard, section 13.2.5, "Tokenization").
+/// Returns the meaning of a whole text: newlines become LF, NULs U+FFFD, and, with `references`, character references their characters. An
+/// undecided end means itself, except that a CR is a newline. Fails with `AllocError` if an allocation fails (HTML standard, section
+/// 13.2.5, "Tokenization").
 pub fn text_of(alloc: Global, references: bool, text: &str) -> Result<String, AllocError>
     ensures { IfOk result (λ s. string_bytes s ≡ t.text_of references text.now) }
 {
@@ -124,7 +123,7 @@ pub fn text_of(alloc: Global, references: bool, text: &str) -> Result<String, Al
     let mut rest = text;
     while !rest.is_empty() {
         let after = read_bit(references, rest, &mut out)?;
-        // That it is text holds for the loop's next turn.
+        // The next iteration needs the fact that this is text.
         let _bytes = after.as_bytes();
         rest = after;
     }

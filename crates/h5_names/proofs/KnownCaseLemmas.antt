@@ -21,7 +21,7 @@ neither : (b c : Bool) → (b || c) ≡ true → b ≡ false → c ≡ false →
 neither true c h e f = e
 neither false c h e f = sym h ∙ f
 
--- so where neither has a text, HTML doesn't know it
+-- if neither has a text, HTML doesn't know it
 not_found_if : (b : Bool) (text : List ℕ) (lower : KnownName) → is_known (known_name_of text) ≡ b → ((k : KnownName) → text ≡ name_text k → lower ≡ lowercase_name k) → bytes_eq (name_text lower) text ≡ false → bytes_eq (name_text (mixed_name lower)) text ≡ false → Other ≡ known_name_of text
 not_found_if true text lower known only e f =
     let k : KnownName = known_name_of text in

@@ -1,4 +1,4 @@
--- A name that HTML knows and its text are found by one another, and a text among texts as its name among names.
+-- A known name is found by its text, and its text by its name; a text is in a list of texts exactly if its name is in theirs.
 use Rattle.std.proofs.Common.{◌≡◌, ◌≢◌, ◌≤◌, ℕ, Bool, true, false, not, List, [], ◌∷◌, cond, refl, sym, ap, ◌∙◌, rules}
 use denote.Enum.Bare.{sameb, same_true, same_false}
 use Rattle.h5_names.specs.contracts.known_name.KnownName.{the_type}
@@ -18,7 +18,7 @@ unfolding known_name_of known_names
 known_of_text A = refl
 known_of_text _ = refl
 
--- what is found is the first or among the rest
+-- the name found is the first one, or is found among the others
 either : (b : Bool) (text : List ℕ) (known rest : KnownName) → (b ≡ true → text ≡ name_text known) → (rest ≢ Other → name_text rest ≡ text) → cond b known rest ≢ Other → name_text (cond b known rest) ≡ text
 either true text known rest e f h = sym (e refl)
 either false text known rest e f h = f h
@@ -27,7 +27,7 @@ first_named_text : (names : List KnownName) (text : List ℕ) → first_named na
 first_named_text [] text h = absurd (h refl)
 first_named_text (known ∷ names) text h = either (bytes_eq text (name_text known)) text known (first_named names text) (bytes_eq-Decides text (name_text known)).0 (first_named_text names text) h
 
--- and has the text by which it is found
+-- and it has the text by which it was found
 pub text_of_known : (text : List ℕ) → known_name_of text ≢ Other → name_text (known_name_of text) ≡ text
 unfolding known_name_of
 text_of_known text h = first_named_text known_names text h
@@ -49,13 +49,13 @@ is_known _ = true
 pub known_not_other : (known : KnownName) → is_known known ≡ true → known ≢ Other
 known_not_other known h e = let f : false ≡ true = sym (ap is_known e) ∙ h in cc
 
--- tests of which each is true where the other is
+-- tests that are true in the same cases are equal
 pub same_tests : (b c : Bool) → (b ≡ true → c ≡ true) → (c ≡ true → b ≡ true) → b ≡ c
 same_tests true c f g = sym (f refl)
 same_tests false true f g = g refl
 same_tests false false f g = refl
 
--- a text that HTML knows is a text exactly if it is that of the text's name
+-- a known text equals a text exactly if it is the text of that text's name
 pub same_by_name : (known text : List ℕ) → is_known (known_name_of known) ≡ true → bytes_eq known (name_text (known_name_of text)) ≡ bytes_eq known text
 same_by_name known text h =
     same_tests _ _
@@ -93,7 +93,7 @@ pub other_if : (known : KnownName) → is_known known ≡ false → Other ≡ kn
 other_if Other h = refl
 other_if _ h = cc
 
--- what is kept by its number
+-- a name that is stored as a number has its text
 pub text_of_name : (text : List ℕ) (known : KnownName) → known ≡ known_name_of text → known ≢ Other → name_text known ≡ text
 text_of_name text known e h = ap name_text e ∙ text_of_known text (λ k. h (e ∙ k))
 
@@ -117,7 +117,7 @@ abbrev pub are_known : List (List ℕ) → Bool
 are_known [] = true
 are_known (known ∷ names) = is_known (known_name_of known) && are_known names
 
--- a set of texts that HTML knows holds a text as it holds the text of the text's name
+-- a list of known texts has a text exactly if it has the text of that text's name
 pub any_by_name : (names : List (List ℕ)) (text : List ℕ) → are_known names ≡ true → list_any (λ n. bytes_eq n (name_text (known_name_of text))) names ≡ list_any (λ n. bytes_eq n text) names
 any_by_name [] text h = refl
 any_by_name (known ∷ names) text h =

@@ -16,7 +16,7 @@ pub key_at_number : (known : KnownName) → get_or KEYS (tag_of the_type known) 
 key_at_number A = refl
 key_at_number _ = refl
 
--- the number of each name of up to seven bytes stands at the slot of its key
+-- the number of each name of up to seven bytes is at the slot of its key
 abbrev name_by_key : ℕ → KnownName
 name_by_key key = nth_name (slice_index SHORT_NUMBERS (short_slot key))
 
@@ -56,7 +56,7 @@ same_packed (x ∷ xs) (y ∷ ys) a b e =
 same_texts : (xs ys : List ℕ) → AreBytes (reverse xs) → AreBytes (reverse ys) → key_of xs ≡ key_of ys → xs ≡ ys
 same_texts xs ys a b e = sym (reverse-reverse xs) ∙ ap (λ (l : List ℕ). reverse l) (same_packed (reverse xs) (reverse ys) a b e) ∙ reverse-reverse ys
 
--- what has the key of a text has the text
+-- a name with the key of a text has that text
 pub by_key : (known : KnownName) (text : List ℕ) → AreBytes (reverse text) → short_key (name_text known) ≡ key_of text → known ≡ known_name_of text
 by_key known text bytes h = at (nat_lt 7 (length (name_text known))) h
   where
@@ -64,7 +64,7 @@ by_key known text bytes h = at (nat_lt 7 (length (name_text known))) h
     at true e = let some = some_key (reverse text) in absurd (omega (arith, some, e))
     at false e = found text known (same_texts (name_text known) text (from_test (reverse (name_text known)) (name_is_bytes known)) bytes e)
 
--- and where what stands at its slot has another, HTML doesn't know it
+-- if the name at the slot of a text has another key, HTML doesn't know the text
 short_at : (known : KnownName) (text : List ℕ) → text ≡ name_text known → length text ≤ 7 → name_by_key (key_of text) ≡ known
 short_at known text e few =
     let short : nat_lt 7 (length (name_text known)) ≡ false = le-ltb 7 (length (name_text known)) (omega (arith, few, ap (λ (l : List ℕ). length l) e)) in
@@ -86,7 +86,7 @@ no_key text at few e differs = whether (is_known (known_name_of text)) refl
 
 -- ---- keys byte by byte
 
--- what a key of so many bytes is below
+-- an upper bound of a key of n bytes
 abbrev pub limit : ℕ → ℕ
 limit zero = 2
 limit (suc n) = limit n * 256
@@ -104,7 +104,7 @@ limit_fits (suc (suc (suc (suc (suc zero))))) h = omega arith
 limit_fits (suc (suc (suc (suc (suc (suc zero)))))) h = omega arith
 limit_fits (suc (suc (suc (suc (suc (suc (suc n))))))) h = absurd (omega (arith, h))
 
--- the bytes up to a place, the last first, and one more
+-- the bytes up to an index, in reverse order, and one more
 pub one_more : (xs : List ℕ) (i x : ℕ) → i < length xs → x ≡ get_or xs i 0 → reverse (take (i + 1) xs) ≡ x ∷ reverse (take i xs)
 one_more xs i x h e =
     ap (λ (l : List ℕ). reverse l) (take_more xs i 0 h) ∙ reverse-append (take i xs) (get_or xs i 0 ∷ []) ∙ ap (λ y. y ∷ reverse (take i xs)) (sym e)

@@ -225,7 +225,7 @@ use Rattle.h5_names.specs.declared.known_name.KnownName.TheVariants.{
   Other,
 }
 
--- the text of a name that HTML knows
+-- the text of a known name
 abbrev pub name_text : KnownName → List ℕ
 name_text A = codes "a"
 name_text Action = codes "action"
@@ -449,7 +449,7 @@ name_text Width = codes "width"
 name_text Xmp = codes "xmp"
 name_text Other = []
 
--- the name in ASCII lower case
+-- the known name in ASCII lower case
 abbrev pub lowercase_name : KnownName → KnownName
 lowercase_name AltGlyph = AltGlyphLowercase
 lowercase_name AltGlyphDef = AltGlyphDefLowercase
@@ -491,7 +491,7 @@ lowercase_name RadialGradient = RadialGradientLowercase
 lowercase_name TextPath = TextPathLowercase
 lowercase_name known = known
 
--- the name in mixed case that is this one in lower case, or else this one
+-- the known name in mixed case whose lower case is this one, or else this one itself
 abbrev pub mixed_name : KnownName → KnownName
 mixed_name AltGlyphLowercase = AltGlyph
 mixed_name AltGlyphDefLowercase = AltGlyphDef
@@ -533,7 +533,7 @@ mixed_name RadialGradientLowercase = RadialGradient
 mixed_name TextPathLowercase = TextPath
 mixed_name known = known
 
--- all of them, in the order of `KnownName`
+-- all known names, in the order of `KnownName`
 unfoldable pub known_names : List KnownName
 known_names =
     A ∷ Action ∷ Address ∷ Alt ∷ AltGlyph ∷ AltGlyphLowercase ∷ AltGlyphDef ∷ AltGlyphDefLowercase ∷
@@ -565,20 +565,20 @@ known_names =
     TextPath ∷ TextPathLowercase ∷ Tfoot ∷ Th ∷ Thead ∷ Title ∷ Tr ∷ Track ∷ Tt ∷ TypeName ∷ U ∷
     Ul ∷ Value ∷ Var ∷ Wbr ∷ Width ∷ Xmp ∷ []
 
--- the first of these names that has this text, or `Other`
+-- the first of these names with this text, or `Other`
 abbrev pub first_named : List KnownName → List ℕ → KnownName
 first_named [] text = Other
 first_named (known ∷ names) text = if bytes_eq text (name_text known) then known else first_named names text
 
--- the name that HTML knows by this text, or `Other`
+-- the known name with this text, or `Other`
 unfoldable pub known_name_of : List ℕ → KnownName
 known_name_of text = first_named known_names text
 
--- the name at this place of the list
+-- the known name at this index of the list, or `Other`
 unfoldable pub nth_name : ℕ → KnownName
 nth_name n = get_or known_names n Other
 
--- where the number of the name in lower case stands, of which this is the text in lower or mixed case
+-- the slot of the number of the name in lower case whose text, in lower or mixed case, is this one
 unfoldable pub slot_of : List ℕ → ℕ
 slot_of text =
     if length text == 0 || nat_lt 19 (length text) then 0

@@ -1,4 +1,4 @@
-//! Names that HTML knows in lower case, and with capitals.
+//! The known names in lower case and in mixed case.
 ghost use Rattle.std.specs.Prelude.{◌≡◌};
 ghost use Rattle.h5_names.specs.KnownNames.{lowercase_name, mixed_name};
 
@@ -51,7 +51,7 @@ pub fn in_lower_case(known: KnownName) -> KnownName
     }
 }
 
-/// The name in mixed case that is this one in lower case, or else this one.
+/// The known name in mixed case whose lower case is `known`, or else `known` itself.
 pub fn in_mixed_case(known: KnownName) -> KnownName
     ensures { result ≡ mixed_name known }
 {

@@ -6,9 +6,9 @@ ghost use Rattle.h5_names.specs.KnownNames.{known_name_of, name_text};
 use super::known_cases::{in_lower_case, in_mixed_case};
 use super::known_slots::{candidate, short_name};
 
-/// A name that HTML knows, of an element or an attribute, or `Other`.
+/// A name of an element or an attribute that HTML knows, or `Other`.
 ///
-/// Each stands for its own text in lower case, but for those whose text stands above them.
+/// The text of a variant is its own name in lower case, unless another text is given above the variant.
 #[derive(Clone, Copy, Debug, PartialEq, Eq)]
 pub enum KnownName {
     A,

@@ -1,11 +1,11 @@
-//! Where a name that HTML knows is found by its text.
+//! Finds a known name by its text.
 ghost use Rattle.std.specs.Prelude.{◌≡◌, ◌<◌, ◌≤◌, ◌+◌, ◌*◌, ◌^◌, bit_or, get_or, length, reverse};
 ghost use Rattle.h5_names.specs.KnownNames.{known_name_of, lowercase_name, name_text, nth_name, slot_of};
 ghost use Rattle.h5_names.specs.ShortNames.{AreBytes, key_of, short_key, short_slot};
 
 use super::KnownName;
 
-// The names by their numbers, which are their places in the order of `KnownName`.
+// The names by their numbers: the order is that of `KnownName`.
 #[tactic(auto, unfolding(crate::specs::KnownNames::nth_name, crate::specs::KnownNames::known_names))]
 fn name_of_number(number: u8) -> KnownName
     ensures { result ≡ nth_name number }
@@ -296,7 +296,7 @@ static NUMBERS: [u8; 1024] = [
 // The bit in which an ASCII letter differs from its capital.
 const CASE: u8 = 0x20;
 
-// A byte, with a capital taken for its letter.
+// A byte, where a capital letter becomes lower case.
 fn folded(byte: u8) -> usize
     ensures value { result ≡ bit_or byte 32 }
     ensures below { result < 256 }
@@ -304,9 +304,8 @@ fn folded(byte: u8) -> usize
     (byte | CASE) as usize
 }
 
-// Where the number of a text's name in lower case stands, if HTML knows the text: the capitals of a name count as
-// their letters, and beyond that no two known texts have the same slot. The factors were found by trying; a new name
-// may need new ones.
+// The slot of the number of a text's name in lower case, if HTML knows the text. Capitals count as lower case; apart from that, no two
+// known texts have the same slot. The factors were found by trial; a new name may need new ones.
 #[tactic(auto, unfolding(crate::specs::KnownNames::slot_of))]
 fn slot(text: &str) -> usize
     ensures value { result ≡ slot_of text.now }
@@ -324,7 +323,7 @@ fn slot(text: &str) -> usize
         % 1024
 }
 
-/// The one name in lower case that may have this text in lower or mixed case.
+/// The only name in lower case that can have this text, in lower or mixed case.
 pub fn candidate(text: &str) -> KnownName
     ensures { (known : KnownName) → text.now ≡ name_text known → result ≡ lowercase_name known }
 {
@@ -389,7 +388,7 @@ static SHORT_NUMBERS: [u8; 1024] = [
     255, 255, 255, 255, 255, 255, 255, 255, 255, 255, 255, 255, 255, 255, 255,
 ];
 
-// The key of each name of up to seven bytes, and 0 of a longer one, by the numbers of the names.
+// The key of each name of up to seven bytes, and 0 for a longer one, by the numbers of the names.
 static KEYS: [u64; 221] = [
     353,
     388554759434094,
@@ -614,7 +613,7 @@ static KEYS: [u64; 221] = [
     1,
 ];
 
-// A key that goes on by a byte.
+// A key with one more byte.
 fn with_byte(key: u64, byte: u8) -> u64
     requires { key < 2 ^ 56 }
     ensures value { result ≡ key * 256 + byte }
@@ -623,7 +622,7 @@ fn with_byte(key: u64, byte: u8) -> u64
     key * 256 + byte as u64
 }
 
-// A text of up to seven bytes as one number: its bytes behind a 1, so that no two texts have the same.
+// A text of up to seven bytes as one number: a 1 and then its bytes, so that no two texts have the same number.
 fn key_of(bytes: &[u8]) -> u64
     requires { length bytes.now ≤ 7 }
     ensures value { result ≡ key_of bytes.now }
@@ -636,8 +635,8 @@ fn key_of(bytes: &[u8]) -> u64
     key
 }
 
-// Where the number of the name with this key stands, if HTML knows one of up to seven bytes. The factor was found by
-// trying; a new name may need a new one.
+// The slot of the number of the name with this key, if HTML knows such a name of up to seven bytes. The factor was found by trial; a new
+// name may need a new one.
 #[tactic(auto, unfolding(crate::specs::ShortNames::short_slot))]
 fn short_slot(key: u64) -> usize
     ensures value { result ≡ short_slot key }
@@ -646,7 +645,7 @@ fn short_slot(key: u64) -> usize
     (key.wrapping_mul(16648395651673952267) >> 54) as usize
 }
 
-// The number at this place of a table.
+// The entry of a table at an index.
 fn nth_key(keys: &[u64], number: usize) -> u64
     requires { number < length keys.now }
     ensures { result ≡ get_or keys.now number 0 }
@@ -654,14 +653,14 @@ fn nth_key(keys: &[u64], number: usize) -> u64
     keys[number]
 }
 
-// The key of a name of up to seven bytes, or 0 of a longer one.
+// The key of a name of up to seven bytes, or 0 for a longer one.
 fn key_of_name(known: KnownName) -> u64
     ensures { result ≡ short_key (name_text known) }
 {
     nth_key(&KEYS, known as usize)
 }
 
-/// The name that HTML knows by this text of up to seven bytes, or `Other`. One number tells it, and no text is compared.
+/// The known name with this text of at most seven bytes, or `Other`. Compares one number instead of texts.
 pub fn short_name(text: &str) -> KnownName
     requires { length text.now ≤ 7 }
     ensures { result ≡ known_name_of text.now }

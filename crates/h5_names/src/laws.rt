@@ -11,16 +11,15 @@ use super::{Attribute, ExpandedName, LocalName, Namespace, Prefix, QualName};
 use std::cmp::Ordering;
 use std::hash::Hash;
 
-/// Two local names, namespaces or prefixes are equal exactly if their texts are, and they stand in the
-/// order of their texts, byte by byte.
+/// Two local names, namespaces or prefixes are equal exactly if their texts are. They are ordered by their texts, byte by byte.
 pub fn names_compare_as_their_texts()
     ensures local_names { AreOfTexts ⟦<LocalName as PartialEq>⟧.eq ⟦<LocalName as Ord>⟧.cmp }
     ensures namespaces { AreOfTexts ⟦<Namespace as PartialEq>⟧.eq ⟦<Namespace as Ord>⟧.cmp }
     ensures prefixes { AreOfTexts ⟦<Prefix as PartialEq>⟧.eq ⟦<Prefix as Ord>⟧.cmp }
 {}
 
-/// Qualified names, expanded names and attributes stand in the order of their texts: first the prefix, where
-/// none comes before any, then the namespace, then the local name, and of an attribute then the value.
+/// Qualified names, expanded names and attributes are ordered by their texts: by prefix (none before any), then namespace, then local name,
+/// and attributes then by value. Expanded names have no prefix.
 pub fn parts_are_ordered_as_their_texts()
     ensures qual_names { (x y : QualName) → ⟦<QualName as Ord>⟧.cmp x y ≡ name_order x y }
     ensures expanded_names { (x y : ExpandedName) → ⟦<ExpandedName<'static> as Ord>⟧.cmp x y
@@ -29,7 +28,7 @@ pub fn parts_are_ordered_as_their_texts()
         ≡ attribute_order (attribute_text x) (attribute_text y) }
 {}
 
-/// What a hasher is fed of a name or an attribute are its texts, in the same order.
+/// `Hash` feeds a hasher the texts of a name or an attribute, in the order of its parts.
 pub fn texts_are_what_is_hashed()
     ensures local_names { (x : List ℕ) → ⟦<LocalName as Hash>⟧.hash_input x ≡ fed.str x }
     ensures namespaces { (x : List ℕ) → ⟦<Namespace as Hash>⟧.hash_input x ≡ fed.str x }
@@ -53,14 +52,14 @@ pub fn names_are_equal_as_their_parts()
     ensures qual_names { (x y : QualName) → IsTrue (⟦<QualName as PartialEq>⟧.eq x y) ↔ (x ≡ y) }
     ensures attributes { (x y : Attribute) →
         IsTrue (⟦<Attribute as PartialEq>⟧.eq x y) ↔ (attribute_text x ≡ attribute_text y) }
-    // The tests that definitions make are those of the code, and tell equal from unequal.
+    // The definitions test equality as the code does; two attributes are equal by that test exactly if their texts are.
     ensures names_test { (x y : QualName) → ⟦<QualName as PartialEq>⟧.eq x y ≡ is_same_name x y }
     ensures attributes_test { (x y : Attribute) →
         ⟦<Attribute as PartialEq>⟧.eq x y ≡ is_same_attribute (attribute_text x) (attribute_text y) }
     ensures same_attribute { (x y : AttributeText) → IsTrue (is_same_attribute x y) ↔ (x ≡ y) }
 {}
 
-/// `Eq` and `Ord` agree: what is equal is what neither is less nor greater.
+/// `Eq` and `Ord` agree: two values are equal exactly if neither is less than the other.
 pub fn order_agrees_with_equality()
     ensures local_names { AgreeOn ⟦<LocalName as PartialEq>⟧.eq ⟦<LocalName as Ord>⟧.cmp }
     ensures namespaces { AgreeOn ⟦<Namespace as PartialEq>⟧.eq ⟦<Namespace as Ord>⟧.cmp }
@@ -77,12 +76,12 @@ pub fn order_agrees_with_equality()
     agree_at::<ExpandedName<'static>>();
 }
 
-// What `Ord` promises at any type.
+// The agreement that `Ord` promises for any type.
 fn agree_at<T: Ord>()
     ensures { AgreeOn T.eq T.cmp }
 {}
 
-/// `Hash` agrees with `Eq`: equal names are hashed alike.
+/// `Hash` agrees with `Eq`: equal values have the same hash input.
 pub fn hashes_agree_with_equality()
     ensures local_names { HashAgreesOn ⟦<LocalName as PartialEq>⟧.eq ⟦<LocalName as Hash>⟧.hash_input }
     ensures namespaces { HashAgreesOn ⟦<Namespace as PartialEq>⟧.eq ⟦<Namespace as Hash>⟧.hash_input }

@@ -1,13 +1,13 @@
 //! Names of elements and attributes, and attributes themselves.
 //!
-//! A contract sees a name as its text, and two names are equal if their texts are. What stands behind a name is this
-//! crate's own: `local_name`, `name_prefix` and `namespace_url` have the parts of names, `qualified` whole names, and
-//! attributes. `known_name` has the names that HTML knows, `known_slots` finds one by its text, and `known_cases` has
-//! them in lower case and with capitals. `namespaces` has the namespaces that HTML knows, and `laws` what holds of
-//! names as of their texts.
+//! Contracts see a local name, a namespace or a prefix as its text, a list of bytes. How a name is stored is private to this crate: a known
+//! name is stored as a number, and is made and cloned without memory.
 //!
-//! It stands on no other crate, and nearly all others stand on it. Begin with `specs/AttributeText.antt` and
-//! `src/qualified.rt`.
+//! `local_name`, `name_prefix` and `namespace_url` have the parts of names; `qualified` has whole names and attributes. `known_name` has
+//! the names that HTML knows, `known_slots` finds one by its text, and `known_cases` converts between lower and mixed case. `namespaces`
+//! has the namespaces that HTML knows. `laws` relates equality, order and hash to the texts.
+//!
+//! This crate depends on no other, and nearly all others depend on it. Begin with `specs/AttributeText.antt` and `src/qualified.rt`.
 #![tactic(auto)]
 
 mod known_cases;

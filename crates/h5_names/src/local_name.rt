@@ -16,7 +16,7 @@ use std::hash::{Hash, Hasher};
 use std::marker::Model;
 use std::sync::Arc;
 
-// What stands behind a local name: a name that HTML knows, or the text of any other, which equal names share.
+// The storage of a local name: the number of a known name, or any other text, which clones share.
 #[derive(Debug, Drop)]
 enum Kept {
     Known(KnownName),
@@ -43,7 +43,7 @@ impl Model for LocalName {
 }
 
 impl LocalName {
-    // The local name with this text, which HTML doesn't know.
+    // The local name with this text, which HTML must not know.
     fn from_unknown(text: String) -> Result<LocalName, AllocError>
         requires { known_name_of (string_bytes text) ≡ KnownName.Other }
         ensures { IfOk result (λ name. name ≡ string_bytes text) }
@@ -54,8 +54,7 @@ impl LocalName {
         })
     }
 
-    /// The local name with this text, or an `AllocError` where memory is refused. A text that HTML knows
-    /// takes none.
+    /// Returns the local name with this text. Fails with `AllocError` if an allocation fails; a text that HTML knows needs none.
     pub fn new(alloc: Global, text: &str) -> Result<LocalName, AllocError>
         ensures value { IfOk result (λ name. name ≡ text.now) }
         ensures free { known_name_of text.now ≢ KnownName.Other → IsOk result }
@@ -66,8 +65,8 @@ impl LocalName {
         }
     }
 
-    /// The local name with this text, which is moved, or an `AllocError` where memory is refused. A text that HTML knows
-    /// takes none.
+    /// Returns the local name with this text, which is moved. Fails with `AllocError` if an allocation fails; a text that HTML knows needs
+    /// none.
     pub fn from_string(text: String) -> Result<LocalName, AllocError>
         ensures value { IfOk result (λ name. name ≡ string_bytes text) }
         ensures free { known_name_of (string_bytes text) ≢ KnownName.Other → IsOk result }
@@ -78,7 +77,7 @@ impl LocalName {
         }
     }
 
-    /// The local name that HTML knows as this, which takes no memory. That of `Other` is empty.
+    /// The local name of a known name, without an allocation. That of `Other` is empty.
     pub fn from_known(known: KnownName) -> LocalName
         ensures { result ≡ name_text known }
     {
@@ -97,7 +96,7 @@ impl LocalName {
         }
     }
 
-    /// Which of the names that HTML knows this is, without a look at its text.
+    /// Returns the known name with this text, or `Other`. Doesn't read the text.
     pub fn known(&self) -> KnownName
         ensures { result ≡ known_name_of self.now }
     {
@@ -107,8 +106,7 @@ impl LocalName {
         }
     }
 
-    /// Whether this is the name that HTML knows as this, without a look at its text. The text of `Other` is
-    /// empty.
+    /// Returns true if the text is that of the known name, which is empty for `Other`. Reads the text only for `Other`.
     pub fn is(&self, known: KnownName) -> bool
         ensures { result ≡ is_same_text self.now (name_text known) }
     {
@@ -118,8 +116,8 @@ impl LocalName {
         known != KnownName::Other || self.as_str() == known.as_str()
     }
 
-    /// An equal local name, which shares the text, or an `AllocError` where it can't be shared so often. A name that HTML knows
-    /// can always be had.
+    /// Returns an equal local name, which shares the text. Fails with `AllocError` if the text has too many sharers; for a name that HTML
+    /// knows, it succeeds.
     #[inline(always)]
     pub fn clone(&self) -> Result<LocalName, AllocError>
         ensures value { IfOk result (λ name. name ≡ self.now) }

@@ -12,10 +12,10 @@ use std::cmp::Ordering;
 use std::hash::{Hash, Hasher};
 use std::marker::Model;
 
-/// What stands before the colon of a name (DOM standard: namespace prefix).
+/// The part of a name before the colon (DOM standard: namespace prefix).
 #[derive(Debug, Drop)]
 pub struct Prefix {
-    // Few names have one, so it takes the room of a pointer.
+    // Boxed, since few names have a prefix: it takes the size of a pointer.
     text: Box<String>,
 }
 
@@ -29,7 +29,7 @@ impl Model for Prefix {
 }
 
 impl Prefix {
-    /// The prefix with this text, or an `AllocError` where memory is refused.
+    /// Returns the prefix with this text. Fails with `AllocError` if an allocation fails.
     pub fn new(alloc: Global, text: &str) -> Result<Prefix, AllocError>
         ensures { IfOk result (λ name. name ≡ text.now) }
     {
@@ -45,7 +45,7 @@ impl Prefix {
         self.text.as_str()
     }
 
-    /// An equal prefix, or an `AllocError` where memory is refused.
+    /// Returns an equal prefix. Fails with `AllocError` if an allocation fails.
     pub fn clone(&self) -> Result<Prefix, AllocError>
         ensures { IfOk result (λ name. name ≡ self.now) }
     {

@@ -43,7 +43,7 @@ impl Known {
     }
 }
 
-// The namespace that HTML knows by this text.
+// The known namespace with this text.
 fn find_known(text: &str) -> Option<Known>
     ensures { result ≡ found_url text.now }
 {
@@ -59,7 +59,7 @@ fn find_known(text: &str) -> Option<Known>
     }
 }
 
-// Whether the texts of two are the same, without a look at them.
+// Returns true if the texts of two known namespaces are equal. Doesn't read the texts.
 #[tactic(auto, using(crate::proofs::UrlLemmas::same_by_number))]
 fn are_same(one: Known, another: Known) -> bool
     ensures { result ≡ bytes_eq (known_text one) (known_text another) }
@@ -67,17 +67,17 @@ fn are_same(one: Known, another: Known) -> bool
     one == another
 }
 
-// What stands behind a namespace: one of those that HTML knows, or a text. No tree of HTML has any other, so that takes
-// the room of a pointer.
+// The storage of a namespace: one that HTML knows, or a text. The text is boxed, so that it takes the size of a pointer: in trees of HTML
+// all namespaces are known.
 #[derive(Debug, Drop)]
 enum Url {
     Known(Known),
     Other(Box<String>),
 }
 
-/// The namespace that a name belongs to, by its URL (DOM standard: namespace). The empty text is no namespace.
+/// The namespace of a name, by its URL (DOM standard: namespace). An empty text means that there is no namespace.
 ///
-/// Those that HTML knows take no memory.
+/// The namespaces that HTML knows take no memory.
 #[derive(Debug, Drop)]
 pub struct Namespace {
     url: Url,
@@ -95,8 +95,7 @@ impl Model for Namespace {
 }
 
 impl Namespace {
-    /// The namespace with this text, or an `AllocError` where memory is refused. One that HTML knows takes
-    /// none.
+    /// Returns the namespace with this text. Fails with `AllocError` if an allocation fails; a namespace that HTML knows needs none.
     pub fn new(alloc: Global, text: &str) -> Result<Namespace, AllocError>
         ensures value { IfOk result (λ name. name ≡ text.now) }
         ensures free { IsTrue (is_some (found_url text.now)) → IsOk result }
@@ -111,7 +110,7 @@ impl Namespace {
         }
     }
 
-    /// No namespace, which takes no memory.
+    /// No namespace. Doesn't allocate.
     pub fn none() -> Namespace
         ensures { result ≡ [] }
     {
@@ -120,7 +119,7 @@ impl Namespace {
         }
     }
 
-    /// HTML's namespace, which takes no memory.
+    /// The HTML namespace. Doesn't allocate.
     pub fn html() -> Namespace
         ensures { result ≡ html_text }
     {
@@ -139,28 +138,28 @@ impl Namespace {
         }
     }
 
-    /// Whether it is HTML's, without a look at its text.
+    /// Returns true for the HTML namespace. Doesn't read the text.
     pub fn is_html(&self) -> bool
         ensures { result ≡ is_same_text self.now html_text }
     {
         matches!(self.url, Url::Known(Known::Html))
     }
 
-    /// Whether it is MathML's, without a look at its text.
+    /// Returns true for the MathML namespace. Doesn't read the text.
     pub fn is_mathml(&self) -> bool
         ensures { result ≡ is_same_text self.now mathml_text }
     {
         matches!(self.url, Url::Known(Known::MathMl))
     }
 
-    /// Whether it is SVG's, without a look at its text.
+    /// Returns true for the SVG namespace. Doesn't read the text.
     pub fn is_svg(&self) -> bool
         ensures { result ≡ is_same_text self.now svg_text }
     {
         matches!(self.url, Url::Known(Known::Svg))
     }
 
-    /// An equal namespace, or an `AllocError` where memory is refused. One that HTML knows takes none.
+    /// Returns an equal namespace. Fails with `AllocError` if an allocation fails; a namespace that HTML knows needs none.
     #[inline(always)]
     pub fn clone(&self) -> Result<Namespace, AllocError>
         ensures value { IfOk result (λ name. name ≡ self.now) }

@@ -1,7 +1,7 @@
 //! The namespaces that HTML knows (Infra standard, section 8, "Namespaces"), as texts for
 //! [`Namespace::new`](crate::Namespace::new).
 
-/// No namespace, as most attributes have it.
+/// No namespace, which most attributes have.
 pub const NONE: &str = "";
 
 /// HTML.

@@ -1,4 +1,4 @@
-//! Names with their namespaces, and attributes.
+//! Qualified names, and attributes.
 ghost use Rattle.std.specs.Prelude.{◌≡◌, IfOk};
 ghost use Rattle.std.specs.String.{string_bytes};
 
@@ -9,7 +9,7 @@ use std::alloc::AllocError;
 
 /// A name with its prefix and its namespace (DOM standard: qualified name).
 ///
-/// Equality and order are those of the texts, in the order prefix, namespace, local name.
+/// Equality and order are those of the texts: prefix, then namespace, then local name.
 #[derive(Debug, Drop, PartialEq, Eq, PartialOrd, Ord, Hash)]
 pub struct QualName {
     pub prefix: Option<Prefix>,
@@ -18,14 +18,14 @@ pub struct QualName {
 }
 
 impl QualName {
-    /// The name of these parts.
+    /// Makes a name from its parts.
     pub fn new(prefix: Option<Prefix>, ns: Namespace, local: LocalName) -> QualName
         ensures { result ≡ record { prefix = prefix; ns = ns; local = local } }
     {
         QualName { prefix, ns, local }
     }
 
-    /// The namespace and the local name, lent.
+    /// The namespace and the local name, borrowed.
     pub fn expanded(&self) -> ExpandedName<'_>
         ensures ns { result.ns.now ≡ self.now.ns }
         ensures local { result.local.now ≡ self.now.local }
@@ -36,7 +36,7 @@ impl QualName {
         }
     }
 
-    /// An equal name, or an `AllocError` where memory is refused.
+    /// Returns an equal name. Fails with `AllocError` if an allocation fails.
     #[inline(always)]
     pub fn clone(&self) -> Result<QualName, AllocError>
         ensures { IfOk result (λ name. name ≡ self.now) }
@@ -53,8 +53,7 @@ impl QualName {
     }
 }
 
-/// A namespace and a local name, by which elements and attributes are told apart where prefixes don't
-/// matter.
+/// A namespace and a local name. It identifies an element or an attribute where prefixes are ignored.
 #[derive(Clone, Copy, Debug, PartialEq, Eq, PartialOrd, Ord, Hash)]
 pub struct ExpandedName<'a> {
     pub ns: &'a Namespace,
@@ -63,7 +62,7 @@ pub struct ExpandedName<'a> {
 
 /// An attribute of a tag or an element (DOM standard: attribute).
 ///
-/// Equality and order are those of the texts, the name first.
+/// Equality and order are those of the texts: the name, then the value.
 #[derive(Debug, Drop, PartialEq, Eq, PartialOrd, Ord, Hash)]
 pub struct Attribute {
     pub name: QualName,
@@ -73,7 +72,7 @@ pub struct Attribute {
 impl Attribute {
     ghost use Rattle.h5_names.specs.AttributeText.{attribute_text};
 
-    /// An attribute with an equal name and an equal value, or an `AllocError` where memory is refused.
+    /// Returns an attribute with an equal name and an equal value. Fails with `AllocError` if an allocation fails.
     pub fn clone(&self) -> Result<Attribute, AllocError>
         ensures { IfOk result (λ attribute. attribute_text attribute ≡ attribute_text self.now) }
     {

@@ -1,4 +1,4 @@
--- What is said with one attribute more.
+-- Adding an attribute.
 use Rattle.std.proofs.Common.{◌≡◌, ℕ, List, [], ◌∷◌, ◌++◌, refl}
 use Rattle.html_tree_builder.specs.AttributeText.{AttributeText}
 use Rattle.h5_page.specs.Attributes.{SaidText, said_behind, with_attribute}

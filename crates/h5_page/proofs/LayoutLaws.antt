@@ -1,11 +1,11 @@
--- What is laid out of a text, character by character.
+-- The layout of a text, character by character.
 use Rattle.std.proofs.Common.{◌≡◌, ◌≢◌, ℕ, ◌+◌, ◌*◌, ◌/◌, ◌%◌, ◌<◌, ◌≤◌, ◌==◌, ◌||◌, Bool, true, false, cond, ltb, List, [], ◌∷◌, ◌++◌, inl, inr, refl, sym, ap, ◌∙◌, arith, append_assoc, append-nil}
 use Rattle.std.specs.Char.{encode_utf8}
 use Rattle.std.proofs.lemmas.Bool.{cases_lt, ne_eqb, false≢true, le-ltb}
 use Rattle.std.proofs.lemmas.Str.{encode_ascii}
 use Rattle.h5_page.specs.Layout.{Laid, inked, inked_as, is_blank, opened, with_byte, with_text}
 
--- no byte is one of ASCII
+-- no byte is ASCII
 abbrev pub AreHigh : List ℕ → Type 0
 AreHigh [] = Unit {0}
 AreHigh (c ∷ cs) = (128 ≤ c) × AreHigh cs
@@ -21,7 +21,7 @@ high_byte : (k : Bool) (indent c : ℕ) (p : Laid) → 128 ≤ c → with_byte k
 high_byte true indent c p h = rw (ne_eqb c 10 (omega (arith, h))) refl
 high_byte false indent c p h = rw (no_blank c h) refl
 
--- there is one, and none is one of ASCII
+-- there is a byte, and none is ASCII
 abbrev pub IsHigh : List ℕ → Type 0
 IsHigh [] = ⊥
 IsHigh (c ∷ cs) = (128 ≤ c) × AreHigh cs
@@ -44,7 +44,7 @@ high_encode c high = by (ltb c 128) (le-ltb c 128 high) (ltb c 2048) (ltb c 6553
     by false e false true = (omega arith, (omega arith, (omega arith, tt)))
     by false e false false = (omega arith, (omega arith, (omega arith, (omega arith, tt))))
 
--- a character that is no line end, where blanks stay, and that is no blank, where they fold
+-- a character other than a newline, if whitespace is kept, or other than whitespace, if it is collapsed
 abbrev pub IsInk : (keeps_blanks : Bool) → ℕ → Type 0
 IsInk true c = c ≢ 10
 IsInk false c = is_blank c ≡ false

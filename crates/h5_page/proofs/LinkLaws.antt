@@ -1,11 +1,11 @@
--- The links that are kept after the calls of a page are its links.
+-- The links that were collected after the calls of a page are its links.
 use Rattle.std.proofs.Common.{◌≡◌, ℕ, Bool, true, false, if◌then◌else◌, List, [], ◌∷◌, ◌++◌, Option, None, Some, refl, sym, ap, ◌∙◌, append_assoc, append-nil, bytes_eq, codes}
 use Rattle.html_tree_builder.specs.AttributeText.{AttributeText}
 use Rattle.html_tree_builder.specs.Call.{Call, StartOf, EndOf, TextOf, CommentOf, DoctypeOf, InstructionOf}
 use Rattle.html_tree_builder.specs.Walk.{after_each}
 use Rattle.h5_page.specs.Links.{Kept, LinkText, after_call, begun, closed, href_of, is_link, linked_text, links_of, nothing_kept, one_or_none, or_next, with_link}
 
--- the open link with the text that comes, and the links that come
+-- the open link with the text that follows, and the links that follow
 abbrev rest : Option LinkText → (text : List ℕ) → List LinkText → List LinkText
 rest None text links = links
 rest (Some link) text links = record link { text = link.text ++ text } ∷ links
@@ -55,7 +55,7 @@ pub kept_links : (n : Kept) (calls : List Call) → n ≡ after_each after_call 
 kept_links n calls e =
     ap (λ (k : Kept). (closed k).list) e ∙ last_link (after_each after_call nothing_kept calls) ∙ all_calls nothing_kept calls
 
--- the first value of `href`, one attribute after the other
+-- the first value of `href`, one attribute after another
 or_where : (b : Bool) (value : List ℕ) (found next all : Option (List ℕ)) → all ≡ or_next found next → (if b then Some value else all) ≡ or_next (if b then Some value else found) next
 or_where true value found next all e = refl
 or_where false value found next all e = e

@@ -4,7 +4,7 @@ use Rattle.std.proofs.lemmas.Bool.{ne_eqb}
 use Rattle.std.specs.List.{onto_first}
 use Rattle.h5_page.specs.Wrapped.{columns, filled, left, put, words, wrapped, wrapped_words}
 
--- no space stands in a text
+-- a text has no space
 abbrev pub HasNone : List ℕ → Type 0
 HasNone text = (i : ℕ) → i < length text → get_or text i 0 ≢ 32
 

@@ -1,8 +1,8 @@
--- What the attributes of an element say of how it is shown.
+-- What an element's attributes say about how it is shown.
 use Rattle.std.specs.Prelude.{ℕ, Bool, false, ◌||◌, if◌then◌else◌, List, [], ◌∷◌, Option, None, Some, bytes_eq, codes}
 use Rattle.html_tree_builder.specs.AttributeText.{AttributeText}
 
--- whether it is hidden, whether its numbers fall, and the value of the attribute that is asked for
+-- whether it is hidden, whether its numbers are reversed, and the value of the attribute that its display uses
 pub record SaidText : Type 0 where
   pub is_hidden : Bool
   pub is_reversed : Bool
@@ -11,7 +11,7 @@ pub record SaidText : Type 0 where
 abbrev pub nothing_said : SaidText
 nothing_said = record { is_hidden = false; is_reversed = false; value = None }
 
--- the first one of a name counts
+-- the first attribute with a name counts
 abbrev pub or_value_of : (asked : List ℕ) → Option (List ℕ) → AttributeText → Option (List ℕ)
 or_value_of asked (Some found) attribute = Some found
 or_value_of asked None attribute = if bytes_eq attribute.name.local asked then Some attribute.value else None

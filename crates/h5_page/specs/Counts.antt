@@ -1,4 +1,5 @@
--- How many items each list with numbers has: where numbers fall, the first is that many (HTML standard, section 4.4.5, "The ol element").
+-- The number of items of each numbered list: if its numbers are reversed, they begin with it (HTML standard, section 4.4.5,
+-- "The ol element").
 use Rattle.std.specs.Prelude.{ℕ, nat_lt, if◌then◌else◌, length, List, [], ◌∷◌, ◌++◌, Option, None, Some, slice_index_or, slice_set}
 use Rattle.html_tree_builder.specs.Call.{Call, StartOf, EndOf}
 use Rattle.html_tree_builder.specs.Walk.{after_each}
@@ -7,8 +8,8 @@ use Rattle.h5_page.specs.Numbers.{one_more}
 use Rattle.h5_page.specs.declared.display.Display.{Display}
 use Rattle.h5_page.specs.declared.display.Display.TheVariants as show
 
--- the counts, list by list in the order in which they begin; and of each element that is open, the innermost first, which of the lists
--- it is, if it is one
+-- the counts, in the order in which the lists begin; and for each open element, the innermost first, which of the lists it is,
+-- if any
 pub record Counted : Type 0 where
   pub counts : List ℕ
   pub elements : List (Option ℕ)
@@ -19,7 +20,7 @@ nothing_counted = record { counts = []; elements = [] }
 abbrev pub raised : (list : ℕ) → List ℕ → List ℕ
 raised list counts = if nat_lt list (length counts) then slice_set counts list (one_more (slice_index_or counts list 0)) else counts
 
--- an item counts for the element in which it stands, where that is a list with numbers
+-- an item counts for its parent, if that is a numbered list
 abbrev pub raised_for : List (Option ℕ) → List ℕ → List ℕ
 raised_for (Some list ∷ elements) counts = raised list counts
 raised_for elements counts = counts

@@ -1,4 +1,4 @@
--- How elements are shown where no style sheet says otherwise (HTML standard, section 15.3, "Non-replaced elements").
+-- How elements are shown without a style sheet (HTML standard, section 15.3, "Non-replaced elements").
 use Rattle.std.specs.Prelude.{ℕ, Bool, true, false, List, [], codes, if◌then◌else◌, bytes_eq, ◌||◌}
 use Rattle.html_tree_builder.specs.AttributeText.{is_same_text}
 use Rattle.html_tree_builder.specs.Urls.{html_text}
@@ -9,7 +9,7 @@ use Rattle.html_tree_builder.specs.Types.{QualName}
 use Rattle.h5_page.specs.declared.display.Display.{Display}
 use Rattle.h5_page.specs.declared.display.Display.TheVariants as show
 
--- on lines of their own
+-- on separate lines
 abbrev pub block_display : KnownName → Display
 block_display known.Address = show.Block
 block_display known.Article = show.Block
@@ -40,7 +40,7 @@ block_display known.Thead = show.Block
 block_display known.Tr = show.Block
 block_display _ = show.Inline
 
--- with an empty line on both sides, and, behind these, not at all
+-- with an empty line before and after; the names after these aren't shown
 abbrev pub wide_display : KnownName → Display
 wide_display known.Figure = show.Paragraph
 wide_display known.H1 = show.Paragraph
@@ -65,7 +65,7 @@ wide_display known.Style = show.Nothing
 wide_display known.Template = show.Nothing
 wide_display name = block_display name
 
--- with a rule of their own
+-- with a specific display
 abbrev pub known_display : KnownName → Display
 known_display known.A = show.Link
 known_display known.Blockquote = show.Quote
@@ -86,7 +86,7 @@ known_display known.Th = show.Cell
 known_display known.Textarea = show.Field
 known_display name = wide_display name
 
--- names of HTML without a number
+-- names of HTML that aren't known names
 abbrev pub other_display : List ℕ → Display
 other_display name =
     if bytes_eq name (codes "audio") || bytes_eq name (codes "canvas") || bytes_eq name (codes "datalist")
@@ -113,7 +113,7 @@ foreign_display name =
 abbrev pub display_of : QualName → Display
 display_of name = if is_same_text name.ns html_text then html_display name.local else foreign_display name.local
 
--- the attribute that says more
+-- the attribute that a display uses
 abbrev pub asked : Display → List ℕ
 asked show.Dialog = codes "open"
 asked show.Group = codes "label"

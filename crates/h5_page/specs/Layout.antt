@@ -1,11 +1,11 @@
--- The lines of a page, as they are laid out text by text: what stands between two texts, and what is written of it.
+-- The lines of a page, laid out text by text: the gap between two texts, and what is written for it.
 use Rattle.std.specs.Prelude.{ℕ, ◌+◌, ◌==◌, ◌||◌, Bool, true, false, nat_lt, if◌then◌else◌, List, [], ◌∷◌, ◌++◌, Option, None, Some}
 use Rattle.h5_page.specs.Wrapped.{spaces, wrapped}
 use Rattle.h5_page.specs.declared.layout.Gap.{Gap}
 use Rattle.h5_page.specs.declared.layout.Gap.TheVariants.{Start, Front, Mark, Close, Blank, Line, Paragraph}
 
--- the lines that are whole, the one that grows, and what stands between it and the text that comes; how wide a line may be, and, of
--- the one that grows, whether it is wrapped, and how far what is wrapped of it is indented
+-- the complete lines, the current one, and the gap before the next text; how wide a line may be; and whether the current line
+-- is wrapped, and how far the wrapped part of it is indented
 pub record Laid : Type 0 where
   pub lines : List ℕ
   pub line : List ℕ
@@ -17,12 +17,12 @@ pub record Laid : Type 0 where
 abbrev pub nothing_laid : (width : Option ℕ) → Laid
 nothing_laid width = record { lines = []; line = []; gap = Start; width = width; is_whole = false; hang = 0 }
 
--- blanks are one between two words, and none at either end of a line
+-- whitespace is one space between two words, and nothing at either end of a line
 abbrev pub behind_blank : Gap → Gap
 behind_blank Close = Blank
 behind_blank gap = gap
 
--- a block begins or ends: at least the line ends, where something stands in it, and in front of a paragraph comes an empty line
+-- a block begins or ends: at least a newline, unless the line is empty, and an empty line before and after a paragraph
 abbrev pub behind_break : (is_wide : Bool) → Gap → Gap
 behind_break is_wide Start = Start
 behind_break is_wide Front = Front
@@ -31,12 +31,12 @@ behind_break is_wide Paragraph = Paragraph
 behind_break true gap = Paragraph
 behind_break false gap = Line
 
--- an item or a cell ends: its line is one, also where it has no text
+-- an item or a cell ends: it has a line, even if it has no text
 abbrev pub behind_end : Gap → Gap
 behind_end Paragraph = Paragraph
 behind_end gap = Line
 
--- a line ends, as by `br`
+-- a newline, as by `br`
 abbrev pub behind_line_end : Gap → Gap
 behind_line_end Start = Start
 behind_line_end Front = Front
@@ -58,7 +58,7 @@ next_line p = record p { lines = p.lines ++ line_by p.width p ++ 10 ∷ []; line
 abbrev pub indented : (indent : ℕ) → Laid → Laid
 indented indent p = record (with_line (spaces indent) p) { hang = indent }
 
--- what stands between is written, so that a text may come; new lines are indented
+-- the gap is written, so that a text can follow; new lines are indented
 abbrev pub opened_by : Gap → (indent : ℕ) → Laid → Laid
 opened_by Start indent p = indented indent p
 opened_by Front indent p = p
@@ -71,8 +71,8 @@ opened_by Paragraph indent p = indented indent (next_line (next_line p))
 abbrev pub opened : (indent : ℕ) → Laid → Laid
 opened indent p = opened_by p.gap indent p
 
--- a text of a line, which isn't wrapped where blanks stay; the mark of an item; a cell, which begins a line, or stands behind another
--- cell and a tab
+-- a text in a line, which isn't wrapped if it keeps whitespace; the mark of an item; a cell, which begins a line, or follows
+-- another cell and a tab
 abbrev pub inked : (indent : ℕ) → List ℕ → Laid → Laid
 inked indent text p = record (with_line text (opened indent p)) { gap = Close }
 
@@ -87,7 +87,7 @@ abbrev pub celled : (indent : ℕ) → (is_first : Bool) → Laid → Laid
 celled indent true p = record (opened indent p) { gap = Front }
 celled indent false p = record (with_line (9 ∷ []) p) { gap = Front; is_whole = true }
 
--- a blank, a break, the end of an item or a cell, and of a line: where an empty line stands already, one more is written
+-- whitespace, a break, the end of an item or a cell, and the end of a line: after an empty line, one more is written
 abbrev pub blanked : Laid → Laid
 blanked p = record p { gap = behind_blank p.gap }
 
@@ -108,7 +108,7 @@ line_ended p = line_ended_by p.gap p
 abbrev pub is_blank : ℕ → Bool
 is_blank c = (c == 9) || ((c == 10) || ((c == 12) || ((c == 13) || (c == 32))))
 
--- a byte of a text in which blanks stay, and of one in which they fold
+-- a byte of a text that keeps whitespace, and of one that collapses it
 abbrev pub with_byte : (keeps_blanks : Bool) → (indent : ℕ) → ℕ → Laid → Laid
 with_byte true indent c p = if c == 10 then line_ended p else inked_as true indent (c ∷ []) p
 with_byte false indent c p = if is_blank c then blanked p else inked_as false indent (c ∷ []) p
@@ -117,7 +117,7 @@ abbrev pub with_text : (keeps_blanks : Bool) → (indent : ℕ) → List ℕ →
 with_text keeps_blanks indent [] p = p
 with_text keeps_blanks indent (c ∷ cs) p = with_text keeps_blanks indent cs (with_byte keeps_blanks indent c p)
 
--- all lines; the one that grows is the last, where something stands in it
+-- all lines; the current one is last, unless it is empty
 abbrev pub whole_of : List ℕ → Laid → List ℕ
 whole_of [] p = p.lines
 whole_of line p = (next_line p).lines

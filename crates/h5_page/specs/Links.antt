@@ -1,4 +1,4 @@
--- The links of a page: by the calls that tell of the page, and as they are kept between calls.
+-- The links of a page: by the calls of its walk, and as they are collected between calls.
 use Rattle.std.specs.Prelude.{ℕ, Bool, if◌then◌else◌, List, [], ◌∷◌, ◌++◌, map, Option, None, Some, option_map, bytes_eq, codes, string_bytes}
 use Rattle.html_tree_builder.specs.AttributeText.{AttributeText}
 use Rattle.html_tree_builder.specs.Types.{QualName}
@@ -6,7 +6,7 @@ use Rattle.html_tree_builder.specs.Call.{Call, StartOf, EndOf, TextOf}
 use Rattle.h5_page.specs.declared.links.Link.{Link}
 use Rattle.h5_page.specs.declared.links.Links.{Links}
 
--- a link: where it leads, and its text
+-- a link: its `href`, and its text
 pub record LinkText : Type 0 where
   pub href : List ℕ
   pub text : List ℕ
@@ -17,7 +17,7 @@ link_text link = record { href = string_bytes link.href; text = string_bytes lin
 abbrev pub link_texts : List Link → List LinkText
 link_texts = map link_text
 
--- a link is an element `a`, of HTML or of SVG, that has an attribute `href`
+-- a link is an element with the local name `a`, in any namespace, that has an attribute with the local name `href`
 abbrev pub is_link : QualName → Bool
 is_link name = bytes_eq name.local (codes "a")
 
@@ -25,7 +25,7 @@ abbrev pub href_of : List AttributeText → Option (List ℕ)
 href_of [] = None
 href_of (a ∷ attrs) = if bytes_eq a.name.local (codes "href") then Some a.value else href_of attrs
 
--- what was found first, or else what comes next
+-- the one that was found first, or else the next one
 abbrev pub or_next : Option (List ℕ) → Option (List ℕ) → Option (List ℕ)
 or_next None next = next
 or_next (Some first) next = Some first
@@ -42,13 +42,13 @@ abbrev pub with_link : Option (List ℕ) → (text : List ℕ) → List LinkText
 with_link None text links = links
 with_link (Some href) text links = record { href = href; text = text } ∷ links
 
--- the links of a page, each with the text behind its start
+-- the links of a page, each with the text after its start
 abbrev pub links_of : List Call → List LinkText
 links_of [] = []
 links_of (StartOf name attrs ∷ calls) = if is_link name then with_link (href_of attrs) (linked_text calls) (links_of calls) else links_of calls
 links_of (call ∷ calls) = links_of calls
 
--- what is kept between two calls: the links that are whole, and the one that is open
+-- the state between two calls: the complete links, and the open one
 pub record Kept : Type 0 where
   pub list : List LinkText
   pub current : Option LinkText

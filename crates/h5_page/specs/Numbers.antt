@@ -16,23 +16,23 @@ with_digit size digit = if nat_lt size limit && nat_le 48 digit then size * 10 +
 abbrev pub one : ItemNumber
 one = record { size = 1; is_below = false }
 
--- the first number of a list that has so many items, where numbers rise, or where they fall
+-- the first number of a list with `count` items
 abbrev pub first : (count : ℕ) → (falls : Bool) → ItemNumber
 first count falls = if falls then record { size = count; is_below = false } else one
 
--- the number that comes next, where numbers rise, or where they fall
+-- the next number, which is smaller if the numbers are reversed
 abbrev pub next : (falls : Bool) → ItemNumber → ItemNumber
 next falls n =
     if (if falls then n.is_below else not n.is_below) then record n { size = one_more n.size }
     else if n.size == 0 then record { size = 1; is_below = falls }
     else record n { size = n.size - 1 }
 
--- in front of an item
+-- the mark of an item
 abbrev pub mark_of : ItemNumber → List ℕ
 mark_of n = (if n.is_below && nat_lt 0 n.size then 45 ∷ [] else []) ++ decimal n.size ++ 46 ∷ []
 
--- a number in digits, and what stands behind them is passed over; a sign may come in front (HTML standard, section 2.3.4.1, "Signed
--- integers", without blanks in front)
+-- a number in digits, which may follow a sign; what follows the digits is ignored (HTML standard, section 2.3.4.1, "Signed
+-- integers", without whitespace before the number)
 abbrev pub is_digit : ℕ → Bool
 is_digit c = nat_le 48 c && nat_le c 57
 

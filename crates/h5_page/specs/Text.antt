@@ -1,4 +1,4 @@
--- The text of a page, as a browser shows it without a style sheet, by the calls that tell of the page.
+-- The text of a page, as a browser shows it without a style sheet, by the calls of the page's walk.
 use Rattle.std.specs.Prelude.{ℕ, ◌+◌, ◌&&◌, ◌||◌, Bool, true, false, not, nat_lt, if◌then◌else◌, is_some, length, List, [], ◌∷◌, ◌++◌, Option, None, Some, codes}
 use Rattle.std.specs.Fmt.{decimal}
 use Rattle.std.specs.Option.{option_map_or, option_to_list}
@@ -21,13 +21,13 @@ use Rattle.h5_page.specs.declared.text_writer.TextOpts.{TextOpts}
 abbrev pub more_indent : ℕ → ℕ
 more_indent indent = if nat_lt indent 40 then indent + 2 else indent
 
--- whether an element is shown, by how it is shown and what its attributes say
+-- true if an element is shown, by its display and its attributes
 abbrev pub shows : Display → SaidText → Bool
 shows show.Nothing said = false
 shows show.Dialog said = not said.is_hidden && is_some said.value
 shows display said = not said.is_hidden
 
--- the number that is said, or else another one
+-- the number that a value gives, or else another one
 abbrev pub number_or : Option (List ℕ) → ItemNumber → ItemNumber
 number_or None other = other
 number_or (Some value) other = option_map_or (λ n. n) (number_in value) other
@@ -35,11 +35,11 @@ number_or (Some value) other = option_map_or (λ n. n) (number_in value) other
 abbrev pub said_number : SaidText → ItemNumber → ItemNumber
 said_number said other = number_or said.value other
 
--- around the page
+-- the element around the page
 abbrev pub page : Open
 page = record { display = show.Block; is_shown = true; keeps_blanks = false; is_in_list = false; indent = 0; has_cell = false; number = one; falls = false }
 
--- an element that begins in another, with so many items, if it is a list that has numbers; and that other one behind its beginning
+-- an element that begins in another, with `count` items if it is a numbered list; and that other element after its beginning
 abbrev pub inner : Display → SaidText → (count : ℕ) → Open → Open
 inner display said count outer = record {
   display = display;
@@ -57,7 +57,7 @@ behind show.Cell said outer = record outer { has_cell = true }
 behind show.Item said outer = record outer { number = next outer.falls (said_number said outer.number) }
 behind display said outer = outer
 
--- the mark of an item: its number, in a list that has numbers
+-- the mark of an item: its number, in a numbered list
 abbrev pub mark_by : Display → SaidText → Open → List ℕ
 mark_by show.Numbered said outer = mark_of (said_number said outer.number)
 mark_by display said outer = codes "-"
@@ -65,7 +65,7 @@ mark_by display said outer = codes "-"
 abbrev pub mark_in : SaidText → Open → List ℕ
 mark_in said outer = mark_by outer.display said outer
 
--- the elements that are open, the innermost first
+-- the open elements, the innermost first
 pub record Opened : Type 0 where
   pub current : Open
   pub outer : List Open
@@ -87,15 +87,15 @@ left_of o (outer ∷ outers) = record { current = outer; outer = outers }
 abbrev pub left : Opened → Opened
 left o = left_of o o.outer
 
--- what stands for a picture, and the label of a group
+-- the alternative text of an image, and the label of a group
 abbrev pub value_of : SaidText → List ℕ
 value_of said = option_map_or (λ value. value) said.value []
 
--- a line across the page
+-- a horizontal rule
 abbrev pub ruled : (indent : ℕ) → Laid → Laid
 ruled indent p = broken false (inked indent (codes "---") (broken false p))
 
--- what is laid out where an element begins in another
+-- what is laid out at the beginning of an element inside another
 abbrev pub begun : Display → SaidText → Open → Laid → Laid
 begun show.Inline said outer p = p
 begun show.Nothing said outer p = p
@@ -116,7 +116,7 @@ begun show.Group said outer p = with_text false outer.indent (value_of said) (br
 begun show.Dialog said outer p = broken false p
 begun show.Link said outer p = p
 
--- and where it ends
+-- and at its end
 abbrev pub finished : Display → (is_in_list : Bool) → Laid → Laid
 finished show.Block in_list p = broken false p
 finished show.Paragraph in_list p = broken true p
@@ -132,8 +132,8 @@ finished show.Group in_list p = broken false p
 finished show.Dialog in_list p = broken false p
 finished display in_list p = p
 
--- what is kept between two calls: how many items the lists have that come, the elements that are open, what is laid out, and, where links
--- have numbers, where they lead
+-- the state between two calls: the item counts of the lists that follow, the open elements, the layout, and, if links have
+-- numbers, the `href` of each
 pub record Kept : Type 0 where
   pub counts : List ℕ
   pub opened : Opened
@@ -147,7 +147,7 @@ plain_opts = record { width = None; has_numbers = false }
 abbrev pub nothing_kept : TextOpts → (counts : List ℕ) → Kept
 nothing_kept opts counts = record { counts = counts; opened = none_open; laid = nothing_laid opts.width; has_numbers = opts.has_numbers; hrefs = [] }
 
--- the number of a link that begins
+-- the `href` of a link that begins
 abbrev pub link_of : Display → SaidText → Option (List ℕ)
 link_of show.Link said = said.value
 link_of display said = None
@@ -174,7 +174,7 @@ started_in display said count outer k =
     if (inner display said count outer).is_shown then entered (behind display said outer) (inner display said count outer) (begun_in display said outer k)
     else entered outer (inner display said count outer) k
 
--- the count of a list that begins, and those of the lists behind it
+-- the count of a list that begins, and those of the lists after it
 abbrev pub count_of : Display → List ℕ → ℕ
 count_of show.Numbered (count ∷ counts) = count
 count_of display counts = 0
@@ -205,7 +205,7 @@ after_call k (EndOf name) = stopped k
 after_call k (TextOf text) = said text k
 after_call k call = k
 
--- the text of a page, and where its links lead, where they have numbers
+-- the text of a page, and the `href` of each numbered link
 abbrev pub kept_of : TextOpts → List Call → Kept
 kept_of opts calls = after_each after_call (nothing_kept opts (counts_of calls)) calls
 

@@ -7,7 +7,7 @@ use Rattle.html_tree_builder.specs.Options.{default_options}
 use Rattle.html_tree_builder.specs.StandardTexts.{ParsesDocument}
 use Rattle.h5_page.specs.Text.{plain_opts, text_of}
 
--- lines are the text of a page: those of the tree that a parser with the default options makes of it
+-- lines are the text of a page: that of the tree that a parser with default options makes from it
 pub record IsTextOf (page lines : List ℕ) : Type 0 where
   pub arena : ArenaView
   pub parsed : ParsesDocument arena_choices (seen_of new_arena) default_options page (seen_of arena)

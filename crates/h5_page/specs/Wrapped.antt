@@ -1,4 +1,4 @@
--- A line in lines of so many columns, as far as its words allow it.
+-- A line as lines of at most some width in columns, as far as its words allow it.
 use Rattle.std.specs.Prelude.{ℕ, ◌-◌, ◌==◌, nat_lt, if◌then◌else◌, List, [], ◌∷◌, ◌++◌, chars, false}
 use Rattle.std.specs.List.{slice_split}
 use Prim.Native.Nat.{zero, suc}
@@ -11,11 +11,11 @@ spaces (suc n) = spaces n ++ 32 ∷ []
 abbrev pub columns : List ℕ → ℕ
 columns word = str_width false (chars word)
 
--- what stands between two spaces is a word
+-- the texts between spaces are words
 abbrev pub words : List ℕ → List (List ℕ)
 words = slice_split (λ c. c == 32)
 
--- a word behind others: in their line, where it has room, or else on a new one; and the room that is left
+-- a word after others: in their line if it fits, or else on a new one; and the room that is left
 abbrev pub put : (width hang room : ℕ) → List ℕ → List ℕ
 put width hang room word = if nat_lt (columns word) room then 32 ∷ word else 10 ∷ spaces hang ++ word
 

@@ -1,4 +1,4 @@
-//! What the attributes of an element say of how it is shown.
+//! What an element's attributes say about how it is shown.
 ghost use Rattle.std.specs.Prelude.{◌≡◌, IfOk, List, map, option_map, string_bytes};
 ghost use Rattle.std.specs.Iterator.{Drains, IsFinite};
 ghost use Rattle.h5_page.specs.Attributes as a;
@@ -7,7 +7,7 @@ use html_tree_builder::serialize::AttrRef;
 use std::alloc::{AllocError, Global};
 use std::marker::Model;
 
-/// Whether an element is hidden, whether its numbers fall, and the value of the attribute that is asked for.
+/// The `hidden` and `reversed` flags of an element, and the value of the attribute that its display uses.
 #[derive(Drop)]
 pub struct Said {
     pub is_hidden: bool,
@@ -24,7 +24,7 @@ impl Model for Said {
     ghost view = { λ said. record { is_hidden = said.is_hidden; is_reversed = said.is_reversed; value = option_map string_bytes said.value } };
 }
 
-// The value that was found, or else that of this attribute, where it is the one that is asked for.
+// Returns the value that was found before, or else that of this attribute, if it is the one that is used.
 fn found_in<T: AttrRef>(
     alloc: Global,
     found: Option<String>,
@@ -40,7 +40,7 @@ fn found_in<T: AttrRef>(
     Ok(Some(value))
 }
 
-// What is said with one attribute more.
+// Adds an attribute.
 fn with_attribute<T: AttrRef>(
     alloc: Global,
     said: Said,
@@ -59,7 +59,7 @@ fn with_attribute<T: AttrRef>(
     })
 }
 
-/// What attributes say.
+/// Returns what these attributes say. `asked` is the name of the attribute that the display uses.
 pub fn said_of<T: AttrRef, I: Iterator<Item = T> + Drop>(
     alloc: Global,
     asked: &str,

@@ -1,4 +1,4 @@
-//! What is laid out where an element begins, and where it ends.
+//! What is laid out at the beginning and at the end of an element.
 ghost use Rattle.std.specs.Prelude.{◌≡◌, false, OnOk};
 ghost use Rattle.h5_page.specs.Layout.{broken, with_text};
 ghost use Rattle.h5_page.specs.Text as t;
@@ -9,7 +9,7 @@ use super::layout::Layout;
 use super::open::Open;
 use std::alloc::{AllocError, Global};
 
-// What stands for a picture, or the label of a group.
+// Writes the alternative text of an image, or the label of a group.
 fn write_value(layout: &mut Layout, said: &Said, indent: usize) -> Result<(), AllocError>
     ensures { OnOk result (layout.new ≡ with_text false indent (t.value_of said.now) layout.old) }
 {
@@ -19,7 +19,7 @@ fn write_value(layout: &mut Layout, said: &Said, indent: usize) -> Result<(), Al
     Ok(())
 }
 
-// An item, with its mark.
+// Begins an item, with its mark.
 fn begin_item(
     alloc: Global,
     layout: &mut Layout,
@@ -33,7 +33,7 @@ fn begin_item(
     layout.mark(outer.indent, mark.as_str())
 }
 
-// A line across the page.
+// Writes a horizontal rule.
 fn write_rule(layout: &mut Layout, indent: usize) -> Result<(), AllocError>
     ensures { OnOk result (layout.new ≡ t.ruled indent layout.old) }
 {
@@ -43,7 +43,7 @@ fn write_rule(layout: &mut Layout, indent: usize) -> Result<(), AllocError>
     Ok(())
 }
 
-/// An element begins in another. An `AllocError` where memory is refused.
+/// Begins an element inside another. Fails with `AllocError` if an allocation fails.
 pub fn begin(
     alloc: Global,
     layout: &mut Layout,
@@ -79,7 +79,7 @@ pub fn begin(
     }
 }
 
-/// An element ends, in a list or outside of any.
+/// Ends an element, in a list or outside any list.
 pub fn finish(layout: &mut Layout, display: Display, is_in_list: bool)
     ensures { layout.new ≡ t.finished display is_in_list layout.old }
 {

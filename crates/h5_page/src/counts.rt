@@ -1,4 +1,4 @@
-//! How many items the lists of a page have.
+//! The item counts of a page's lists.
 ghost use Rattle.std.specs.Prelude.{◌≡◌, OnOk};
 ghost use Rattle.h5_page.specs.Counts as c;
 
@@ -9,11 +9,11 @@ use html_tree_builder::serialize::{AttrRef, SerializeFault, Serializer};
 use std::alloc::{AllocError, Global};
 use std::marker::Model;
 
-/// Counts the items of each list with numbers; the lists come in the order in which they begin.
+/// Counts the items of each numbered list, in the order in which the lists begin.
 #[derive(Drop)]
 pub struct ItemCounter {
     counts: Vec<usize>,
-    // Of each element that is open which of the lists it is, if it is one; the innermost comes last.
+    // For each open element: which of the lists it is, if any. The innermost is last.
     elements: Vec<Option<usize>>,
 }
 
@@ -27,7 +27,7 @@ impl Model for ItemCounter {
 }
 
 impl ItemCounter {
-    /// No list yet.
+    /// Returns a counter without lists.
     pub fn new(alloc: Global) -> ItemCounter
         ensures { result ≡ c.nothing_counted }
     {
@@ -37,14 +37,14 @@ impl ItemCounter {
         }
     }
 
-    /// The counts, list by list.
+    /// Returns the counts, in the order of the lists.
     pub fn into_counts(self) -> Vec<usize>
         ensures { result.items ≡ self.counts }
     {
         self.counts
     }
 
-    // One item more of a list.
+    // Counts an item of a list.
     fn raise(&mut self, list: usize)
         ensures { self.new ≡ record self.old { counts = c.raised list self.old.counts } }
     {
@@ -53,7 +53,7 @@ impl ItemCounter {
         }
     }
 
-    // An element begins, which is this list, if it is one.
+    // Begins an element, which is this list, if any.
     fn enter(&mut self, list: Option<usize>) -> Result<(), AllocError>
         ensures { OnOk result (self.new ≡ c.entered list self.old) }
     {
@@ -61,7 +61,7 @@ impl ItemCounter {
         Ok(())
     }
 
-    // An item begins.
+    // Begins an item.
     fn begin_item(&mut self) -> Result<(), AllocError>
         ensures { OnOk result (self.new ≡ c.started Display.Item self.old) }
     {
@@ -71,7 +71,7 @@ impl ItemCounter {
         self.enter(None)
     }
 
-    // A list with numbers begins.
+    // Begins a numbered list.
     fn begin_list(&mut self) -> Result<(), AllocError>
         ensures { OnOk result (self.new ≡ c.started Display.Numbered self.old) }
     {
@@ -80,7 +80,7 @@ impl ItemCounter {
         self.enter(Some(list))
     }
 
-    // An element begins.
+    // Begins an element.
     fn start(&mut self, display: Display) -> Result<(), AllocError>
         ensures { OnOk result (self.new ≡ c.started display self.old) }
     {
@@ -91,7 +91,7 @@ impl ItemCounter {
         }
     }
 
-    // An element ends.
+    // Ends an element.
     fn stop(&mut self)
         ensures { self.new ≡ c.stopped self.old }
     {

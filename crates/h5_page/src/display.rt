@@ -1,29 +1,29 @@
-//! How elements are shown where no style sheet says otherwise.
+//! How elements are shown without a style sheet.
 ghost use Rattle.std.specs.Prelude.{◌≡◌, codes};
 ghost use Rattle.h5_page.specs.Displays as d;
 
 use html_tree_builder::names::{KnownName, Namespace, QualName};
 
-/// How an element is shown where no style sheet says otherwise (HTML standard, section 15.3, "Non-replaced elements").
+/// How an element is shown without a style sheet (HTML standard, section 15.3, "Non-replaced elements").
 #[derive(Clone, Copy, Debug)]
 pub enum Display {
-    /// In the line where it stands, as every element that isn't named below.
+    /// In its line. This is the display of every element that isn't named below.
     Inline,
-    /// Not at all.
+    /// Not shown.
     Nothing,
-    /// On lines of its own.
+    /// On separate lines.
     Block,
-    /// On lines of its own, with an empty line on both sides.
+    /// On separate lines, with an empty line before and after.
     Paragraph,
-    /// `blockquote`: a paragraph that is indented.
+    /// `blockquote`: an indented paragraph.
     Quote,
-    /// `dd`: a block that is indented.
+    /// `dd`: an indented block.
     Description,
-    /// `pre` and the like: a paragraph in which blanks stay.
+    /// `pre` and similar: a paragraph that keeps whitespace.
     Preformatted,
-    /// `textarea`: a block in which blanks stay.
+    /// `textarea`: a block that keeps whitespace.
     Field,
-    /// A list whose items have no numbers, as `ul`.
+    /// A list whose items have no numbers, such as `ul`.
     Bulleted,
     /// `ol`: a list whose items have numbers.
     Numbered,
@@ -35,17 +35,17 @@ pub enum Display {
     LineEnd,
     /// `hr`.
     Rule,
-    /// `img`, for which a text stands.
+    /// `img`, shown as its alternative text.
     Picture,
     /// `optgroup`, which has a label.
     Group,
-    /// `dialog`, a block where it is open.
+    /// `dialog`: a block if it is open.
     Dialog,
     /// `a`.
     Link,
 }
 
-// Of the names that are known by a number, those that are shown on lines of their own.
+// Known names of elements that are shown on separate lines.
 fn block_display(name: KnownName) -> Display
     ensures { result ≡ d.block_display name }
 {
@@ -81,7 +81,7 @@ fn block_display(name: KnownName) -> Display
     }
 }
 
-// Those with an empty line, and those that aren't shown.
+// Known names of elements with an empty line before and after, and of those that aren't shown.
 fn wide_display(name: KnownName) -> Display
     ensures { result ≡ d.wide_display name }
 {
@@ -110,7 +110,7 @@ fn wide_display(name: KnownName) -> Display
     }
 }
 
-// Those with a rule of their own.
+// Known names with a specific display, and all others.
 fn known_display(name: KnownName) -> Display
     ensures { result ≡ d.known_display name }
 {
@@ -132,7 +132,7 @@ fn known_display(name: KnownName) -> Display
     }
 }
 
-// Of the other names.
+// Names of HTML elements that aren't known names.
 fn other_display(name: &str) -> Display
     ensures { result ≡ d.other_display name.now }
 {
@@ -143,7 +143,7 @@ fn other_display(name: &str) -> Display
     }
 }
 
-// Of a name of HTML.
+// Names of HTML elements.
 fn html_display(name: &QualName) -> Display
     ensures { result ≡ d.html_display name.now.local }
 {
@@ -153,7 +153,7 @@ fn html_display(name: &QualName) -> Display
     }
 }
 
-// Of a name of SVG or MathML.
+// Names of SVG and MathML elements.
 fn foreign_display(name: &QualName) -> Display
     ensures { result ≡ d.foreign_display name.now.local }
 {
@@ -166,7 +166,7 @@ fn foreign_display(name: &QualName) -> Display
     }
 }
 
-/// How an element of this name is shown.
+/// Returns how an element with this name is shown.
 pub fn display_of(name: &QualName) -> Display
     ensures { result ≡ d.display_of name.now }
 {
@@ -178,7 +178,7 @@ pub fn display_of(name: &QualName) -> Display
 }
 
 impl Display {
-    /// Which attribute says more of it; most have none.
+    /// Returns the name of the attribute that the display uses, or the empty text. Most use none.
     pub fn asked(self) -> &'static str
         ensures { result.now ≡ d.asked self }
     {
@@ -193,21 +193,21 @@ impl Display {
         }
     }
 
-    /// Whether it is a list.
+    /// Returns true if it is a list.
     pub fn is_list(self) -> bool
         ensures { result ≡ d.is_list self }
     {
         matches!(self, Display::Bulleted | Display::Numbered)
     }
 
-    /// Whether blanks stay in it.
+    /// Returns true if it keeps whitespace.
     pub fn keeps_blanks(self) -> bool
         ensures { result ≡ d.keeps_blanks self }
     {
         matches!(self, Display::Preformatted | Display::Field)
     }
 
-    /// Whether it is indented.
+    /// Returns true if it is indented.
     pub fn is_indented(self) -> bool
         ensures { result ≡ d.is_indented self }
     {

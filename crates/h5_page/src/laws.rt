@@ -1,4 +1,4 @@
-//! Laws of what is given. Each is the contract of a function that does nothing.
+//! The laws of texts and links. Each is the contract of a function that does nothing.
 ghost use Rattle.std.specs.Prelude.{◌≡◌, ℕ, List};
 ghost use Rattle.h5_page.specs.Links.{LinkText};
 ghost use Rattle.h5_page.specs.LinksOfPage.{AreLinksOf};

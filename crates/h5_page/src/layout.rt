@@ -1,4 +1,4 @@
-//! The lines of a page, as they are laid out text by text.
+//! The lines of a page, laid out text by text.
 ghost use Rattle.std.specs.Prelude.{◌≡◌, ◌++◌, true, false, IfOk, OnOk, encode_utf8, string_bytes};
 ghost use Rattle.h5_page.specs.Layout as l;
 
@@ -6,22 +6,22 @@ use super::wrap::{write_spaces, write_wrapped};
 use std::alloc::{AllocError, Global};
 use std::marker::Model;
 
-/// What stands between what is written and the text that comes.
+/// The gap between what is written and the next text.
 #[derive(Clone, Copy, Debug)]
 pub enum Gap {
     /// Nothing is written yet.
     Start,
-    /// Nothing: a cell begins, and blanks and breaks in front of its text go.
+    /// No gap: a cell begins. Whitespace and line breaks before its text are dropped.
     Front,
-    /// A blank, behind the mark of an item. Blanks and breaks in front of its text go.
+    /// A space after the mark of an item. Whitespace and line breaks before its text are dropped.
     Mark,
-    /// Nothing: a text stands right before.
+    /// No gap: the next text directly follows another.
     Close,
-    /// A blank between two words.
+    /// A space between two words.
     Blank,
-    /// The end of the line.
+    /// A newline.
     Line,
-    /// The end of the line, and an empty line.
+    /// A newline, and an empty line.
     Paragraph,
 }
 
@@ -56,14 +56,14 @@ impl Gap {
     }
 }
 
-/// The lines that are whole, the one that grows, and what stands between it and the text that comes.
+/// The complete lines, the current one, and the gap before the next text.
 #[derive(Drop)]
 pub struct Layout {
     lines: String,
     line: String,
     gap: Gap,
     width: Option<usize>,
-    // Whether the line that grows stays one, whatever its width, and how far what is wrapped of it is indented.
+    // True if the current line isn't wrapped, whatever its width; and how far the wrapped part of it is indented.
     is_whole: bool,
     hang: usize,
 }
@@ -77,7 +77,7 @@ impl Model for Layout {
     ghost view = { λ layout. record { lines = string_bytes layout.lines; line = string_bytes layout.line; gap = layout.gap; width = layout.width; is_whole = layout.is_whole; hang = layout.hang } };
 }
 
-// Whether a character is a blank of ASCII.
+// Returns true for ASCII whitespace.
 fn is_blank(c: char) -> bool
     ensures { result ≡ l.is_blank c }
 {
@@ -85,7 +85,7 @@ fn is_blank(c: char) -> bool
 }
 
 impl Layout {
-    /// Nothing yet. Lines are as wide as they are, or wrapped at so many columns.
+    /// Returns an empty layout. Lines are wrapped at this width in columns, if it is given.
     pub fn new(alloc: Global, width: Option<usize>) -> Layout
         ensures { result ≡ l.nothing_laid width }
     {
@@ -99,7 +99,7 @@ impl Layout {
         }
     }
 
-    // Writes the line that grows behind those that are whole.
+    // Appends the current line to the complete ones.
     fn write_line(&mut self) -> Result<(), AllocError>
         ensures { OnOk result (self.new ≡ record self.old { lines = self.old.lines ++ l.line_by self.old.width self.old }) }
     {
@@ -111,7 +111,7 @@ impl Layout {
         }
     }
 
-    // The line ends.
+    // Ends the line.
     fn end_line(&mut self) -> Result<(), AllocError>
         ensures { OnOk result (self.new ≡ l.next_line self.old) }
     {
@@ -122,7 +122,7 @@ impl Layout {
         Ok(())
     }
 
-    // Indents the line that begins.
+    // Indents a new line.
     fn indent_line(&mut self, indent: usize) -> Result<(), AllocError>
         ensures { OnOk result (self.new ≡ l.indented indent self.old) }
     {
@@ -131,7 +131,7 @@ impl Layout {
         Ok(())
     }
 
-    // Writes what stands between, so that a text may come.
+    // Writes the gap, so that a text can follow.
     fn open(&mut self, indent: usize) -> Result<(), AllocError>
         ensures { OnOk result (self.new ≡ l.opened indent self.old) }
     {
@@ -166,7 +166,7 @@ impl Layout {
         Ok(())
     }
 
-    /// Writes a text in which no blank folds.
+    /// Writes a text, without collapsing whitespace.
     pub fn write(&mut self, indent: usize, text: &str) -> Result<(), AllocError>
         ensures { OnOk result (self.new ≡ l.inked indent text.now self.old) }
     {
@@ -186,7 +186,7 @@ impl Layout {
         Ok(())
     }
 
-    /// Begins a cell: the first of its row on a new line, any other behind a tab.
+    /// Begins a cell: the first of its row on a new line, any other after a tab.
     pub fn begin_cell(&mut self, indent: usize, is_first: bool) -> Result<(), AllocError>
         ensures { OnOk result (self.new ≡ l.celled indent is_first self.old) }
     {
@@ -200,21 +200,21 @@ impl Layout {
         Ok(())
     }
 
-    /// A block begins or ends.
+    /// Begins or ends a block.
     pub fn break_line(&mut self, is_wide: bool)
         ensures { self.new ≡ l.broken is_wide self.old }
     {
         self.gap = self.gap.behind_break(is_wide);
     }
 
-    /// An item or a cell ends.
+    /// Ends an item or a cell.
     pub fn end_item(&mut self)
         ensures { self.new ≡ l.ended self.old }
     {
         self.gap = self.gap.behind_end();
     }
 
-    /// A line ends, as by `br`.
+    /// Ends a line, as `br` does.
     pub fn force_line(&mut self) -> Result<(), AllocError>
         ensures { OnOk result (self.new ≡ l.line_ended self.old) }
     {
@@ -227,14 +227,14 @@ impl Layout {
         Ok(())
     }
 
-    // The line that grows stays one, whatever its width.
+    // Makes the current line one that isn't wrapped, whatever its width.
     fn keep_line(&mut self)
         ensures { self.new ≡ record self.old { is_whole = true } }
     {
         self.is_whole = true;
     }
 
-    // Writes a character of a text in which blanks stay.
+    // Writes a character of a text that keeps whitespace.
     fn write_kept(&mut self, indent: usize, c: char) -> Result<(), AllocError>
         ensures { OnOk result (self.new ≡ l.with_text true indent (encode_utf8 c) self.old) }
     {
@@ -246,7 +246,7 @@ impl Layout {
         Ok(())
     }
 
-    // Writes a character of a text in which blanks fold.
+    // Writes a character of a text that collapses whitespace.
     fn write_folded(&mut self, indent: usize, c: char) -> Result<(), AllocError>
         ensures { OnOk result (self.new ≡ l.with_text false indent (encode_utf8 c) self.old) }
     {
@@ -269,7 +269,7 @@ impl Layout {
         }
     }
 
-    /// Writes a text, in which blanks stay, or fold.
+    /// Writes a text that keeps or collapses whitespace.
     pub fn write_text(
         &mut self,
         keeps_blanks: bool,
@@ -284,7 +284,7 @@ impl Layout {
         Ok(())
     }
 
-    /// All lines.
+    /// Returns all lines.
     pub fn into_text(self) -> Result<String, AllocError>
         ensures { IfOk result (λ text. string_bytes text ≡ l.whole self) }
     {

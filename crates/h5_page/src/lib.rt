@@ -1,13 +1,14 @@
 //! The text and the links of a page.
 //!
-//! `page_text` gives the text of a page as a browser shows it without a style sheet, and `page_links` its links, with their texts;
-//! `page` makes the tree of which both are asked. `text_writer` takes the calls that tell of a tree: `display` says how an element is
-//! shown, `attributes` what its attributes say of that, `open` what it means for what stands in it, `begin` what is laid out where it
-//! begins and ends, `counts` how many items lists have and `number` what stands in front of an item, `layout` what becomes of blanks and lines, and `wrap` of long lines.
-//! `links` takes the calls that tell of links. `laws` tells that a page has one text and one list of links.
+//! `page_text` returns the text of a page as a browser shows it without a style sheet, and `page_links` its links, with their
+//! texts; `page` makes the tree for both. `text_writer` receives the calls of a tree's walk: `display` has how an element is
+//! shown, `attributes` what its attributes say about that, `open` the open elements, `begin` what is laid out at an element's
+//! beginning and end, `counts` the item counts of lists, `number` the numbers of items, `layout` whitespace and lines, and
+//! `wrap` long lines. `links` receives the calls of a walk, and collects links. `laws` has the laws that a page has one text
+//! and one list of links.
 //!
-//! It stands on the library `html_tree_builder`, and the program `hengaruto` on it. Begin with `specs/Text.antt` (the text of a page),
-//! `specs/Displays.antt` and `specs/Layout.antt`, and `specs/Links.antt` (which links a page has), then `src/page_text.rt`.
+//! This crate depends on the library `html_tree_builder`. Begin with `specs/Text.antt` (the text of a page),
+//! `specs/Displays.antt`, `specs/Layout.antt` and `specs/Links.antt` (the links of a page), then `src/page_text.rt`.
 #![tactic(auto)]
 
 mod attributes;

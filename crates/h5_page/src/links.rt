@@ -1,4 +1,4 @@
-//! What takes the calls that tell of a page, and keeps its links.
+//! Receives the calls of a page's walk, and collects its links.
 ghost use Rattle.std.specs.Prelude.{◌≡◌, ◌∷◌, [], List, map, option_map, IfOk, OnOk, string_bytes};
 ghost use Rattle.std.specs.Iterator.{Drains, IsFinite};
 ghost use Rattle.h5_page.specs.Links.{begun, closed, href_of, is_link, kept, link_texts, nothing_kept, or_next};
@@ -7,14 +7,14 @@ use html_tree_builder::names::QualName;
 use html_tree_builder::serialize::{AttrRef, SerializeFault, Serializer};
 use std::alloc::{AllocError, Global};
 
-/// A link: where it leads, and its text.
+/// A link: its `href`, and its text.
 #[derive(Debug, Drop)]
 pub struct Link {
     pub href: String,
     pub text: String,
 }
 
-/// The links of the calls that were taken: those that are whole, and the one that is open.
+/// The links so far: the complete ones, and the open one.
 #[derive(Drop)]
 pub struct Links {
     list: Vec<Link>,
@@ -22,14 +22,14 @@ pub struct Links {
     alloc: Global,
 }
 
-// Whether an element may be a link.
+// Returns true if an element with this name may be a link.
 fn is_link(name: &QualName) -> bool
     ensures { result ≡ is_link name.now }
 {
     name.local.as_str() == "a"
 }
 
-// The value of `href` that was found, or else that of this attribute.
+// Returns the `href` that was found before, or else the value of this attribute if it is `href`.
 fn first_href<T: AttrRef>(
     alloc: Global,
     found: Option<String>,
@@ -47,7 +47,7 @@ fn first_href<T: AttrRef>(
     Ok(None)
 }
 
-// The value of the first attribute `href`.
+// Returns the value of the first attribute `href`.
 fn href_of<T: AttrRef, I: Iterator<Item = T> + Drop>(
     alloc: Global,
     attrs: I,
@@ -65,7 +65,7 @@ fn href_of<T: AttrRef, I: Iterator<Item = T> + Drop>(
 }
 
 impl Links {
-    /// No link yet.
+    /// Returns an empty collection.
     pub fn new(alloc: Global) -> Links
         ensures { kept result ≡ nothing_kept }
     {
@@ -76,7 +76,7 @@ impl Links {
         }
     }
 
-    // The link that is open is whole.
+    // Completes the open link.
     fn close(&mut self) -> Result<(), AllocError>
         ensures { OnOk result (kept self.new ≡ closed (kept self.old)) }
     {
@@ -86,7 +86,7 @@ impl Links {
         Ok(())
     }
 
-    // A link begins, if there is where it leads to.
+    // Begins a link, if it has an `href`.
     fn open(&mut self, href: Option<String>) -> Result<(), AllocError>
         ensures { OnOk result (kept self.new ≡ begun (option_map string_bytes href) (closed (kept self.old))) }
     {
@@ -98,7 +98,7 @@ impl Links {
         Ok(())
     }
 
-    /// All links; the one that is open is the last.
+    /// Returns all links; the open one is last.
     pub fn into_list(self) -> Result<Vec<Link>, AllocError>
         ensures { IfOk result (λ list. link_texts list.items ≡ (closed (kept self)).list) }
     {

@@ -5,7 +5,7 @@ ghost use Rattle.h5_page.specs.Numbers as n;
 use std::alloc::{AllocError, Global};
 use std::fmt::Write;
 
-/// The number of an item: so far from 0, above it or below.
+/// The number of an item: `size`, or its negative if `is_below`.
 #[derive(Clone, Copy, Debug)]
 pub struct ItemNumber {
     pub size: usize,
@@ -15,14 +15,14 @@ pub struct ItemNumber {
 // The largest size.
 const LIMIT: usize = 1_000_000_000;
 
-/// One more, up to the limit.
+/// Returns the size plus 1, up to the limit.
 pub fn one_more(size: usize) -> usize
     ensures { result ≡ n.one_more size }
 {
     if size < LIMIT { size + 1 } else { LIMIT }
 }
 
-// One digit more, up to the limit.
+// Appends a digit to a size, up to the limit.
 fn with_digit(size: usize, digit: u8) -> usize
     ensures { result ≡ n.with_digit size digit }
 {
@@ -33,7 +33,7 @@ fn with_digit(size: usize, digit: u8) -> usize
     }
 }
 
-// The number of the digits at the front of a text.
+// Returns the value of the digits at the start of a text.
 fn digits_in(text: &[u8]) -> usize
     ensures { result ≡ n.digits_in 0 text.now }
 {
@@ -48,7 +48,7 @@ fn digits_in(text: &[u8]) -> usize
 }
 
 impl ItemNumber {
-    /// The first one, where nothing else is said.
+    /// Returns 1, the first number by default.
     pub fn one() -> ItemNumber
         ensures { result ≡ n.one }
     {
@@ -58,7 +58,7 @@ impl ItemNumber {
         }
     }
 
-    /// The first one of a list that has so many items, where numbers rise, or where they fall.
+    /// Returns the first number of a list with `count` items: 1, or `count` if the numbers are reversed.
     pub fn first(count: usize, falls: bool) -> ItemNumber
         ensures { result ≡ n.first count falls }
     {
@@ -72,7 +72,7 @@ impl ItemNumber {
         }
     }
 
-    /// The one that comes next, where numbers rise, or where they fall.
+    /// Returns the next number, which is smaller if the numbers are reversed.
     pub fn next(self, falls: bool) -> ItemNumber
         ensures { result ≡ n.next falls self }
     {
@@ -95,7 +95,7 @@ impl ItemNumber {
         }
     }
 
-    /// The mark of an item with this number. An `AllocError` where memory is refused.
+    /// Returns the mark of an item with this number. Fails with `AllocError` if an allocation fails.
     pub fn mark(self, alloc: Global) -> Result<String, AllocError>
         ensures { IfOk result (λ mark. string_bytes mark ≡ n.mark_of self) }
     {
@@ -109,7 +109,7 @@ impl ItemNumber {
     }
 }
 
-// A number that is said in digits.
+// Parses a number without a sign.
 fn unsigned(text: &[u8], is_below: bool) -> Option<ItemNumber>
     ensures { result ≡ n.unsigned is_below text.now }
 {
@@ -122,7 +122,7 @@ fn unsigned(text: &[u8], is_below: bool) -> Option<ItemNumber>
     }
 }
 
-/// The number that a value says (HTML standard, section 2.3.4.1, "Signed integers"), if it says one.
+/// Returns the number that a value begins with (HTML standard, section 2.3.4.1, "Signed integers"), if there is one.
 pub fn number_in(text: &str) -> Option<ItemNumber>
     ensures { result ≡ n.number_in text.now }
 {

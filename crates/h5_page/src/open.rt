@@ -1,4 +1,4 @@
-//! The elements that are open, as they are shown.
+//! The open elements.
 ghost use Rattle.std.specs.Prelude.{◌≡◌, ◌∷◌, [], IfOk, OnOk, string_bytes};
 ghost use Rattle.h5_page.specs.Text as t;
 
@@ -8,30 +8,30 @@ use super::number::{ItemNumber, number_in};
 use std::alloc::{AllocError, Global};
 use std::marker::Model;
 
-/// An element that is open: how it is shown, and what it means for what stands in it.
+/// An open element: how it is shown, and how its content is.
 #[derive(Clone, Copy, Debug)]
 pub struct Open {
     pub display: Display,
     pub is_shown: bool,
     pub keeps_blanks: bool,
     pub is_in_list: bool,
-    /// Of what stands in it.
+    /// The indent of its content.
     pub indent: usize,
-    /// Whether a cell has begun in it.
+    /// True if a cell has begun in it.
     pub has_cell: bool,
-    /// The number of the next item, and whether numbers fall.
+    /// The number of the next item, and whether numbers are reversed.
     pub number: ItemNumber,
     pub falls: bool,
 }
 
-// One step more to the right; there is a limit.
+// Returns the next larger indent; there is a limit.
 fn more_indent(indent: usize) -> usize
     ensures { result ≡ t.more_indent indent }
 {
     if indent < 40 { indent + 2 } else { indent }
 }
 
-// Whether what is said shows an element.
+// Returns true if an element with these attributes is shown.
 fn shows(display: Display, said: &Said) -> bool
     ensures { result ≡ t.shows display said.now }
 {
@@ -42,7 +42,7 @@ fn shows(display: Display, said: &Said) -> bool
     }
 }
 
-// The number that is said, or else another one.
+// Returns the number that the attributes give, or else another one.
 fn said_number(said: &Said, other: ItemNumber) -> ItemNumber
     ensures { result ≡ t.said_number said.now other }
 {
@@ -53,7 +53,7 @@ fn said_number(said: &Said, other: ItemNumber) -> ItemNumber
 }
 
 impl Open {
-    /// Around the page.
+    /// Returns the element around the page.
     pub fn page() -> Open
         ensures { result ≡ t.page }
     {
@@ -69,7 +69,7 @@ impl Open {
         }
     }
 
-    /// An element that begins in this one, with so many items, if it is a list that has numbers.
+    /// Returns an element that begins in this one. `count` is the number of its items, if it is a numbered list.
     pub fn inner(self, display: Display, said: &Said, count: usize) -> Open
         ensures { result ≡ t.inner display said.now count self }
     {
@@ -89,7 +89,7 @@ impl Open {
         }
     }
 
-    /// This element, behind the beginning of one that is shown in it.
+    /// Returns this element after the beginning of one that is shown in it.
     pub fn behind(self, display: Display, said: &Said) -> Open
         ensures { result ≡ t.behind display said.now self }
     {
@@ -106,7 +106,7 @@ impl Open {
         }
     }
 
-    /// The mark of an item that begins in it. An `AllocError` where memory is refused.
+    /// Returns the mark of an item that begins in it. Fails with `AllocError` if an allocation fails.
     pub fn mark(self, alloc: Global, said: &Said) -> Result<String, AllocError>
         ensures { IfOk result (λ mark. string_bytes mark ≡ t.mark_in said.now self) }
     {
@@ -117,11 +117,11 @@ impl Open {
     }
 }
 
-/// The elements that are open.
+/// The open elements.
 #[derive(Drop)]
 pub struct OpenElements {
     current: Open,
-    // The innermost one last.
+    // The innermost one is last.
     outer: Vec<Open>,
 }
 
@@ -135,7 +135,7 @@ impl Model for OpenElements {
 }
 
 impl OpenElements {
-    /// None but the page.
+    /// Returns only the page.
     pub fn new(alloc: Global) -> OpenElements
         ensures { result ≡ t.none_open }
     {
@@ -145,14 +145,14 @@ impl OpenElements {
         }
     }
 
-    /// The innermost one.
+    /// Returns the innermost one.
     pub fn current(&self) -> Open
         ensures { result ≡ self.now.current }
     {
         self.current
     }
 
-    /// One begins in the innermost one, of which this is what is left.
+    /// Begins an element in the innermost one, which becomes `outer`.
     pub fn enter(&mut self, outer: Open, inner: Open) -> Result<(), AllocError>
         ensures { OnOk result (self.new ≡ record { current = inner; outer = outer ∷ self.old.outer }) }
     {
@@ -161,7 +161,7 @@ impl OpenElements {
         Ok(())
     }
 
-    /// The innermost one ends. `None` where none is open.
+    /// Ends the innermost one, and returns it, or `None` if none is open.
     pub fn leave(&mut self) -> Option<Open>
         ensures ended { result ≡ t.ended_one self.old }
         ensures left { self.new ≡ t.left self.old }

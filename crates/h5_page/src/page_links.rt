@@ -14,7 +14,7 @@ use html_tree_builder::serialize::laws::calls_are_taken_in_turn;
 use html_tree_builder::serialize::{Serialize, SerializeFault, TraversalScope};
 use std::alloc::{AllocError, Global};
 
-// Takes the calls that tell of a node's children.
+// Receives the calls of the walk of a node's children.
 fn take_calls(links: &mut Links, node: &NodeRef<'_>) -> Result<(), SerializeFault>
     ensures { OnOk result (kept links.new ≡ after_each after_call (kept links.old) (walk_of (forest_seen node.now.arena.now) node.now.id.index (ChildrenOnly None))) }
 {
@@ -23,7 +23,7 @@ fn take_calls(links: &mut Links, node: &NodeRef<'_>) -> Result<(), SerializeFaul
     Ok(())
 }
 
-/// The links of what stands below a node, in its order. An `AllocError` where memory is refused.
+/// Returns the links below a node, in tree order. Fails with `AllocError` if an allocation fails.
 pub fn links_of(alloc: Global, node: &NodeRef<'_>) -> Result<Vec<Link>, AllocError>
     ensures { IfOk result (λ links. link_texts links.items ≡ links_of (walk_of (forest_seen node.now.arena.now) node.now.id.index (ChildrenOnly None))) }
 {
@@ -33,7 +33,7 @@ pub fn links_of(alloc: Global, node: &NodeRef<'_>) -> Result<Vec<Link>, AllocErr
     Ok(list)
 }
 
-/// The links of a page, in its order. An `AllocError` where memory is refused.
+/// Returns the links of a page, in tree order. Fails with `AllocError` if an allocation fails.
 pub fn links_of_page(alloc: Global, page: String) -> Result<Vec<Link>, AllocError>
     ensures { IfOk result (λ links. AreLinksOf (string_bytes page) (link_texts links.items)) }
 {

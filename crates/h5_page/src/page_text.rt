@@ -16,7 +16,7 @@ use html_tree_builder::serialize::laws::calls_are_taken_in_turn;
 use html_tree_builder::serialize::{Serialize, SerializeFault, TraversalScope};
 use std::alloc::{AllocError, Global};
 
-// Takes the calls that tell of a node's children.
+// Receives the calls of the walk of a node's children.
 fn take_calls(writer: &mut TextWriter, node: &NodeRef<'_>) -> Result<(), SerializeFault>
     ensures { OnOk result (writer.new ≡ after_each after_call writer.old (walk_of (forest_seen node.now.arena.now) node.now.id.index (ChildrenOnly None))) }
 {
@@ -25,7 +25,7 @@ fn take_calls(writer: &mut TextWriter, node: &NodeRef<'_>) -> Result<(), Seriali
     Ok(())
 }
 
-// Takes the calls that tell of a node's children.
+// Counts items in the walk of a node's children.
 fn count_calls(counter: &mut ItemCounter, node: &NodeRef<'_>) -> Result<(), SerializeFault>
     ensures { OnOk result (counter.new ≡ after_each count.after_call counter.old (walk_of (forest_seen node.now.arena.now) node.now.id.index (ChildrenOnly None))) }
 {
@@ -34,7 +34,7 @@ fn count_calls(counter: &mut ItemCounter, node: &NodeRef<'_>) -> Result<(), Seri
     Ok(())
 }
 
-// How many items the lists with numbers below a node have; the last one comes first.
+// Returns how many items each numbered list below a node has; the last list comes first.
 fn counts_below(alloc: Global, node: &NodeRef<'_>) -> Result<Vec<usize>, AllocError>
     ensures { IfOk result (λ counts. counts.items ≡ reverse (count.counts_of (walk_of (forest_seen node.now.arena.now) node.now.id.index (ChildrenOnly None)))) }
 {
@@ -45,7 +45,8 @@ fn counts_below(alloc: Global, node: &NodeRef<'_>) -> Result<Vec<usize>, AllocEr
     Ok(counts)
 }
 
-/// The text of what stands below a node, and, where links have numbers, where they lead. An `AllocError` where memory is refused.
+/// Returns the text below a node, and, if links have numbers, the `href` of each. Fails with `AllocError` if an allocation
+/// fails.
 pub fn text_with(alloc: Global, node: &NodeRef<'_>, opts: TextOpts) -> Result<PageText, AllocError>
     ensures text { IfOk result (λ page. string_bytes page.text ≡ text_of opts (walk_of (forest_seen node.now.arena.now) node.now.id.index (ChildrenOnly None))) }
     ensures hrefs { IfOk result (λ page. map string_bytes page.hrefs.items ≡ hrefs_of opts (walk_of (forest_seen node.now.arena.now) node.now.id.index (ChildrenOnly None))) }
@@ -57,7 +58,7 @@ pub fn text_with(alloc: Global, node: &NodeRef<'_>, opts: TextOpts) -> Result<Pa
     Ok(page)
 }
 
-/// The text of what stands below a node, with lines as long as they are. An `AllocError` where memory is refused.
+/// Returns the text below a node. Lines aren't wrapped. Fails with `AllocError` if an allocation fails.
 pub fn text_of(alloc: Global, node: &NodeRef<'_>) -> Result<String, AllocError>
     ensures { IfOk result (λ text. string_bytes text ≡ text_of plain_opts (walk_of (forest_seen node.now.arena.now) node.now.id.index (ChildrenOnly None))) }
 {
@@ -65,7 +66,7 @@ pub fn text_of(alloc: Global, node: &NodeRef<'_>) -> Result<String, AllocError>
     Ok(page.text)
 }
 
-/// The text of a page, with lines as long as they are. An `AllocError` where memory is refused.
+/// Returns the text of a page. Lines aren't wrapped. Fails with `AllocError` if an allocation fails.
 pub fn text_of_page(alloc: Global, page: String) -> Result<String, AllocError>
     ensures { IfOk result (λ text. IsTextOf (string_bytes page) (string_bytes text)) }
 {

@@ -1,4 +1,4 @@
-//! What takes the calls that tell of a page, and keeps its text.
+//! Receives the calls of a page's walk, and collects its text.
 ghost use Rattle.std.specs.Prelude.{◌≡◌, ◌++◌, ◌∷◌, [], IfOk, OnOk, map, reverse, string_bytes};
 ghost use Rattle.h5_page.specs.Layout.{whole};
 ghost use Rattle.h5_page.specs.Text as t;
@@ -17,14 +17,14 @@ use std::marker::Model;
 /// How the text of a page is laid out.
 #[derive(Clone, Copy, Debug)]
 pub struct TextOpts {
-    /// At how many columns lines are wrapped; else they are as long as they are.
+    /// The width in columns at which lines are wrapped; `None` means that they aren't.
     pub width: Option<usize>,
-    /// Whether links have numbers.
+    /// If true, links have numbers.
     pub has_numbers: bool,
 }
 
 impl TextOpts {
-    /// Lines as long as they are, and no numbers.
+    /// Lines that aren't wrapped, and no numbers.
     pub fn plain() -> TextOpts
         ensures { result ≡ t.plain_opts }
     {
@@ -35,17 +35,17 @@ impl TextOpts {
     }
 }
 
-/// The text of a page, and, where its links have numbers, where they lead, in that order.
+/// The text of a page, and, if its links have numbers, the `href` of each, in order.
 #[derive(Debug, Drop)]
 pub struct PageText {
     pub text: String,
     pub hrefs: Vec<String>,
 }
 
-/// The text of the calls that were taken.
+/// The text of the calls so far.
 #[derive(Drop)]
 pub struct TextWriter {
-    // Of the lists that come, the first one last.
+    // The item counts of the lists that follow; the first list is last.
     counts: Vec<usize>,
     elements: OpenElements,
     layout: Layout,
@@ -63,7 +63,7 @@ impl Model for TextWriter {
     ghost view = { λ writer. record { counts = reverse writer.counts.items; opened = writer.elements; laid = writer.layout; has_numbers = writer.has_numbers; hrefs = map string_bytes writer.hrefs.items } };
 }
 
-// The number of a link, as it stands in the text.
+// Returns the number of a link, as it appears in the text.
 fn link_mark(alloc: Global, number: usize) -> Result<String, AllocError>
     ensures { IfOk result (λ mark. string_bytes mark ≡ t.link_mark number) }
 {
@@ -73,7 +73,7 @@ fn link_mark(alloc: Global, number: usize) -> Result<String, AllocError>
 }
 
 impl TextWriter {
-    /// No text yet. The lists with numbers that come have so many items, the last one first.
+    /// Returns an empty text. `counts` has the item counts of the numbered lists that follow, the last list first.
     pub fn new(alloc: Global, opts: TextOpts, counts: Vec<usize>) -> TextWriter
         ensures { result ≡ t.nothing_kept opts (reverse counts.items) }
     {
@@ -87,7 +87,7 @@ impl TextWriter {
         }
     }
 
-    // A link that leads there begins.
+    // Begins a link with this `href`.
     fn number_link(&mut self, href: &str, indent: usize) -> Result<(), AllocError>
         ensures { OnOk result (self.new ≡ t.numbered indent href.now self.old) }
     {
@@ -97,7 +97,7 @@ impl TextWriter {
         self.layout.write(indent, mark.as_str())
     }
 
-    // The number of a link, where this is one, and links have numbers.
+    // Writes the number of a link, if this is one, and links have numbers.
     fn begin_link(&mut self, display: Display, said: &Said, indent: usize) -> Result<(), AllocError>
         ensures { OnOk result (self.new ≡ t.with_link indent (t.link_of display said.now) self.old) }
     {
@@ -109,7 +109,7 @@ impl TextWriter {
         }
     }
 
-    // How many items an element has that begins, if it is a list with numbers.
+    // Returns the item count of the element that begins, if it is a numbered list.
     fn next_count(&mut self, display: Display) -> usize
         ensures count { result ≡ t.count_of display self.old.counts }
         ensures left { self.new ≡ t.counted display self.old }
@@ -120,7 +120,7 @@ impl TextWriter {
         }
     }
 
-    // An element begins.
+    // Begins an element.
     fn start(&mut self, display: Display, said: &Said) -> Result<(), AllocError>
         ensures { OnOk result (self.new ≡ t.started display said.now self.old) }
     {
@@ -135,7 +135,7 @@ impl TextWriter {
         self.elements.enter(outer.behind(display, said), inner)
     }
 
-    // An element ends.
+    // Ends an element.
     fn stop(&mut self)
         ensures { self.new ≡ t.stopped self.old }
     {
@@ -150,7 +150,7 @@ impl TextWriter {
         }
     }
 
-    // A text.
+    // Writes a text.
     fn say(&mut self, text: &str) -> Result<(), AllocError>
         ensures { OnOk result (self.new ≡ t.said text.now self.old) }
     {
@@ -162,7 +162,7 @@ impl TextWriter {
             .write_text(current.keeps_blanks, current.indent, text)
     }
 
-    /// The text, and where its links lead. An `AllocError` where memory is refused.
+    /// Returns the text, and the `href` of each numbered link. Fails with `AllocError` if an allocation fails.
     pub fn into_text(self) -> Result<PageText, AllocError>
         ensures text { IfOk result (λ page. string_bytes page.text ≡ whole self.laid) }
         ensures hrefs { IfOk result (λ page. map string_bytes page.hrefs.items ≡ self.hrefs) }

@@ -1,11 +1,11 @@
-//! Lines that are wrapped.
+//! Wrapped lines.
 ghost use Rattle.std.specs.Prelude.{◌≡◌, ◌++◌, ◌-◌, IfOk, OnOk, string_bytes};
 ghost use Rattle.h5_page.specs.Wrapped as w;
 
 use std::alloc::AllocError;
 use unicode_width::UnicodeWidthStr;
 
-/// Writes so many spaces.
+/// Writes `count` spaces.
 pub fn write_spaces(line: &mut String, count: usize) -> Result<(), AllocError>
     ensures { OnOk result (string_bytes line.new ≡ string_bytes line.old ++ w.spaces count) }
 {
@@ -15,7 +15,7 @@ pub fn write_spaces(line: &mut String, count: usize) -> Result<(), AllocError>
     Ok(())
 }
 
-// Writes a word behind others: in their line, where it has room, or else on a new one. Gives the room that is left.
+// Writes a word after others: in their line if it fits, or else on a new one. Returns the room that is left.
 fn write_word(
     lines: &mut String,
     word: &str,
@@ -38,7 +38,7 @@ fn write_word(
     Ok(width.saturating_sub(hang).saturating_sub(columns))
 }
 
-// Writes the words of a text behind others.
+// Writes the words of a text after others.
 fn write_words(
     lines: &mut String,
     text: &str,
@@ -52,7 +52,7 @@ fn write_words(
     let mut left = room;
     while let Some((word, behind)) = rest.split_once(' ') {
         left = write_word(lines, word, left, width, hang)?;
-        // That it is text holds for the loop's next turn.
+        // For the loop's next turn: `behind` is UTF-8.
         let _bytes = behind.as_bytes();
         rest = behind;
     }
@@ -60,7 +60,7 @@ fn write_words(
     Ok(())
 }
 
-/// Writes a line in lines of so many columns, as far as its words allow it; all but the first are indented.
+/// Writes a line as lines of at most this width, as far as its words allow it. All except the first are indented.
 pub fn write_wrapped(
     lines: &mut String,
     line: &str,

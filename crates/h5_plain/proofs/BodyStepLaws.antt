@@ -1,4 +1,4 @@
--- What a tag or a text of a plain document does in the body, or in a cell, which goes by the body for it.
+-- What a tag or a text of a plain document does in the body, or in a cell, which uses the rules of the body for it.
 use Rattle.std.proofs.Common.{◌≡◌, ◌∙◌, ℕ, Bool, true, false, ◌&&◌, not, cond, List, [], ◌∷◌, codes, None, refl, ap, subst, Option}
 use Rattle.h5_names.specs.AttributeText.{AttributeText}
 use Rattle.h5_names.specs.declared.qualified.QualName.{QualName}

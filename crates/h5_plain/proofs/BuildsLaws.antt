@@ -42,7 +42,7 @@ use Rattle.h5_plain.proofs.TableBuildsLaws.{in_marked, in_part, marked_case, par
 use Rattle.h5_plain.proofs.TableRuleLaws.{IsCellName, caption, column_is_void, group_holds, group_rule, is_cell_name, is_part_name, row_holds, row_rule, table_holds}
 use Rattle.h5_plain.proofs.TableStepLaws.{Ends, ends_caption, ends_cell, ends_group, ends_row, ends_section, ends_table, puts_column, same_marked, starts_caption, starts_cell, starts_part, starts_table, writes_blank}
 
--- where nothing is said to be open, nothing is found
+-- if nothing is said to be open, nothing is found
 abbrev pub Free : Bool → Bool → Type 0
 Free b found = b ≡ false → found ≡ false
 
@@ -255,11 +255,11 @@ in_a_caption at_root names h =
           ∙ ap (λ b. cond b false (no_select names)) k.ends_default;
     }
 
--- a formatting element that is no link
+-- a formatting element that isn't a link
 unlinked_in : (b : Bool) (n : ℕ) (name : List ℕ) (path : List OpenFormat) → is_same_text name (codes "a") ≡ false → Free b (has_link path) → Free b (has_link (Formats n name ∷ path))
 unlinked_in b n name path h u e = ap (λ x. x || has_link path) h ∙ u e
 
--- behind the start tag of a `pre`, nodes of which a newline at the front is told twice lead where they lead elsewhere
+-- after the start tag of a `pre`, nodes whose first newline is doubled have the effect that they have elsewhere
 goes_doubled : (blanks : Bool) (choices : SinkChoices) (inner : Nodes) (name : List ℕ) (ts : List TokenText) (w u : World) → GoesByBody w.mode → w.ignore_lf ≡ false
     → Goes blanks choices (tokens_before inner (end_tag name ∷ ts)) w u → Goes blanks choices (tokens_before (with_doubled inner) (end_tag name ∷ ts)) (ignoring w) u
 goes_doubled blanks choices End name ts w u k e g = goes_ignoring blanks choices (end_tag name ∷ ts) w u k e refl g
@@ -438,7 +438,7 @@ group_named : is_html_named (codes "colgroup") (html_name (codes "colgroup")) �
 unfolding is_html_named html_namespace
 group_named = refl
 
--- no text stands right behind a text
+-- no text comes right after a text
 abbrev behind_text : Sort → Bool
 behind_text (Flow a o) = a
 behind_text (Part a k) = a
@@ -540,8 +540,8 @@ module _ (choices : SinkChoices) {at_root : Option Role} {w : World} {p : ℕ} {
       (λ i e j x. closes_format i.forest i.formatting i.ok i.saved k m i.filled.frame.is_forest e j i.entries i.fewer)
       next
 
--- THE INDUCTION: from any calm builder, the tokens of plain nodes lead to it again, but for those nodes below its
--- current node, the formatting list and the frameset flag
+-- THE INDUCTION: from any calm builder, the tokens of plain nodes lead to it again, except for those nodes below its
+-- current node, the formatting list and the frameset-ok flag
 pub builds : {blanks : Bool} → (choices : SinkChoices) {at_root : Option Role} {s : Sort} {nodes : Nodes} → IsPlain blanks s nodes → (w : World) (p : ℕ) (d : Face) (names : List QualName) (path : List OpenFormat) (under : List ℕ) (base : List Entry)
     → Fits at_root s w.mode names → Seam s d.children → Unlinked s path → Calm at_root w p d names path under base → Built blanks choices w p d nodes path base
 builds choices {at_root} Nothing w p d names path under base f z l c = built_nothing choices c

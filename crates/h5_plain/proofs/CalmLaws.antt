@@ -47,8 +47,9 @@ pub named_kept : {f : Forest} (g : Forest) {s : List ℕ} {names : List QualName
 named_kept g k NoneOpen = NoneOpen
 named_kept {f} g k (OneOpen {n} {name} e r) = OneOpen (k n (node_of_kind f n (ElementNode name) e) ∙ e) (named_kept g k r)
 
--- the builder is at the node p, which is `d`, of HTML, and, foster parenting being off, takes children itself. `path` are the open formatting elements of
--- the inlines that the builder is in, `under` the open elements below them, `base` the formatting list before them
+-- the builder is at the node p, which is `d`, of HTML, and takes children itself, since foster parenting is off. `path`
+-- are the open formatting elements of the inlines that the builder is in, `under` the open elements below them, `base`
+-- the formatting list before them
 pub record Calm (at_root : Option Role) (w : World) (p : ℕ) (d : Face) (names : List QualName) (path : List OpenFormat) (under : List ℕ) (base : List Entry) : Type 0 where
   pub is_forest : IsForest w.forest
   pub ignore_lf : w.ignore_lf ≡ false
@@ -86,7 +87,7 @@ place_is w p d e l off untemplated =
     (ap (λ b. b && is_table_outer (name_in w.forest p)) off)
     ∙ ap (λ b. LastChild (cond b (unwrap_or (contents_of w.forest p) p) p)) (ap is_html_template name ∙ untemplated)
 
--- and where no form is known, nothing has a form owner
+-- and if no form is known, nothing has a form owner
 pub unowned : (choices : SinkChoices) (local : List ℕ) (attrs : List AttributeText) (w : World) → w.form ≡ None → owned choices local attrs w ≡ None
 unfolding form_owner
 unowned choices local attrs w k = ap (associates choices (choices.fresh w.forest) (place w)) (at (may_have_owner local attrs && not (has_template (names_of w))))
@@ -120,7 +121,7 @@ pub record Built (blanks : Bool) (choices : SinkChoices) (w : World) (p : ℕ) (
   pub entries : Entries base path formatting
   pub fewer : Fewer formatting w.formatting
 
--- the end tag of the current node leads back to w, but for marks and the formatting list
+-- the end tag of the current node leads back to w, except for marks and the formatting list
 pub record Closed (choices : SinkChoices) (name : List ℕ) (v w : World) (path : List OpenFormat) (base : List Entry) : Type 0 where
   pub forest : Forest
   pub formatting : List Entry
@@ -168,7 +169,7 @@ module _ (choices : SinkChoices) {at_root : Option Role} {w : World} {p : ℕ} {
     fewer = λ n h. h;
   }
 
--- what an element holds that is no `pre` is told as it stands
+-- the content of an element that isn't a `pre` has its tokens unchanged
 pub enters : {blanks : Bool} {choices : SinkChoices} {w v : World} (name : List ℕ) (attrs : List AttributeText) (inner : Nodes) → is_same_text name (codes "pre") ≡ false → Moves choices (start_tag name attrs) w v
     → (ts : List TokenText) (u : World) → Goes blanks choices (tokens_before (as_written inner) (end_tag name ∷ ts)) v u
     → Goes blanks choices (start_tag name attrs ∷ tokens_before (held_as_written name (as_written inner)) (end_tag name ∷ ts)) w u

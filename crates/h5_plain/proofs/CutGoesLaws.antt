@@ -1,4 +1,4 @@
--- However the texts of a list of tokens are cut, it leads where it leads uncut.
+-- However the texts of a list of tokens are split, it leads to the same world.
 use Rattle.std.proofs.Common.{◌≡◌, ℕ, Bool, false, true, List, [], ◌∷◌, ◌++◌, refl, ap, sym, subst, ◌∙◌}
 use Rattle.h5_token.specs.TokenText.{TokenText, DoctypeIs, TagIs, CommentIs, Characters, NullCharacter, EndOfFile, ParseErrorIs}
 use Rattle.h5_interface.specs.SinkChoices.{SinkChoices}
@@ -17,7 +17,7 @@ use Rattle.h5_plain.proofs.cuts.RunLaws.{step_cut, takes_text, without_lf-append
 use Rattle.h5_rules.proofs.changes.TreeLaws.{tree_reconstruct}
 use Rattle.h5_plain.proofs.GoesLaws.{Runs, Steps, Takes}
 
--- in a mode in which texts tell no parse error, none does
+-- in a mode in which texts report no parse error, none does
 text_quiet : (choices : SinkChoices) (t : List ℕ) (w : World) → is_quiet_text w.mode ≡ true → (text_step choices t w).quiet ≡ true
 text_quiet choices [] w q = refl
 text_quiet choices (b ∷ t) w q = q

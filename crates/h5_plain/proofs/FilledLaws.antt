@@ -1,4 +1,4 @@
--- What a list of nodes makes of a forest: new nodes below one node, under which it stands.
+-- The forest after a list of nodes is added: new nodes below one node, whose children are the list.
 use Rattle.std.proofs.Common.{◌≡◌, ◌≢◌, ◌∙◌, ℕ, false, List, [], ◌∷◌, ◌++◌, append_assoc, append-nil, codes, Option, Some, None, ap, refl, sym, subst}
 use Rattle.h5_names.specs.AttributeText.{AttributeText}
 use Rattle.h5_names.specs.declared.qualified.QualName.{QualName}
@@ -14,7 +14,7 @@ use Rattle.h5_plain.specs.Rebuilding.{Looks, Stands}
 use Rattle.h5_plain.proofs.GrowthLaws.{Below, Rooted, html, kinds_apart, with_element}
 use Rattle.h5_plain.proofs.LooksLaws.{apart_from, ends_in_text, looks_beside_text, looks_node, looks_texted}
 
--- what a node is, but for its parent and its marks
+-- a node, except for its parent and its marks
 pub record Face : Type 0 where
   pub kind : Kind
   pub attrs : List AttributeText

@@ -14,7 +14,7 @@ both_not : (b c : Bool) → b ≡ false → c ≡ false → cond b true c ≡ fa
 both_not true c e f = absurd (cc)
 both_not false c e f = f
 
--- where the earliest alike entry goes, no element is listed that was not
+-- where the earliest alike entry is removed, no element is listed that was not
 pub dropped_fewer : (t : TagText) (l : List Entry) → Fewer (without_earliest t l) l
 dropped_fewer t [] n h = h
 dropped_fewer t (MarkerEntry ∷ l) n h = h

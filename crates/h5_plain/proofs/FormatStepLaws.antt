@@ -1,4 +1,4 @@
--- What a tag of a formatting element does in the body, or in a cell, which goes by the body for it.
+-- What a tag of a formatting element does in the body, or in a cell, which uses the rules of the body for it.
 use Rattle.std.proofs.Common.{◌≡◌, ◌∙◌, ℕ, ◌==◌, Bool, true, false, ◌&&◌, ◌||◌, not, is_some, cond, List, [], ◌∷◌, Some, codes, refl, ap, Option}
 use Rattle.std.specs.List.{list_any}
 use Rattle.std.proofs.lemmas.Bool.{eq-eqb}
@@ -91,7 +91,7 @@ module _ (choices : SinkChoices) (v : World) (n : ℕ) (s : List ℕ) (names : L
       (ap (λ b. cond b (pop choices v) (adopt_within 8 choices name v)) u
       ∙ ap (λ x. let y : World = record v { forest = mark (choices.marks_after_pop v.forest (current v)) v.forest; stack = but_first x } in y) open_is)
 
-  -- where it is the newest that is listed, its entry goes, too
+  -- where it is the newest that is listed, its entry is removed, too
   module _ (t : TagText) (l : List Entry) (t_is : is_same_text t.name name ≡ true) (f : v.formatting ≡ ElementEntry n t ∷ l) where
     abbrev it : FormattingElement
     it = record { node = n; tag = t }

@@ -42,7 +42,7 @@ pub record Takes (choices : SinkChoices) (t : TokenText) (w v : World) : Type 0 
   pub reply : (step choices t w).reply ≡ plain_reply t
   pub accepted : refuses_in w.mode t ≡ false
 
--- the same, and no parse error is told
+-- as above, and no parse error is reported
 pub record Moves (choices : SinkChoices) (t : TokenText) (w v : World) : Type 0 where
   pub world : (step choices t w).world ≡ v
   pub reply : (step choices t w).reply ≡ plain_reply t
@@ -62,7 +62,7 @@ one_turn choices t w m changes e h f s =
 goes_on : (tag : TagText) → is_start_of_title tag ≡ false → Continues ≡ plain_reply (TagIs tag)
 goes_on tag n = sym (ap (λ b. cond b (TurnsRaw Rcdata) Continues) n)
 
--- a token that is ignored in a text tells a parse error
+-- a token that is ignored in a text reports a parse error
 ignored_is_told : (choices : SinkChoices) (t : TurnText) (w : World) → w.mode ≡ Text → is_foreign choices t w ≡ false → rule Text t w ≡ ignored → (settle choices t w).quiet ≡ false
 ignored_is_told choices t w e h f = ap (λ (s : Settled). s.quiet) (settle-done choices t w Text ignored h e f refl)
 
@@ -106,8 +106,7 @@ moves_end choices w m changes e f =
     let one = one_turn choices EofTurn (taken w) m changes e (eof_html choices (taken w)) f refl in
     record { world = ap (λ (x : Settled). x.world) one; reply = ap (λ (x : Settled). x.reply) one; quiet = ap (λ (x : Settled). x.quiet) one; accepted = takes_end w.mode }
 
--- so does a list
--- a token of such a list: where no blank text stands in a table, no parse error is told
+-- one token of such a list: if no whitespace text is in a table, no parse error is reported
 pub record Steps (blanks : Bool) (choices : SinkChoices) (t : TokenText) (w v : World) : Type 0 where
   pub takes : Takes choices t w v
   pub quiet : blanks ≡ false → (step choices t w).quiet ≡ true
@@ -122,7 +121,7 @@ abbrev pub Runs : Bool → SinkChoices → List TokenText → World → World �
 Runs blanks choices [] w u = w ≡ u
 Runs blanks choices (t ∷ ts) w u = (v : World) × (Steps blanks choices t w v × Runs blanks choices ts v u)
 
--- the modes in which the text of a table is kept back
+-- the modes in which the text of a table is buffered
 pub data IsTableMode : InsertionMode → Type 0 where
   TheTable : IsTableMode InTable
   TheSection : IsTableMode InTableBody
@@ -132,7 +131,7 @@ abbrev pub BeginsWithTag : List TokenText → Type 0
 BeginsWithTag (TagIs tag ∷ ts) = Unit {0}
 BeginsWithTag _ = ⊥
 
--- a blank text in a table: it is kept back, and comes below the current node as the next tag does
+-- a whitespace text in a table: it is buffered, and inserted into the current node by the next tag
 pub record Blanks (t : List ℕ) (w v : World) : Type 0 where
   pub ignore_lf : w.ignore_lf ≡ false
   pub none_pending : w.pending ≡ []
@@ -205,7 +204,7 @@ moves_acknowledged choices tag w v m changes e i h f n a =
       accepted = not_refused choices tag w w.mode refl h quiet;
     }
 
--- a text in a mode that goes by the body, where nothing is to be reconstructed
+-- a text in a mode that uses the rules of the body, if nothing is to be reconstructed
 pub moves_text : (choices : SinkChoices) (b : ℕ) (t : List ℕ) (w : World) → GoesByBody w.mode → w.ignore_lf ≡ false → AtHtml w → closed_front w.stack w.formatting ≡ []
     → Moves choices (Characters (b ∷ t)) w (append_text (b ∷ t) (set_frameset_ok_by_text (b ∷ t) w))
 unfolding step text_in_body
@@ -234,7 +233,7 @@ moves_raw_text choices b t w m e h = record {
   accepted = takes_text w.mode (b ∷ t);
 }
 
--- where the newline flag is set, a token that isn't a text with a newline at its front moves as where it isn't
+-- if the newline flag is set, a token that isn't a text with a newline at its start moves as if it isn't set
 abbrev pub ignoring : World → World
 ignoring w = record w { ignore_lf = true }
 
@@ -308,7 +307,7 @@ goes_ignoring blanks choices (t ∷ ts) w u k e h (v, (Straight m, g)) = (v, (St
 goes_ignoring blanks choices (t ∷ ts) w u k e h (v, (InColumns z x m, g)) = absurd (no_columns k x)
 goes_ignoring blanks choices (t ∷ ts) w u k e h (v, (KeptBack z x blank, g)) = absurd (no_table_mode k blank.mode)
 
--- and a text with a newline more at its front moves there as without it where the flag isn't set
+-- and a text with one more newline at its start moves there as the text without it if the flag isn't set
 moves_behind_newline : (choices : SinkChoices) (b : ℕ) (t : List ℕ) (w v : World) → w.ignore_lf ≡ false → Moves choices (Characters (b ∷ t)) w v → Moves choices (Characters (10 ∷ b ∷ t)) (ignoring w) v
 unfolding step
 moves_behind_newline choices b t w v e m =

@@ -45,7 +45,7 @@ kinds_apart f n m k j a b cs ds l r h e =
 pub name_of : (f : Forest) (n : ℕ) (name : QualName) (a : List AttributeText) (cs : List Child) → Looks f n (ElementNode name) a cs → name_in f n ≡ name
 name_of f n name a cs l = ap name_of_found l.is_kind
 
--- an element that is no template is made without contents
+-- an element that isn't a template is created without contents
 made_plain : (choices : SinkChoices) (name : QualName) (attrs : List AttributeText) (duplicates : Bool) (f : Forest) → is_html_template name ≡ false → make_element choices name attrs (flags_of name attrs duplicates) f ≡ make choices (element name attrs (flags_of name attrs duplicates)) f
 made_plain choices name attrs duplicates f e =
     ap (λ b. with_contents b choices (choices.fresh f) (make choices (element name attrs (flags_of name attrs duplicates)) f)) e

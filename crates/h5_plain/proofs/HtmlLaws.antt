@@ -1,4 +1,4 @@
--- Where the adjusted current node is an element of HTML, or none is open, no token is for foreign content.
+-- If the adjusted current node is an element of HTML, or no element is open, no token is foreign.
 use Rattle.std.proofs.Common.{◌≡◌, ◌∙◌, ℕ, false, true, List, [], ◌∷◌, map, Option, None, Some, ap, refl, subst, sym}
 use Rattle.h5_names.specs.declared.qualified.QualName.{QualName}
 use Rattle.h5_interface.specs.Forest.{ElementNode, Forest, IsNode, kind_of}

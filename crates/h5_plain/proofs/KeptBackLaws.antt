@@ -1,4 +1,4 @@
--- Blank texts in tables, which are kept back: a list that leads somewhere leads there token by token.
+-- Whitespace texts in tables, which are buffered: a list that leads somewhere leads there token by token.
 use Rattle.std.proofs.Common.{◌≡◌, ◌∙◌, ℕ, Bool, true, false, List, [], ◌∷◌, ◌++◌, Option, Some, None, cond, refl, ap, sym, subst}
 use Rattle.h5_token.specs.TokenText.{TagText, TokenText, TagIs, Characters, CommentIs, DoctypeIs, EndOfFile, NullCharacter, ParseErrorIs}
 use Rattle.h5_interface.specs.Changes.{append_text as append_text_to}
@@ -35,7 +35,7 @@ use Rattle.h5_plain.proofs.GoesLaws.{BeginsWithTag, Blanks, Goes, InColumns, IsT
 use Rattle.h5_plain.proofs.HtmlLaws.{AtHtml, taken_html}
 
 module _ (choices : SinkChoices) (b : ℕ) (t : List ℕ) (w v : World) (x : Blanks (b ∷ t) w v) where
-  -- while it is kept back
+  -- while it is buffered
   abbrev back : World
   back = record w { mode = InTableText; saved_mode = Some w.mode; pending = b ∷ t }
 

@@ -23,7 +23,7 @@ use Rattle.h5_plain.proofs.turns.RowEdges.{ByEdge, RowLeads, stops}
 
 -- of a row for a token of a kind, a start tag or not, where this is given of the token
 pub record IsLawfulRow (m : InsertionMode) (c : TurnKind) (starts : Bool) (given : Type 0) (w : World) (r : Row) : Type 0 where
-  -- where the open elements fit the mode, all stands after its changes, and the list agrees with the stack
+  -- where the open elements fit the mode, the world is sound after its changes, and the list agrees with the stack
   pub steady : (choices : SinkChoices) → IsSteady w → w.mode ≡ m → given → FitsAs m w → IsSteady (apply_all choices r.changes w)
   -- and they fit the mode that it leads to
   pub fits : (choices : SinkChoices) → IsSteady w → w.mode ≡ m → given → Kept choices w m r
@@ -45,7 +45,7 @@ IsLawfulFor t m w r = IsLawfulRow m (kind_of_turn t) (is_start_turn t) (HasText 
 abbrev pub IsLawfulTag : TagKind → TagText → InsertionMode → World → Row → Type 0
 IsLawfulTag k tag m w r = IsLawfulRow m (kind_of_tag k tag.name) (is_start k) (Unit {0}) w r
 
--- by what its changes need, that the open elements fit, and by what it tells, answers and leads to
+-- by what its changes need, that the open elements fit, and by what it reports, replies and leads to
 pub lawful_leading : {m : InsertionMode} {c : TurnKind} {starts : Bool} {given : Type 0} {w : World} (r : Row)
     → NeedsOfAll r.changes → ((choices : SinkChoices) → IsSteady w → w.mode ≡ m → Kept choices w m r) → IsTold r → Silent r.ending → RowLeads c m w r → IsLawfulRow m c starts given w r
 lawful_leading {w = w} r needs fits told silent leads = record {

@@ -29,6 +29,8 @@ pub mod ModeRuleLaws
 pub mod RuleLaws
 pub mod StageLaws
 pub mod StartLaws
+pub mod LessLaws
+pub mod StayingLaws
 pub mod WholeLaws
 pub mod cuts
 pub mod kept

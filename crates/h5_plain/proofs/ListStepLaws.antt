@@ -1,4 +1,4 @@
--- What a tag of a list, or of an item of one, does in the body, or in a cell, which goes by the body for it.
+-- What a tag of a list, or of an item of one, does in the body, or in a cell, which uses the rules of the body for it.
 use Rattle.std.proofs.Common.{◌≡◌, ◌∙◌, ℕ, true, false, ◌&&◌, cond, List, [], ◌∷◌, None, codes, refl, ap, Option}
 use Rattle.h5_names.specs.AttributeText.{AttributeText}
 use Rattle.h5_names.specs.declared.qualified.QualName.{QualName}

@@ -99,7 +99,7 @@ ends_in_node n (ChildText t ∷ []) = refl
 ends_in_node n (ChildText t ∷ ChildNode m ∷ cs) = ends_in_node n (ChildNode m ∷ cs)
 ends_in_node n (ChildText t ∷ ChildText u ∷ cs) = ends_in_node n (ChildText u ∷ cs)
 
--- a text after children of which the last is none stands by itself
+-- a text after children that don't end in a text isn't joined
 joined-append_text : (cs : List Child) (t : List ℕ) → AreParted cs → ends_in_text cs ≡ false → joined (cs ++ ChildText t ∷ []) ≡ cs ++ ChildText t ∷ []
 joined-append_text [] t p e = refl
 joined-append_text (ChildNode n ∷ cs) t p e = ap (λ z. ChildNode n ∷ z) (joined-append_text cs t p e)

@@ -1,4 +1,4 @@
--- The modes that go by the body, and the mode that a reset of it finds.
+-- The modes that use the rules of the body, and the mode that a reset of it finds.
 use Rattle.std.proofs.Common.{◌≡◌, ◌∙◌, ℕ, Bool, true, false, List, [], ◌∷◌, Option, refl, ap}
 use Rattle.h5_names.specs.AttributeText.{AttributeText}
 use Rattle.h5_names.specs.declared.qualified.QualName.{QualName}
@@ -25,13 +25,13 @@ use Rattle.h5_rules.specs.Text.{is_quiet_text, text_in, text_in_body}
 use Rattle.h5_rules.specs.World.{World, names_of}
 use Rattle.h5_plain.proofs.RuleLaws.{end, start}
 
--- the body, and a cell, which goes by the body for most tags and for texts
+-- the body, and a cell, which uses the rules of the body for most tags and for texts
 pub data GoesByBody : InsertionMode → Type 0 where
   TheBody : GoesByBody InBody
   TheCell : GoesByBody InCell
   TheCaption : GoesByBody InCaption
 
--- a text is taken as in the body, and is no parse error
+-- a text is handled as in the body, and isn't a parse error
 pub text_by_body : (choices : SinkChoices) (t : List ℕ) (w : World) {m : InsertionMode} → GoesByBody m → text_in m choices t w ≡ text_in_body choices t w
 text_by_body choices t w TheBody = refl
 text_by_body choices t w TheCell = refl

@@ -64,7 +64,7 @@ lawful_rule AfterAfterFrameset t w = lawful_after_after_frameset t w
 
 -- of the rule of a mode, for every token and in every world
 pub record IsLawful (m : InsertionMode) : Type 0 where
-  -- where the open elements fit the mode, all stands after its changes, and the list agrees with the stack
+  -- where the open elements fit the mode, the world is sound after its changes, and the list agrees with the stack
   pub steady : (choices : SinkChoices) (t : TurnText) (w : World) → w.mode ≡ m → Sound w → HasText t → Fits w → IsSteady (apply_all choices (rule m t w).changes w)
   -- and they fit the mode that it leads to
   pub fits : (choices : SinkChoices) (t : TurnText) (w : World) → w.mode ≡ m → Sound w → HasText t → Fits w → FitsAfter (rule m t w).ending (apply_all choices (rule m t w).changes w)

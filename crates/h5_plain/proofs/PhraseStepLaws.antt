@@ -58,7 +58,7 @@ module _ (choices : SinkChoices) {at_root : Option Role} {w : World} {p : ℕ} {
       (start_by_body m name attrs w k.no_structure ∙ k.starts attrs w) k.no_title
       (ap (λ v. set_frameset_not_ok (insert_and_pop_element choices name attrs false v)) (reconstruct_none choices w (calm_closed c)) ∙ mark_is name attrs)
 
-  -- a `hr`, where neither a `p` nor a `select` is open
+  -- a `hr`, if neither a `p` nor a `select` is open
   none_implied : in_scope (is_html_named (codes "select")) is_default_scope names ≡ false → generate_implied_end_in_select choices w ≡ w
   unfolding generate_implied_end_in_select
   none_implied h = ap (λ b. cond b (generate_implied_end_tags choices w) w) (ap (in_scope (is_html_named (codes "select")) is_default_scope) (names_are w c.named) ∙ h)

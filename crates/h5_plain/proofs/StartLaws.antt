@@ -9,7 +9,7 @@ use Rattle.h5_rules.specs.Sound.{AllStand, Fitting, Stands, role_at, situation_o
 use Rattle.h5_rules.specs.World.{World, name_in, names_of}
 use Rattle.h5_plain.specs.Rebuilding.{IsStart}
 
--- where nothing is open, listed or pointed at, all stands
+-- if nothing is open, listed or pointed at, the world is sound
 pub stands_none : (f : Forest) → IsForest f → Stands f []
 stands_none f k = record {
   is_forest = k;
@@ -40,7 +40,7 @@ lists_none = record {
   alike = λ t. tt;
 }
 
--- the first mode tells that none is open, in a whole document
+-- in the first mode no element is open, in a whole document
 pub fits_none : (w : World) → w.template_modes ≡ [] → w.context ≡ None → NamesFit (situation_of w) Initial []
 fits_none w modes none = record {
   fits = record {

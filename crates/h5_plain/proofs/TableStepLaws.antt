@@ -60,7 +60,7 @@ use Rattle.h5_rules.specs.stack.Expected.{is_expected, is_expected_p}
 use Rattle.h5_rules.proofs.changes.ExpectedLaws.{current_expected, no_p_expected}
 use Rattle.h5_plain.proofs.TableRuleLaws.{IsCellName, IsPartName, caption, column_rule, group_end_rule, row_end_rule, table_end_rule, table_is_no_part, table_rule}
 
--- of blanks the front is all
+-- whitespace is its own whitespace prefix
 both_true : (c d : Bool) → (c && d) ≡ true → (c ≡ true) × (d ≡ true)
 both_true true d h = (refl, h)
 both_true false d h = absurd (cc)

@@ -46,7 +46,7 @@ record InTitle (a b c : List AttributeText) (inner : List Child) (w : World) : T
   is_head : Looks w.forest header (ElementNode head) b (ChildNode element ∷ [])
   is_title : Looks w.forest element (ElementNode title) c inner
 
--- where no token is for foreign content
+-- if no token is for foreign content
 in_title : {a b c : List AttributeText} {inner : List Child} (w : World) → InTitle a b c inner w → AtHtml w
 in_title w s = at_element w s.element (codes "title") s.no_context (ap (first_or w.forest.document) s.are_open) s.is_title.is_kind
 

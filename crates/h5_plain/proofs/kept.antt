@@ -1,4 +1,4 @@
--- What a builder keeps is kept by each rule, and so by each token.
+-- What a builder keeps is preserved by each rule, and so by each token.
 pub mod DoctypeLaws
 pub mod SetModeLaws
 pub mod FittingLaws

@@ -1,3 +1,4 @@
 pub mod Cuts
 pub mod Plain
 pub mod Rebuilding
+pub mod Staying

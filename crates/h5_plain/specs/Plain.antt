@@ -1,4 +1,4 @@
--- Plain documents, as they are written. No mode of a tree builder is known here.
+-- Plain documents, as they are written. This file doesn't depend on the modes of a tree builder.
 use Rattle.std.specs.Prelude.{◌≡◌, ◌≢◌, ℕ, ◌==◌, Bool, true, false, not, ◌&&◌, if◌then◌else◌, List, [], ◌∷◌, Some, None, codes}
 use Rattle.h5_names.specs.AttributeText.{AttributeText, is_same_text}
 use Rattle.h5_token.specs.Reply.{Continues, Reply, TurnsRaw}
@@ -10,13 +10,13 @@ use Rattle.h5_tables.specs.TagSets.{cell_names, heading_names, is_one_of, void_n
 use Rattle.h5_rules.specs.Blanks.{all_blank}
 use Rattle.h5_rules.specs.Kinds.{is_start}
 
--- a list of nodes: texts, and HTML elements with what they hold
+-- a list of nodes: texts, and HTML elements with their content
 pub data Nodes : Type 0 where
   End : Nodes
   TextThen : (text : List ℕ) → (rest : Nodes) → Nodes
   ElementThen : (name : List ℕ) → (attrs : List AttributeText) → (inner rest : Nodes) → Nodes
 
--- a start tag without either flag, and an end tag
+-- a start tag without either flag; and an end tag
 abbrev pub start_tag : List ℕ → List AttributeText → TokenText
 start_tag name attrs = TagIs (record { kind = StartTag; name = name; self_closing = false; attrs = attrs; had_duplicate_attributes = false })
 
@@ -35,21 +35,22 @@ tokens_before (ElementThen name attrs inner rest) ts =
     start_tag name attrs
     ∷ (if has_end_tag name then tokens_before inner (end_tag name ∷ tokens_before rest ts) else tokens_before rest ts)
 
--- a text with a newline at its front twice
+-- a text with a newline at its start doubled
 abbrev pub doubled : List ℕ → List ℕ
 doubled [] = []
 doubled (b ∷ t) = if b == 10 then 10 ∷ b ∷ t else b ∷ t
 
--- nodes that begin with a text, with that text so
+-- nodes whose first node, if it is a text, is doubled like that
 abbrev pub with_doubled : Nodes → Nodes
 with_doubled (TextThen text rest) = TextThen (doubled text) rest
 with_doubled nodes = nodes
 
--- what an element of this name holds, as it is written: a newline right behind the start tag of a `pre` is dropped where it is read
+-- the content of an element of this name, as it is written: a tree builder drops a newline right after the start tag of
+-- a `pre`
 abbrev pub held_as_written : List ℕ → Nodes → Nodes
 held_as_written name nodes = if is_same_text name (codes "pre") then with_doubled nodes else nodes
 
--- a list of nodes, as it is told and written: each `pre` that begins with a newline begins with two
+-- a list of nodes, as its tokens and its text have it: each `pre` that begins with a newline begins with two
 abbrev pub as_written : Nodes → Nodes
 as_written End = End
 as_written (TextThen text rest) = TextThen text (as_written rest)
@@ -71,14 +72,14 @@ inline_names =
     codes "b" ∷ codes "big" ∷ codes "code" ∷ codes "em" ∷ codes "font" ∷ codes "i" ∷ codes "s" ∷ codes "small" ∷
     codes "strike" ∷ codes "strong" ∷ codes "tt" ∷ codes "u" ∷ []
 
--- elements without a rule of their own
+-- elements without a rule by their name
 unfoldable pub phrase_names : List (List ℕ)
 phrase_names =
     codes "abbr" ∷ codes "bdi" ∷ codes "bdo" ∷ codes "cite" ∷ codes "data" ∷ codes "del" ∷ codes "dfn" ∷ codes "ins" ∷
     codes "kbd" ∷ codes "label" ∷ codes "mark" ∷ codes "meter" ∷ codes "output" ∷ codes "progress" ∷ codes "q" ∷ codes "samp" ∷
     codes "span" ∷ codes "sub" ∷ codes "sup" ∷ codes "time" ∷ codes "var" ∷ []
 
--- blocks through which an item of a list is seen, and blocks that end the search for one
+-- blocks that don't end the search for a list item, and blocks that end it
 unfoldable pub open_block_names : List (List ℕ)
 open_block_names = codes "address" ∷ codes "dialog" ∷ codes "div" ∷ []
 
@@ -86,21 +87,21 @@ unfoldable pub barrier_names : List (List ℕ)
 barrier_names =
     codes "article" ∷ codes "aside" ∷ codes "blockquote" ∷ codes "center" ∷ codes "details" ∷ codes "dir" ∷ codes "dl" ∷
     codes "fieldset" ∷ codes "figcaption" ∷ codes "figure" ∷ codes "footer" ∷ codes "header" ∷ codes "hgroup" ∷ codes "main" ∷
-    codes "menu" ∷ codes "nav" ∷ codes "ol" ∷ codes "search" ∷ codes "section" ∷ codes "summary" ∷ codes "ul" ∷ []
+    codes "menu" ∷ codes "nav" ∷ codes "ol" ∷ codes "section" ∷ codes "summary" ∷ codes "ul" ∷ []
 
--- what has no end tag and stands in a line
+-- inline elements without an end tag
 unfoldable pub mark_names : List (List ℕ)
 mark_names = codes "br" ∷ codes "img" ∷ codes "wbr" ∷ []
 
--- terms and their descriptions, sections of a table
+-- terms and their descriptions; sections of a table
 unfoldable pub term_names : List (List ℕ)
 term_names = codes "dd" ∷ codes "dt" ∷ []
 
 unfoldable pub part_names : List (List ℕ)
 part_names = codes "tbody" ∷ codes "tfoot" ∷ codes "thead" ∷ []
 
--- what is open where nodes stand, of what the rules of the body ask: a `p`; whether the parent is a heading; an `li`, and a `dd` or `dt`,
--- that no other element hides; an `a`
+-- what is open around nodes, as far as the rules of "in body" need it: a `p`; a heading as the parent; an `li`, and a
+-- `dd` or `dt`, unless another element ends the search for it; an `a`
 pub record Around : Type 0 where
   pub in_p : Bool
   pub in_heading : Bool
@@ -111,38 +112,38 @@ pub record Around : Type 0 where
 abbrev pub nothing_open : Around
 nothing_open = record { in_p = false; in_heading = false; in_item = false; in_description = false; in_link = false }
 
--- inside of an element through which an item is seen, and of one that hides it
+-- inside an element that doesn't end the search for a list item; and inside one that ends it
 abbrev pub within : Around → Around
 within o = record o { in_heading = false }
 
 abbrev pub behind : Around → Around
 behind o = record o { in_heading = false; in_item = false; in_description = false }
 
--- what a table, its sections and its rows hold
+-- a table, its sections and its rows, by their content
 pub data TablePart : Type 0 where
   Sections : TablePart
   Rows : TablePart
   Cells : TablePart
 
--- what a list of nodes is for: what stands in flow, whether a text stands right before it, and what is open there; what a table, its
--- sections and its rows hold
+-- the kinds of lists of nodes: flow, with what is open there; the content of a table, of its sections and of its rows;
+-- and columns. Each says if a text comes right before the list
 pub data Sort : Type 0 where
   Flow : (after_text : Bool) → (o : Around) → Sort
   Part : (after_text : Bool) → (part : TablePart) → Sort
   Columns : (after_text : Bool) → Sort
 
--- which lists of nodes are plain; blank texts stand in tables where they may
+-- the plain lists of nodes; with `blanks`, also texts of ASCII whitespace in tables, if they are allowed there
 pub data IsPlain (blanks : Bool) : Sort → Nodes → Type 0 where
   Nothing : {s : Sort} → IsPlain blanks s End
-  -- a text, which isn't empty, and after which no other comes
+  -- a text, which isn't empty, and isn't followed by another
   Words : {o : Around} {first : ℕ} {more : List ℕ} {rest : Nodes} → NoNul (first ∷ more) → IsPlain blanks (Flow true o) rest
       → IsPlain blanks (Flow false o) (TextThen (first ∷ more) rest)
-  -- a blank text in a table, or in a part of one
+  -- a text of ASCII whitespace in a table, or in a part of one
   Blank : {part : TablePart} {first : ℕ} {more : List ℕ} {rest : Nodes} → blanks ≡ true → all_blank (first ∷ more) ≡ true → NoNul (first ∷ more) → IsPlain blanks (Part true part) rest
       → IsPlain blanks (Part false part) (TextThen (first ∷ more) rest)
   ColumnBlank : {first : ℕ} {more : List ℕ} {rest : Nodes} → blanks ≡ true → all_blank (first ∷ more) ≡ true → NoNul (first ∷ more) → IsPlain blanks (Columns true) rest
       → IsPlain blanks (Columns false) (TextThen (first ∷ more) rest)
-  -- blocks, where no `p` is open
+  -- blocks, if no `p` is open
   Division : {a : Bool} {o : Around} {name : List ℕ} {attrs : List AttributeText} {inner rest : Nodes} → is_one_of open_block_names name ≡ true → o.in_p ≡ false → ArePlain attrs
       → IsPlain blanks (Flow false (within o)) inner → IsPlain blanks (Flow false o) rest → IsPlain blanks (Flow a o) (ElementThen name attrs inner rest)
   Barrier : {a : Bool} {o : Around} {name : List ℕ} {attrs : List AttributeText} {inner rest : Nodes} → is_one_of barrier_names name ≡ true → o.in_p ≡ false → ArePlain attrs
@@ -157,21 +158,21 @@ pub data IsPlain (blanks : Bool) : Sort → Nodes → Type 0 where
       → IsPlain blanks (Flow false (record (behind o) { in_item = true })) inner → IsPlain blanks (Flow false o) rest → IsPlain blanks (Flow a o) (ElementThen (codes "li") attrs inner rest)
   Describing : {a : Bool} {o : Around} {name : List ℕ} {attrs : List AttributeText} {inner rest : Nodes} → is_one_of term_names name ≡ true → o.in_p ≡ false → o.in_description ≡ false → ArePlain attrs
       → IsPlain blanks (Flow false (record (behind o) { in_description = true })) inner → IsPlain blanks (Flow false o) rest → IsPlain blanks (Flow a o) (ElementThen name attrs inner rest)
-  -- a line between blocks
+  -- an `hr`
   Ruled : {a : Bool} {o : Around} {attrs : List AttributeText} {rest : Nodes} → o.in_p ≡ false → ArePlain attrs → IsPlain blanks (Flow false o) rest
       → IsPlain blanks (Flow a o) (ElementThen (codes "hr") attrs End rest)
   -- a `br`, `img` or `wbr`
   Break : {a : Bool} {o : Around} {name : List ℕ} {attrs : List AttributeText} {rest : Nodes} → is_one_of mark_names name ≡ true → ArePlain attrs → IsPlain blanks (Flow false o) rest
       → IsPlain blanks (Flow a o) (ElementThen name attrs End rest)
-  -- formatting elements, and elements without a rule, wherever they stand
+  -- formatting elements and elements without a rule, anywhere
   Formatted : {a : Bool} {o : Around} {name : List ℕ} {attrs : List AttributeText} {inner rest : Nodes} → is_one_of inline_names name ≡ true → ArePlain attrs
       → IsPlain blanks (Flow false (within o)) inner → IsPlain blanks (Flow false o) rest → IsPlain blanks (Flow a o) (ElementThen name attrs inner rest)
   Phrase : {a : Bool} {o : Around} {name : List ℕ} {attrs : List AttributeText} {inner rest : Nodes} → is_one_of phrase_names name ≡ true → ArePlain attrs
       → IsPlain blanks (Flow false (within o)) inner → IsPlain blanks (Flow false o) rest → IsPlain blanks (Flow a o) (ElementThen name attrs inner rest)
-  -- a link, outside of any other
+  -- an `a`, not inside another
   Link : {a : Bool} {o : Around} {attrs : List AttributeText} {inner rest : Nodes} → o.in_link ≡ false → ArePlain attrs
       → IsPlain blanks (Flow false (record (within o) { in_link = true })) inner → IsPlain blanks (Flow false o) rest → IsPlain blanks (Flow a o) (ElementThen (codes "a") attrs inner rest)
-  -- a `table` of sections, each of rows, each of cells, in which nothing is open
+  -- a `table` of sections, each of rows, each of cells; in a cell nothing counts as open
   Table : {a : Bool} {o : Around} {attrs : List AttributeText} {inner rest : Nodes} → o.in_p ≡ false → ArePlain attrs → IsPlain blanks (Part false Sections) inner → IsPlain blanks (Flow false o) rest
       → IsPlain blanks (Flow a o) (ElementThen (codes "table") attrs inner rest)
   Caption : {a : Bool} {attrs : List AttributeText} {inner rest : Nodes} → ArePlain attrs → IsPlain blanks (Flow false nothing_open) inner → IsPlain blanks (Part false Sections) rest
@@ -186,7 +187,7 @@ pub data IsPlain (blanks : Bool) : Sort → Nodes → Type 0 where
   Cell : {a : Bool} {name : List ℕ} {attrs : List AttributeText} {inner rest : Nodes} → is_one_of cell_names name ≡ true → ArePlain attrs
       → IsPlain blanks (Flow false nothing_open) inner → IsPlain blanks (Part false Cells) rest → IsPlain blanks (Part a Cells) (ElementThen name attrs inner rest)
 
--- what a head holds: nothing, or a `title` of one text, which isn't empty
+-- the content of a head: nothing, or a `title` of one text, which isn't empty
 pub data IsHead : Nodes → Type 0 where
   Untitled : IsHead End
   Titled : {attrs : List AttributeText} {first : ℕ} {more : List ℕ} → ArePlain attrs → NoNul (first ∷ more)
@@ -217,7 +218,7 @@ plain_doctype = DoctypeIs (record { name = Some (codes "html"); public_id = None
 abbrev pub is_start_of_title : TagText → Bool
 is_start_of_title tag = is_start tag.kind && is_same_text tag.name (codes "title")
 
--- the answer to each: the start tag of a title turns the reader to its text, and to any other token it is "go on"
+-- the reply to each token: to the start tag of a title the switch to its text, to any other "go on"
 abbrev pub plain_reply : TokenText → Reply
 plain_reply (TagIs tag) = if is_start_of_title tag then TurnsRaw Rcdata else Continues
 plain_reply _ = Continues

@@ -1,4 +1,4 @@
--- A forest in which a plain document stands, and what it is that its tokens rebuild it.
+-- A forest that has a plain document, and the meaning of "its tokens rebuild it".
 use Rattle.std.specs.Prelude.{◌≡◌, ◌≢◌, ℕ, true, false, List, [], ◌∷◌, Some, None, map, codes}
 use Rattle.h5_names.specs.AttributeText.{AttributeText}
 use Rattle.h5_token.specs.TokenText.{TokenText}
@@ -19,15 +19,14 @@ use Rattle.h5_rules.specs.fitting.ResetByRoles.{decide_root}
 use Rattle.h5_rules.specs.fitting.Roles.{role_of}
 use Rattle.h5_rules.specs.Sound.{Fitting}
 
--- a node of this kind, with these attributes and children, and without contents. Its parent and its marks
--- aren't looked at
+-- a node of this kind, with these attributes and children, and without contents; any parent and any marks
 pub record Looks (f : Forest) (n : ℕ) (kind : Kind) (attrs : List AttributeText) (children : List Child) : Type 0 where
   pub is_kind : kind_of f n ≡ Some kind
   pub has_attrs : attrs_of f n ≡ attrs
   pub has_children : children_of f n ≡ children
   pub no_contents : contents_of f n ≡ None
 
--- children for which a list of nodes stands
+-- children that are a list of nodes
 abbrev pub Stands : Forest → List Child → Nodes → Type 0
 Stands f [] End = Unit {0}
 Stands f (ChildText t ∷ cs) (TextThen text rest) = (t ≡ text) × Stands f cs rest
@@ -35,7 +34,7 @@ Stands f (ChildNode n ∷ cs) (ElementThen name attrs inner rest) =
     Looks f n (ElementNode (html_name name)) attrs (children_of f n) × (Stands f (children_of f n) inner × Stands f cs rest)
 Stands f _ _ = ⊥
 
--- a document that holds the doctype and the root, and nothing else
+-- a document whose children are the doctype and the root
 pub record DocumentStands (f : Forest) (d : PlainDocument) : Type 0 where
   pub doctype : ℕ
   pub root : ℕ
@@ -43,13 +42,12 @@ pub record DocumentStands (f : Forest) (d : PlainDocument) : Type 0 where
   pub is_doctype : Looks f doctype (DoctypeNode (codes "html") [] []) [] []
   pub stands : Stands f (ChildNode root ∷ []) (root_of d)
 
--- a forest that holds its document alone
+-- a forest of the document alone
 pub record HoldsDocument (f : Forest) : Type 0 where
   pub is_forest : IsForest f
   pub document : Looks f f.document DocumentNode [] []
 
--- a builder that took nothing yet, with the options that hold where nothing else is said, over a sink that
--- holds its document alone
+-- a new builder, with the default options, over a sink with the document alone
 pub record IsStart (w : World) : Type 0 where
   pub holds : HoldsDocument w.forest
   pub options : w.options ≡ default_options
@@ -64,20 +62,20 @@ pub record IsStart (w : World) : Type 0 where
   pub no_form : w.form ≡ None
   pub no_context : w.context ≡ None
 
--- tokens, run from a view, rebuild a document: it stands, in no quirks, the answers are those to a plain document's
--- tokens, and no parse error is told, if no blank text stands in a table
+-- tokens, run from a view, rebuild a document: the forest has it, in no-quirks mode; the replies are those to a plain
+-- document's tokens; and no parse error is reported if no whitespace text is in a table
 pub record Rebuilds (choices : SinkChoices) (ts : List TokenText) (d : PlainDocument) (v : View) : Type 0 where
   pub stands : DocumentStands (after_all choices ts v).world.forest d
   pub quirks : (after_all choices ts v).world.seen_quirks ≡ NoQuirks
   pub answers : replies choices ts v ≡ map plain_reply ts
   pub quiet : IsPlain false (Flow false nothing_open) d.blocks → all_quiet choices ts v ≡ true
 
--- however the texts of a plain document's tokens are cut
+-- `Rebuilds` for any split of the texts of a plain document's tokens
 abbrev pub RebuildsAll : SinkChoices → List TokenText → View → Type 0
 RebuildsAll choices ts v = (d : PlainDocument) → IsStart v.world → v.ended ≡ false → v.failed ≡ false → join ts ≡ document_tokens d → Rebuilds choices ts d v
 
--- a builder of a fragment that took nothing yet: its root, an `html` without children, is open alone, and its context is an element of
--- HTML by which the mode is "in body", as a `div`, `body`, `span` or `li` is
+-- a new builder of a fragment: its root, an `html` without children, is the only open element, and its context is an
+-- element of HTML by which the mode is "in body", such as `div`, `body`, `span` or `li`
 pub record IsFragmentStart (w : World) : Type 0 where
   pub root : ℕ
   pub is_forest : IsForest w.forest
@@ -97,7 +95,7 @@ pub record IsFragmentStart (w : World) : Type 0 where
   pub of_html : is_html_element context_name ≡ true
   pub is_ordinary : (s : Situation) → decide_root s (role_of context_name) ≡ InBody
 
--- one node has changed, and no other that was there, but for its parent and its marks
+-- one node has changed; all other nodes are as before, except for their parents and marks
 pub record ChangesOne (f g : Forest) (root : ℕ) : Type 0 where
   pub document : g.document ≡ f.document
   pub others : (n : ℕ) (kind : Kind) (attrs : List AttributeText) (children : List Child) → n ≢ root → Looks f n kind attrs children → Looks g n kind attrs children
@@ -110,7 +108,7 @@ pub record RebuildsFragment (choices : SinkChoices) (ts : List TokenText) (root 
   pub answers : replies choices ts v ≡ map plain_reply ts
   pub quiet : IsPlain false (Flow false nothing_open) nodes → all_quiet choices ts v ≡ true
 
--- however the texts of its tokens are cut
+-- `RebuildsFragment` for any split of the texts of its tokens
 abbrev pub RebuildsFragments : SinkChoices → List TokenText → View → Type 0
 RebuildsFragments choices ts v =
     (nodes : Nodes) (s : IsFragmentStart v.world) → IsPlain true (Flow false nothing_open) nodes → Fitting v.world → v.ended ≡ false → v.failed ≡ false

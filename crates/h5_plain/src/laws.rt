@@ -1,29 +1,40 @@
-//! The law of rebuilding, as the contract of a function that does nothing.
+//! The laws of rebuilding, each the contract of a function that does nothing.
 ghost use Rattle.std.specs.Prelude.{◌≡◌, List};
 ghost use Rattle.h5_token.specs.TokenText.{TokenText};
 ghost use Rattle.h5_interface.specs.SinkChoices.{SinkChoices};
 ghost use Rattle.h5_rules.specs.Run.{View};
 ghost use Rattle.h5_plain.specs.Rebuilding.{RebuildsAll, RebuildsFragments};
+ghost use Rattle.h5_plain.specs.Staying.{StayInBox};
 
-/// The tokens of a plain document, however its texts are cut, rebuild exactly that document: from a builder
-/// that took nothing yet, with the default options, over any sink that holds its document alone, in no
-/// quirks, with no answer but "go on", and to the start tag of a title that its text follows. No parse error is told, if no
-/// blank text stands in a table.
+/// If the tokens of a plain document, with their texts split in any way, are run from a new builder with the default
+/// options over a sink with its document alone, the builder makes exactly that document, in no-quirks mode. The reply
+/// to the start tag of a title switches to its text; all others are "go on". No parse error is reported if no
+/// whitespace text is in a table.
 ///
-/// A plain document has a head, which is empty or holds a `title` of one text, and a body of texts, no two beside each other, and
-/// elements of HTML, each of which fits where it stands: its start tag closes nothing that is open. So a block, a table, an `hr` or a
-/// paragraph stands in no `p`, a heading in no `p` and right inside of no heading, an `li` in no `li` that no block but `address`,
-/// `dialog` and `div` hides, a `dd` or `dt` likewise, and an `a` in no `a`. In a table stand captions, column groups, sections, rows and
-/// cells where they belong, and blank texts. Formatting elements, and phrases, which have no rule of their own, stand anywhere in flow.
+/// A plain document has a head, which is empty or holds a `title` of one text, and a body of texts, no two of them
+/// adjacent, and of elements of HTML, each at a place where its start tag closes nothing that is open. So a block, a
+/// table, an `hr` or a paragraph isn't in a `p`. A heading isn't in a `p`, nor a child of a heading. An `li` isn't in
+/// another `li`, and a `dd` or `dt` isn't in another one of these, unless an element between them other than `address`,
+/// `dialog` and `div` ends the search for it. An `a` isn't in an `a`. A table has captions, column groups, sections,
+/// rows and cells at their places, and whitespace texts. Formatting elements, and phrases (elements without a rule by
+/// their name), are anywhere in flow.
 ///
-/// A newline right behind the start tag of a `pre` is dropped where it is read, so one at the front of a `pre` is told twice
-/// (`as_written` in `specs/Plain.antt`).
+/// A tree builder drops a newline right after the start tag of a `pre`; so the tokens have a newline at the start of a
+/// `pre` twice (`as_written` in `specs/Plain.antt`).
 pub fn documents_are_rebuilt()
     ensures { (choices : SinkChoices) (tokens : List TokenText) (view : View) → RebuildsAll choices tokens view }
 {}
 
-/// The same of a fragment, in any context by which the mode is "in body", as `div` or `body`: the tokens of nodes that fit rebuild exactly
-/// these nodes below the root.
+/// If the tokens of plain nodes, with their texts split in any way, are run from a new builder of a fragment in a
+/// context by which the mode is "in body", such as `div` or `body`, the builder makes exactly these nodes below the
+/// root.
 pub fn fragments_are_rebuilt()
     ensures { (choices : SinkChoices) (tokens : List TokenText) (view : View) → RebuildsFragments choices tokens view }
+{}
+
+/// If a builder, of a document or of a fragment, is in the middle of a page at an element that takes nodes of flow
+/// (`IsBox`), the tokens of nodes that fit there leave the same elements open, the same mode and the same list of
+/// active formatting elements. In the forest only that element has changed: these nodes follow its children.
+pub fn nodes_stay_in_their_box()
+    ensures { (choices : SinkChoices) (tokens : List TokenText) (view : View) → StayInBox choices tokens view }
 {}

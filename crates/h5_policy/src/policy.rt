@@ -1,8 +1,37 @@
 //! A policy in TOML.
+use super::checks::check;
 use super::fault::PolicyFault;
-use html_tree_builder::clean::{AllowList, Kind, kind_of};
+use super::github::GITHUB;
+use html_tree_builder::clean::{AllowList, Around, Kind, is_prefix, is_refused, kind_of};
 use std::alloc::{AllocError, Global};
 use toml::{Table, Value};
+
+// The elements that are dropped with their content if the key `dropped` is missing.
+const DROPPED: &[&str] = &[
+    "script",
+    "style",
+    "template",
+    "iframe",
+    "object",
+    "embed",
+    "applet",
+    "noscript",
+    "noembed",
+    "noframes",
+    "xmp",
+    "plaintext",
+    "textarea",
+    "title",
+    "select",
+    "head",
+    "frameset",
+    "audio",
+    "video",
+    "canvas",
+];
+
+// The greatest depth of elements, which leaves room for the elements of a page: browsers flatten what is nested deeper than 512.
+const DEEPEST: u16 = 448;
 
 // The keys that have a list of names.
 #[derive(Clone, Copy)]
@@ -15,7 +44,7 @@ enum NameKey {
 }
 
 // The error for a reason, which takes memory to be written.
-fn wrong(reason: Result<String, AllocError>) -> PolicyFault {
+pub(crate) fn wrong(reason: Result<String, AllocError>) -> PolicyFault {
     match reason {
         Ok(reason) => PolicyFault::Wrong(reason),
         Err(_) => PolicyFault::Memory,
@@ -79,6 +108,38 @@ fn add_element(alloc: Global, policy: &mut AllowList, name: &str) -> Result<(), 
     Ok(policy.add_element(name)?)
 }
 
+// Refuses an attribute that no policy allows.
+fn ask_for_attribute(alloc: Global, name: &str) -> Result<(), PolicyFault> {
+    if is_refused(name) {
+        return Err(wrong(format!(in alloc; "attribute \"{name}\" can't be allowed")));
+    }
+    Ok(())
+}
+
+// Allows an attribute on each element.
+fn add_attribute(alloc: Global, policy: &mut AllowList, name: &str) -> Result<(), PolicyFault> {
+    ask_for_attribute(alloc, name)?;
+    Ok(policy.add_attribute(name)?)
+}
+
+// Returns true if a name is the scheme of a URL: a letter, and then letters, digits, '+', '-' and '.'.
+fn is_scheme(name: &str) -> bool {
+    name.starts_with(|c: char| c.is_ascii_lowercase())
+        && name.bytes().all(|byte| {
+            byte.is_ascii_lowercase() || byte.is_ascii_digit() || matches!(byte, b'+' | b'-' | b'.')
+        })
+}
+
+// Allows a scheme of URLs.
+fn add_scheme(alloc: Global, policy: &mut AllowList, name: &str) -> Result<(), PolicyFault> {
+    if !is_scheme(name) {
+        return Err(wrong(format!(in alloc;
+            "invalid scheme \"{name}\": expected a name such as https"
+        )));
+    }
+    Ok(policy.add_scheme(name)?)
+}
+
 // Adds a name to the list of a key.
 fn add_name(
     alloc: Global,
@@ -88,10 +149,10 @@ fn add_name(
 ) -> Result<(), PolicyFault> {
     match list {
         NameKey::Elements => add_element(alloc, policy, name),
-        NameKey::Dropped => Ok(policy.add_dropped(name)?),
-        NameKey::Attributes => Ok(policy.add_attribute(name)?),
-        NameKey::Urls => Ok(policy.add_url(name)?),
-        NameKey::Schemes => Ok(policy.add_scheme(name)?),
+        NameKey::Dropped => Ok(policy.drop_element(name)?),
+        NameKey::Attributes => add_attribute(alloc, policy, name),
+        NameKey::Urls => Ok(policy.add_url_attribute(name)?),
+        NameKey::Schemes => add_scheme(alloc, policy, name),
     }
 }
 
@@ -118,7 +179,9 @@ fn add_attributes_at(
     value: &Value,
 ) -> Result<(), PolicyFault> {
     for item in items_of(alloc, place, value)? {
-        policy.add_attribute_of(element, name_of(alloc, place, item)?)?;
+        let name = name_of(alloc, place, item)?;
+        ask_for_attribute(alloc, name)?;
+        policy.add_attribute_for(element, name)?;
     }
     Ok(())
 }
@@ -155,7 +218,7 @@ fn set_relative(alloc: Global, policy: &mut AllowList, value: &Value) -> Result<
     match value {
         Value::Boolean(true) => Ok(()),
         Value::Boolean(false) => {
-            policy.refuse_relative();
+            policy.deny_relative();
             Ok(())
         }
         _ => Err(mismatch(alloc, "relative", "true or false")),
@@ -171,10 +234,37 @@ fn set_rel(alloc: Global, policy: &mut AllowList, value: &Value) -> Result<(), P
 }
 
 // Sets the prefix of ids and names.
-fn set_prefix(alloc: Global, policy: &mut AllowList, value: &Value) -> Result<(), PolicyFault> {
+fn set_id_prefix(alloc: Global, policy: &mut AllowList, value: &Value) -> Result<(), PolicyFault> {
     match value {
-        Value::String(prefix) => Ok(policy.set_prefix(prefix.as_str())?),
-        _ => Err(mismatch(alloc, "prefix", "a string")),
+        Value::String(prefix) if !prefix.is_empty() && is_prefix(prefix.as_str()) => {
+            Ok(policy.set_id_prefix(prefix.as_str())?)
+        }
+        _ => Err(mismatch(
+            alloc,
+            "prefix",
+            "a string that isn't empty and has no whitespace",
+        )),
+    }
+}
+
+// Sets which elements may be open around the cleaned text.
+fn set_place(alloc: Global, policy: &mut AllowList, value: &Value) -> Result<(), PolicyFault> {
+    let around = match value {
+        Value::String(place) => match place.as_str() {
+            "flow" => Some(Around::nothing()),
+            "items" => Some(Around::items()),
+            "link" => Some(Around::link()),
+            "line" => Some(Around::line()),
+            _ => None,
+        },
+        _ => None,
+    };
+    match around {
+        Some(around) => {
+            policy.set_around(around);
+            Ok(())
+        }
+        None => Err(mismatch(alloc, "place", "\"flow\", \"items\", \"link\" or \"line\"")),
     }
 }
 
@@ -182,11 +272,16 @@ fn set_prefix(alloc: Global, policy: &mut AllowList, value: &Value) -> Result<()
 fn set_depth(alloc: Global, policy: &mut AllowList, value: &Value) -> Result<(), PolicyFault> {
     if let Value::Integer(depth) = value
         && let Ok(depth) = u16::try_from(*depth)
+        && depth <= DEEPEST
     {
         policy.set_depth(usize::from(depth));
         return Ok(());
     }
-    Err(mismatch(alloc, "depth", "an integer from 0 to 65535"))
+    Err(mismatch(
+        alloc,
+        "depth",
+        "an integer from 0 to 448 (browsers flatten what is nested deeper than 512)",
+    ))
 }
 
 // Sets the value of a key.
@@ -200,7 +295,8 @@ fn set(alloc: Global, policy: &mut AllowList, key: &str, value: &Value) -> Resul
         "attributes-of" => add_attributes_of(alloc, policy, value),
         "relative" => set_relative(alloc, policy, value),
         "rel" => set_rel(alloc, policy, value),
-        "prefix" => set_prefix(alloc, policy, value),
+        "prefix" => set_id_prefix(alloc, policy, value),
+        "place" => set_place(alloc, policy, value),
         "depth" => set_depth(alloc, policy, value),
         _ => Err(wrong(format!(in alloc; "unknown key `{key}`"))),
     }
@@ -211,17 +307,22 @@ fn set_each(alloc: Global, policy: &mut AllowList, table: &Table) -> Result<(), 
     for (key, value) in table {
         set(alloc, policy, key.as_str(), value)?;
     }
-    if table.contains_key("elements") {
-        Ok(())
-    } else {
-        Err(wrong(format!(in alloc; "missing key `elements`")))
+    if !table.contains_key("elements") {
+        return Err(wrong(format!(in alloc; "missing key `elements`")));
     }
+    if !table.contains_key("dropped") {
+        for name in DROPPED {
+            policy.drop_element(name)?;
+        }
+    }
+    Ok(())
 }
 
 // The policy of a table.
 fn policy_by(alloc: Global, table: &Table) -> Result<AllowList, PolicyFault> {
     let mut policy = AllowList::new(alloc);
     set_each(alloc, &mut policy, table)?;
+    check(alloc, table)?;
     Ok(policy)
 }
 
@@ -240,11 +341,17 @@ fn subject_of(reason: &str) -> Option<&str> {
     }
 }
 
+// Returns true if a line has a word that no other character of a name is next to.
+fn has_word(line: &str, word: &str) -> bool {
+    line.split(|c: char| !(c.is_alphanumeric() || c == '-' || c == '_' || c == ':'))
+        .any(|part| part == word)
+}
+
 // The first line of a text, from 1, that has this word.
 fn line_with(text: &[u8], word: &str) -> Option<usize> {
     let text = str::from_utf8(text).ok()?;
     for (above, line) in text.lines().enumerate() {
-        if line.contains(word) {
+        if has_word(line, word) {
             return Some(above.saturating_add(1));
         }
     }
@@ -268,5 +375,13 @@ pub fn policy_of(alloc: Global, text: &[u8]) -> Result<AllowList, PolicyFault> {
             answer => answer,
         },
         Err(error) => Err(reader_fault(text, error)),
+    }
+}
+
+/// The policy of this name, or `None` if there is no such policy. Fails with `Memory` if an allocation fails.
+pub fn policy_named(alloc: Global, name: &str) -> Result<Option<AllowList>, PolicyFault> {
+    match name {
+        "github" => Ok(Some(policy_of(alloc, GITHUB.as_bytes())?)),
+        _ => Ok(None),
     }
 }

@@ -1,4 +1,4 @@
--- Escapes, from the front of a text on.
+-- Escapes, from the start of a text.
 use Rattle.std.proofs.Common.{◌≡◌, ℕ, suc, ◌<◌, ◌≤◌, subst, ⊎_elim, length-append, Bool, true, false, ◌||◌, List, [], ◌∷◌, ◌++◌, Option, Some, None, cond, eqb, length, get_or, refl, sym, ap, ◌∙◌, arith, append_assoc, append-nil}
 use Rattle.std.specs.Option.{option_map}
 use Rattle.std.specs.List.{list_any}
@@ -9,12 +9,12 @@ use Rattle.std.proofs.lemmas.Bool.Decides.{nat_tests}
 use Rattle.std.proofs.lemmas.Str.{encode_ascii, length-encode, len_utf8_bounds, char_from_byte, inside_one}
 use Rattle.h5_print.specs.Escapes.{letter_of, byte_of, written_by, escape, put, unescape, is_raw}
 
--- a byte that is no backslash stands for itself
+-- a byte other than the backslash means itself
 pub unescape_plain : (c : ℕ) (xs : List ℕ) → eqb c 92 ≡ false → unescape (c ∷ xs) ≡ put (Some c) (unescape xs)
 unescape_plain c [] h = rw h refl
 unescape_plain c (d ∷ xs) h = rw h refl
 
--- how a byte is written tells it
+-- the escape of a byte determines it
 data Tells (c : ℕ) : Option ℕ → Type 0 where
   Itself : eqb c 92 ≡ false → Tells c None
   Lettered : (letter : ℕ) → byte_of letter ≡ Some c → Tells c (Some letter)
@@ -68,12 +68,12 @@ low_byte c d =
 some_bytes : (c : ℕ) (rest : List ℕ) → 0 < length (encode_utf8 c ++ rest)
 some_bytes c rest = omega (arith, length-append (encode_utf8 c) rest, length-encode c, (len_utf8_bounds c).0)
 
--- a letter that stands for a byte, behind a backslash
+-- a letter after a backslash that has a byte
 pub behind_some : (text rest : List ℕ) (c d : ℕ) → text ≡ encode_utf8 c ++ rest → byte_of c ≡ Some d → unescape (92 ∷ text) ≡ put (Some d) (unescape rest)
 behind_some text rest c d e h =
     ap (λ l. unescape (92 ∷ l)) (e ∙ ap (λ l. l ++ rest) (encode_ascii c (byte_of_low c d h))) ∙ ap (λ o. put o (unescape rest)) h
 
--- and one that stands for none
+-- and one that has none
 pub behind_none : (text rest : List ℕ) (c : ℕ) → text ≡ encode_utf8 c ++ rest → byte_of c ≡ None → unescape (92 ∷ text) ≡ None
 behind_none [] rest c e h = absurd (omega (arith, some_bytes c rest, ap length e))
 behind_none (b ∷ bs) rest c e h = ap (λ o. put o (unescape bs)) none
@@ -86,7 +86,7 @@ shorter text rest c e = omega (arith, ap length e, length-append (encode_utf8 c)
 
 -- ---- reading
 
--- a text before one, where that is there
+-- a byte before a text, if the text is present
 abbrev pub onto : List ℕ → Option (List ℕ) → Option (List ℕ)
 onto front = option_map (λ t. front ++ t)
 
@@ -128,7 +128,7 @@ read_more text rest front behind after out mid new c e none found f g low h =
     ∙ ap (onto out) (sym (ap unescape e ∙ unescape_front front (92 ∷ behind) none))
     ∙ h
 
--- an escape that is none
+-- an invalid escape
 pub read_none : (text rest front behind out : List ℕ) → rest ≡ front ++ 92 ∷ behind → ((k : ℕ) → k < length front → get_or front k 0 ≡ 92 → ⊥) → unescape (92 ∷ behind) ≡ None → onto out (unescape rest) ≡ unescape text → None ≡ unescape text
 read_none text rest front behind out e none found h =
     ap (λ o. onto out (onto front o)) (sym found) ∙ ap (onto out) (sym (ap unescape e ∙ unescape_front front (92 ∷ behind) none)) ∙ h
@@ -219,7 +219,7 @@ second_false : (a b : Bool) → (a || b) ≡ false → b ≡ false
 second_false true b h = cc
 second_false false b h = h
 
--- what is read is written again as it was, if none of it stood as itself that is never written so
+-- what is read is written again unchanged, unless it has a byte that always has an escape
 pub escape-unescape : (written text : List ℕ) → list_any is_raw written ≡ false → unescape written ≡ Some text → escape text ≡ written
 escape-unescape [] text h e = let same : [] ≡ text = cc in ap escape (sym same)
 escape-unescape (c ∷ []) text h e = last_back (eqb c 92) c text refl (first_false (is_raw c) false h) e

@@ -17,7 +17,7 @@ use Rattle.h5_print.specs.Printed.{IsTreeText, Printed, NoChild, TextChild, Node
 use Rattle.h5_print.specs.declared.tree.Frame.{Frame}
 use Rattle.h5_arena.proofs.ChildTexts.{drop-past}
 
--- lists that end alike
+-- lists with the same end
 ends_front : (xs ys : List Frame) (x y : Frame) → xs ++ x ∷ [] ≡ ys ++ y ∷ [] → xs ≡ ys
 ends_front [] [] x y e = refl
 ends_front [] (z ∷ ys) x y e = absurd (omega (arith, ap length e, length-append ys (y ∷ [])))
@@ -33,7 +33,7 @@ ends_last [] (z ∷ ys) x y e = absurd (omega (arith, ap length e, length-append
 ends_last (z ∷ xs) [] x y e = absurd (omega (arith, ap length e, length-append xs (x ∷ [])))
 ends_last (z ∷ xs) (w ∷ ys) x y e = let tail : xs ++ x ∷ [] ≡ ys ++ y ∷ [] = cc in ends_last xs ys x y tail
 
--- what the innermost leaves, and what those around it leave
+-- the text that is left for the innermost, and for those around it
 record Innermost (a : ArenaView) (xs : List Frame) (f : Frame) (t : List ℕ) : Type 0 where
   d : Node
   rest : List ℕ

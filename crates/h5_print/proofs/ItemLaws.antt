@@ -77,7 +77,7 @@ pub bad_line : (n : ℕ) (items : List ItemText) (pieces : List (List ℕ)) (k :
 bad_line n items pieces k line lt e h =
     ap (items_from n items) (at_drop pieces k line lt e) ∙ ap (go_on (λ more. items_from (n + 1) more (drop (k + 1) pieces)) n) h
 
--- the fault of a line is that of the text
+-- the error of a line is that of the text
 pub same_fault : (expected : Result (List ItemText) ℕ) (taken : Option (List ItemText)) (n : ℕ) (made : List ItemText) (fault : LineFault) → Takes taken n made (Err fault) → (taken ≡ None → expected ≡ Err n) → Reads expected (Err fault)
 same_fault expected taken n made (Bad line) h none = none h.0 ∙ ap Err (sym h.1)
 same_fault expected taken n made Memory h none = tt

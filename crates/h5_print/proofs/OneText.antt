@@ -1,4 +1,4 @@
--- A tree has one text at the most.
+-- A tree has at most one text.
 use Rattle.std.proofs.Common.{◌≡◌, ℕ, suc, List, ◌++◌, Option, None, Some, refl, sym, ap, ◌∙◌, subst, codes, slice_get}
 use Rattle.h5_interface.specs.Forest.{Node, Child}
 use Rattle.h5_arena.specs.ArenaModel.{ArenaView}

@@ -9,7 +9,7 @@ use Rattle.h5_print.specs.Printed.{IsTreeText}
 use Rattle.h5_print.specs.Writing.{PassesOn, WritesTree}
 use Rattle.h5_print.specs.declared.tree.Frame.{Frame}
 
--- what was written, and what is kept behind it, is the text of a tree so far
+-- the text that was written, and the buffered text after it, are the text of a tree so far
 pub record Sent (a : ArenaView) (first frames : List Frame) (old now : Option (List ℕ)) (part : List ℕ) : Type 0 where
   pub text : List ℕ
   pub appends : Appends old now text
@@ -33,7 +33,7 @@ sent_more a first mid frames old now part later s g = record {
       (outer.0, outer.1, outer.2 ∙ append_assoc s.text part inner.0 ∙ ap (λ xs. s.text ++ xs) inner.2 ∙ sym (append_assoc s.text later t));
 }
 
--- a front of what is kept is written
+-- a prefix of the buffered text is written
 pub sent_part : (a : ArenaView) (first frames : List Frame) (old now last : Option (List ℕ)) (part rest : List ℕ) → Sent a first frames old now part → PassesOn part rest now last → Sent a first frames old last rest
 sent_part a first frames old now last part rest s p = record {
   text = s.text ++ p.front;

@@ -25,7 +25,7 @@ byte_of letter =
     else (if letter == 92 then Some 92
     else None)))))
 
--- how a byte is written
+-- a byte as it is written
 abbrev pub written_by : Option ℕ → ℕ → List ℕ
 written_by None c = c ∷ []
 written_by (Some letter) c = 92 ∷ letter ∷ []
@@ -36,17 +36,17 @@ escape_byte c = written_by (letter_of c) c
 abbrev pub escape : List ℕ → List ℕ
 escape = flat_map escape_byte
 
--- a byte before a text, where there are both
+-- a byte before a text, if both are present
 abbrev pub put : Option ℕ → Option (List ℕ) → Option (List ℕ)
 put None text = None
 put (Some c) text = option_map (λ t. c ∷ t) text
 
--- the text that was written so; none was, where a backslash has another letter behind it, or nothing
+-- the text without its escapes; none if a backslash is followed by another letter or by nothing
 abbrev pub unescape : List ℕ → Option (List ℕ)
 unescape [] = Some []
 unescape (c ∷ []) = if c == 92 then None else Some (c ∷ [])
 unescape (c ∷ d ∷ xs) = if c == 92 then put (byte_of d) (unescape xs) else put (Some c) (unescape (d ∷ xs))
 
--- the five bytes that are never written as themselves, beside the backslash
+-- the five bytes other than the backslash that always have an escape
 abbrev pub is_raw : ℕ → Bool
 is_raw c = (c == 10) || ((c == 9) || ((c == 12) || ((c == 13) || (c == 0))))

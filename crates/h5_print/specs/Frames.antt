@@ -1,4 +1,4 @@
--- The open nodes of a tree that is printed.
+-- The open nodes of a tree while it is printed.
 use Rattle.std.specs.Prelude.{◌≡◌, ◌⊎◌, ℕ, suc, List, [], ◌∷◌, ◌++◌, All, None, Some, drop, length, slice_get, codes}
 use Rattle.h5_interface.specs.Forest.{Node}
 use Rattle.h5_arena.specs.ArenaModel.{ArenaView, IsHeld}
@@ -11,13 +11,13 @@ use Rattle.h5_print.specs.declared.tree.Frame.{Frame}
 abbrev pub AreHeld : ArenaView → List Frame → Type 0
 AreHeld a = All (λ frame. IsHeld a frame.node)
 
--- what is left to print of open nodes, the innermost of which comes last: of each the children that aren't
--- printed, at a level as deep as there are open nodes around it
+-- the text that is left for open nodes, the innermost last: for each the children that aren't printed, at a level equal to the number of
+-- open nodes around it
 pub data Left (a : ArenaView) : List Frame → List ℕ → Type 0 where
   NoneOpen : Left a [] []
   OneOpen : {frames : List Frame} {rest below : List ℕ} (f : Frame) (d : Node) → slice_get a.nodes f.node.index ≡ Some d → Printed a (length frames) (drop f.printed d.children) rest → Left a frames below → Left a (frames ++ f ∷ []) (rest ++ below)
 
--- printing went on: what completes the new open nodes also completes the old ones, behind what was printed
+-- printing continued: a text that completes the new open nodes also completes the old ones, after what was printed
 abbrev pub GoesOn : ArenaView → List Frame → List ℕ → List Frame → List ℕ → Type 0
 GoesOn a old was new is = (text : List ℕ) → Left a new text → (more : List ℕ) × Left a old more × (was ++ more ≡ is ++ text)
 
@@ -25,7 +25,7 @@ GoesOn a old was new is = (text : List ℕ) → Left a new text → (more : List
 abbrev pub opened : NodeId → Frame
 opened id = record { node = id; printed = 0 }
 
--- a node was opened: its first lines were printed, and behind them, for a template, that its contents come
+-- a node was opened: its first lines were printed and, for a template, the line before its contents
 abbrev pub Opens : ArenaView → NodeId → ℕ → List Frame → List ℕ → List Frame → List ℕ → Type 0
 Opens a id level frames was new is = (d : Node) × (slice_get a.nodes id.index ≡ Some d)
     × (((d.contents ≡ None) × (new ≡ frames ++ opened id ∷ []) × (is ≡ was ++ first_lines level d))

@@ -1,4 +1,4 @@
--- What the lines of a text are together: tokens, each with the number of its first line, and calls of the end.
+-- The items of a text: tokens, each with the number of its first line, and calls of `end`.
 use Rattle.std.specs.Prelude.{◌≡◌, ◌+◌, ℕ, List, [], ◌∷◌, ◌++◌, map, Option, Some, None, Result, Ok, Err, Vec, option_and_then, ◌==◌}
 use Rattle.std.specs.List.{slice_split}
 use Rattle.std.specs.Option.{option_map}
@@ -15,7 +15,7 @@ pub data ItemText : Type 0 where
   TokenAt : (token : TokenText) (line : ℕ) → ItemText
   TheEnd : ItemText
 
--- an item, without where its texts lie in memory
+-- an item, independent of where its texts are in memory
 abbrev pub item_text : Item → ItemText
 item_text (item.Token token line) = TokenAt (token_text token) line
 item_text item.End = TheEnd
@@ -23,7 +23,7 @@ item_text item.End = TheEnd
 abbrev pub item_texts : List Item → List ItemText
 item_texts = map item_text
 
--- a part goes to the token of the line before, or of the line that this is a part of too
+-- a part is added to the token of the last item
 abbrev pub item_with : PartText → ItemText → Option ItemText
 item_with p (TokenAt token line) = option_map (λ t. TokenAt t line) (token_with token p)
 item_with p TheEnd = None
@@ -33,19 +33,19 @@ with_last change [] = None
 with_last change (x ∷ []) = option_map (λ y. y ∷ []) (change x)
 with_last change (x ∷ y ∷ xs) = option_map (λ ys. x ∷ ys) (with_last change (y ∷ xs))
 
--- items, and what the line of this number adds to them
+-- items, with the effect of the line with this number
 abbrev pub items_with : List ItemText → ℕ → LineText → Option (List ItemText)
 items_with items n IsBlank = Some items
 items_with items n (TokenIs token) = Some (items ++ TokenAt token n ∷ [])
 items_with items n (PartIs p) = with_last (item_with p) items
 items_with items n Ends = Some (items ++ TheEnd ∷ [])
 
--- a line that is bad, by itself or where it stands, ends the reading with its number
+-- a line that is bad, itself or at its place, ends the parsing with its number
 abbrev pub go_on : (List ItemText → Result (List ItemText) ℕ) → ℕ → Option (List ItemText) → Result (List ItemText) ℕ
 go_on more n None = Err n
 go_on more n (Some items) = more items
 
--- the same by what the line is
+-- as above, for the text of a line
 abbrev pub items_read : List ItemText → ℕ → List ℕ → Option (List ItemText)
 items_read items n l = option_and_then (items_with items n) (line_of l)
 
@@ -57,13 +57,13 @@ items_from n items (l ∷ ls) = go_on (λ more. items_from (n + 1) more ls) n (i
 abbrev pub items_of : List ℕ → Result (List ItemText) ℕ
 items_of text = items_from 1 [] (slice_split (λ c. c == 10) text)
 
--- this was read, unless memory was refused
+-- the result of parsing, unless an allocation failed
 abbrev pub Reads : Result (List ItemText) ℕ → Result (Vec Item Global) LineFault → Type 0
 Reads expected (Ok made) = expected ≡ Ok (item_texts made.items)
 Reads expected (Err (Bad n)) = expected ≡ Err n
 Reads expected (Err Memory) = Unit {0}
 
--- these items were made of those by a line of this number, unless memory was refused
+-- the items after a line with this number, unless an allocation failed
 abbrev pub Takes : Option (List ItemText) → ℕ → List ItemText → Result (Unit {0}) LineFault → Type 0
 Takes expected n made (Ok done) = expected ≡ Some made
 Takes expected n made (Err (Bad line)) = (expected ≡ None) × (line ≡ n)

@@ -1,4 +1,4 @@
--- What a line says, by itself.
+-- The meaning of a line.
 use Rattle.std.specs.Prelude.{ℕ, Bool, false, List, [], ◌∷◌, Option, Some, None, ◌==◌, if◌then◌else◌, not, option_and_then}
 use Rattle.std.specs.List.{list_any}
 use Rattle.std.specs.Option.{option_map}
@@ -19,19 +19,19 @@ pub data LineText : Type 0 where
   PartIs : (p : PartText) → LineText
   Ends : LineText
 
--- a line, without where its texts lie in memory
+-- a line, independent of where its texts are in memory
 abbrev pub line_text : Line → LineText
 line_text line.Blank = IsBlank
 line_text (line.Token token) = TokenIs (token_text token)
 line_text (line.Part p) = PartIs (part_text p)
 line_text line.End = Ends
 
--- a text with its escapes undone; it may be missing with its space, and is empty then
+-- a text without its escapes; without its space it is empty
 abbrev pub text_in : Option (List ℕ) → Option (List ℕ)
 text_in None = Some []
 text_in (Some text) = unescape text
 
--- a name isn't empty, holds no space, and has no escapes
+-- a name isn't empty, contains no space, and has no escapes
 abbrev pub is_name : List ℕ → Bool
 is_name [] = false
 is_name (c ∷ cs) = not (list_any (λ d. d == 32) (c ∷ cs))
@@ -39,7 +39,7 @@ is_name (c ∷ cs) = not (list_any (λ d. d == 32) (c ∷ cs))
 abbrev pub named : List ℕ → Option (List ℕ)
 named name = if is_name name then Some name else None
 
--- a doctype may lack its name with the space
+-- a doctype may be without its name, and then without the space
 abbrev pub doctype_named : Option (List ℕ) → LineText
 doctype_named name = TokenIs (DoctypeIs (record { name = name; public_id = None; system_id = None; force_quirks = false }))
 
@@ -54,7 +54,7 @@ tag_named tag_kind name =
 abbrev pub tag_in : TagKind → Option (List ℕ) → Option LineText
 tag_in tag_kind operand = option_map (tag_named tag_kind) (option_and_then named operand)
 
--- an attribute: its name, and behind a space its value
+-- an attribute: its name and, after a space, its value
 abbrev pub attribute_named : List ℕ → List ℕ → LineText
 attribute_named name value = PartIs (AttributeIs (record { name = record { prefix = None; ns = []; local = name }; value = value }))
 
@@ -64,12 +64,12 @@ attribute_at c = option_and_then (λ name. option_map (attribute_named name) (te
 abbrev pub attribute_in : Option (List ℕ) → Option LineText
 attribute_in operand = option_and_then (λ text. attribute_at (cut text)) operand
 
--- a word that has nothing behind it, not even a space
+-- a word that nothing follows, not even a space
 abbrev pub alone : LineText → Option (List ℕ) → Option LineText
 alone l None = Some l
 alone l (Some operand) = None
 
--- a line of this word, with what stands behind the space after it
+-- a line with this word, and the text after its space
 abbrev pub line_with : Word → Option (List ℕ) → Option LineText
 line_with word.Doctype operand = doctype_in operand
 line_with word.PublicId operand = option_map (λ id. PartIs (PublicIdIs id)) (text_in operand)
@@ -86,7 +86,7 @@ line_with word.ParseError operand = option_map (λ message. TokenIs (ParseErrorI
 line_with word.EndOfFile operand = alone (TokenIs EndOfFile) operand
 line_with word.End operand = alone Ends operand
 
--- what a line says; nothing, if it is bad by itself
+-- the meaning of a line; none if it is invalid itself
 abbrev pub line_of : List ℕ → Option LineText
 line_of [] = Some IsBlank
 line_of (c ∷ cs) = option_and_then (λ w. line_with w (cut (c ∷ cs)).operand) (word_of (cut (c ∷ cs)).word)

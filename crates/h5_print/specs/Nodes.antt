@@ -5,7 +5,7 @@ use Rattle.h5_names.specs.AttributeText.{AttributeText, is_same_text}
 use Rattle.h5_interface.specs.Forest.{Kind, DocumentNode, DoctypeNode, ElementNode, CommentNode, InstructionNode, FragmentNode}
 use Rattle.h5_print.specs.Escapes.{escape}
 
--- two spaces a level
+-- two spaces for each level
 abbrev pub indent : ℕ → List ℕ
 indent zero = []
 indent (suc n) = 32 ∷ 32 ∷ indent n
@@ -14,18 +14,18 @@ indent (suc n) = 32 ∷ 32 ∷ indent n
 abbrev pub line : ℕ → List ℕ → List ℕ
 line level text = indent level ++ text ++ 10 ∷ []
 
--- a text with its escapes, between quotes
+-- an escaped text in quotes
 abbrev pub quoted : List ℕ → List ℕ
 quoted text = codes "\"" ++ escape text ++ codes "\""
 
--- what stands before the name of an element, by its namespace
+-- the text before the name of an element, by its namespace
 abbrev pub element_prefix : List ℕ → List ℕ
 element_prefix ns =
     if is_same_text ns (codes "http://www.w3.org/2000/svg") then codes "svg "
     else (if is_same_text ns (codes "http://www.w3.org/1998/Math/MathML") then codes "math "
     else [])
 
--- and before the name of an attribute
+-- the text before the name of an attribute, by its namespace
 abbrev pub attribute_prefix : List ℕ → List ℕ
 attribute_prefix ns =
     if is_same_text ns (codes "http://www.w3.org/1999/xlink") then codes "xlink "
@@ -37,7 +37,7 @@ abbrev pub is_empty : List ℕ → Bool
 is_empty [] = true
 is_empty (x ∷ xs) = false
 
--- both identifiers of a doctype, where either isn't empty
+-- both identifiers of a doctype, if either isn't empty
 abbrev pub identifiers : List ℕ → List ℕ → List ℕ
 identifiers public_id system_id =
     if is_empty public_id && is_empty system_id then []

@@ -8,8 +8,7 @@ use Rattle.h5_print.specs.Nodes.{attribute_lines, kind_line, line, quoted}
 abbrev pub first_lines : ℕ → Node → List ℕ
 first_lines level d = kind_line level d.kind ++ attribute_lines (suc level) d.attrs
 
--- these children are printed so at a level: texts, nodes with what is below them, and templates with their
--- contents, one level deeper still
+-- the text of children at a level: texts, nodes with their subtrees, and templates with their contents, which are one level deeper
 pub data Printed (a : ArenaView) : ℕ → List Child → List ℕ → Type 0 where
   NoChild : {level : ℕ} → Printed a level [] []
   TextChild : {level : ℕ} {children : List Child} {rest : List ℕ} (text : List ℕ) → Printed a level children rest → Printed a level (ChildText text ∷ children) (line level (quoted text) ++ rest)

@@ -1,4 +1,4 @@
--- The lines of a quirks mode, and of answers to tokens.
+-- The lines of a quirks mode, and of replies to tokens.
 use Rattle.std.specs.Prelude.{ℕ, List, [], ◌∷◌, ◌++◌, codes}
 use Rattle.std.specs.Fmt.{decimal}
 use Rattle.h5_interface.specs.declared.marks.QuirksMode.{QuirksMode}
@@ -33,7 +33,7 @@ fault_line n fault.NotInText = numbered n (codes "NotInText")
 fault_line n fault.Memory = []
 fault_line n fault.Failed = []
 
--- the line of an answer to the token of this number, or none
+-- the line of the reply to the token with this number, or none
 abbrev pub reply_line : ℕ → Reply → List ℕ
 reply_line n Continues = []
 reply_line n (RunsScript node) = numbered n (codes "Script")

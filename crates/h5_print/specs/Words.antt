@@ -1,9 +1,9 @@
--- The words that lines begin with.
+-- The first words of lines.
 use Rattle.std.specs.Prelude.{ℕ, List, [], ◌∷◌, Option, Some, None, ◌==◌, if◌then◌else◌, bytes_eq, codes}
 use Rattle.h5_print.specs.declared.words.Word.{Word}
 use Rattle.h5_print.specs.declared.words.Word.TheVariants.{Doctype, PublicId, SystemId, ForceQuirks, StartTag, EndTag, Attribute, SelfClosing, Text, Comment, Null, ParseError, EndOfFile, End}
 
--- a text up to its first space, and what stands behind that space, if there is one
+-- the text up to the first space, and the text after that space, if there is one
 pub record Cut : Type 0 where
   pub word : List ℕ
   pub operand : Option (List ℕ)
@@ -14,7 +14,7 @@ cut (c ∷ cs) =
     if c == 32 then record { word = []; operand = Some cs }
     else record { word = c ∷ (cut cs).word; operand = (cut cs).operand }
 
--- which word this is
+-- the word with this text
 abbrev pub word_of : List ℕ → Option Word
 word_of w =
     if bytes_eq w (codes "D") then Some Doctype

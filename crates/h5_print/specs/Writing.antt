@@ -4,13 +4,13 @@ use Rattle.std.specs.Io.KnownBytes.{Appends}
 use Rattle.h5_arena.specs.ArenaModel.{ArenaView}
 use Rattle.h5_print.specs.Printed.{IsTreeText}
 
--- a front of what was kept was written, and what follows it is kept
+-- a prefix of the buffered text was written, and the remainder is still buffered
 pub record PassesOn (was is : List ℕ) (old new : Option (List ℕ)) : Type 0 where
   pub front : List ℕ
   pub splits : was ≡ front ++ is
   pub appends : Appends old new front
 
--- the text of a tree was written, behind what a writer holds
+-- the text of a tree was appended to a writer
 pub record WritesTree (a : ArenaView) (old new : Option (List ℕ)) : Type 0 where
   pub text : List ℕ
   pub is_text : IsTreeText a text

@@ -6,7 +6,7 @@ ghost use Rattle.h5_print.specs.Escapes.{byte_of, escape, letter_of, put, unesca
 
 use std::alloc::{AllocError, Global};
 
-// The character of a letter behind a backslash.
+// The character of the letter after a backslash.
 fn char_of(letter: char) -> Option<char>
     ensures { result ≡ byte_of letter }
 {
@@ -36,7 +36,7 @@ fn letter_of(c: char) -> Option<char>
     }
 }
 
-// What stands behind a backslash: the character of the letter, and the text behind that.
+// The character of the letter after a backslash, and the text after that.
 fn cut_letter<'a>(text: &'a str) -> Option<(char, &'a str)>
     ensures { MatchOption result (unescape (92 ∷ text.now) ≡ None)
         (λ found. (unescape (92 ∷ text.now) ≡ put (Some found.0) (unescape found.1.now))
@@ -50,8 +50,8 @@ fn cut_letter<'a>(text: &'a str) -> Option<(char, &'a str)>
     }
 }
 
-/// The text that was written with these escapes, or nothing where a backslash has another letter behind it
-/// than the six, or none. An `AllocError` is told where memory is refused.
+/// Returns the text that was written with these escapes, or `None` if a backslash is followed by another letter than the six, or by
+/// nothing. Fails with `AllocError` if an allocation fails.
 pub fn read_escapes(alloc: Global, text: &str) -> Result<Option<String>, AllocError>
     ensures { IfOk result (λ read. option_map string_bytes read ≡ unescape text.now) }
 {
@@ -63,7 +63,7 @@ pub fn read_escapes(alloc: Global, text: &str) -> Result<Option<String>, AllocEr
             return Ok(None);
         };
         out.push(c)?;
-        // That it is text holds for the loop's next turn.
+        // The next iteration needs the fact that this is text.
         let _bytes = after.as_bytes();
         rest = after;
     }
@@ -71,8 +71,7 @@ pub fn read_escapes(alloc: Global, text: &str) -> Result<Option<String>, AllocEr
     Ok(Some(out))
 }
 
-/// Writes a text with its escapes at the end of another. Where memory is refused, with an `AllocError`, a
-/// part of it may have been written.
+/// Appends a text with its escapes to another. Fails with `AllocError` if an allocation fails; then a part of it may have been written.
 pub fn write_escapes(out: &mut String, text: &str) -> Result<(), AllocError>
     ensures { OnOk result (string_bytes out.new ≡ string_bytes out.old ++ escape text.now) }
 {

@@ -1,16 +1,16 @@
-//! Why lines weren't read.
+//! The errors of reading lines.
 ghost use Rattle.std.specs.Prelude.{◌≡◌};
 
 use std::alloc::{AllocError, AllocFailed};
 use thiserror::Error;
 
-/// Why lines weren't read.
+/// The error of reading lines.
 #[derive(Clone, Copy, Debug, PartialEq, Eq, Error)]
 pub enum LineFault {
-    /// The line of this number, from 1, says nothing, or nothing where it stands. It is the first such line.
+    /// The first line that is invalid, or invalid at its place, by its number from 1.
     #[error("bad line {0}")]
     Bad(u64),
-    /// Memory was refused.
+    /// An allocation failed.
     #[error("out of memory")]
     Memory,
 }

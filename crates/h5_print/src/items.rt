@@ -1,4 +1,4 @@
-//! The lines of a text together.
+//! The lines of a text as items.
 ghost use Rattle.std.specs.Prelude.{◌≡◌, [], IfOk, vec_len};
 ghost use Rattle.std.specs.Option.{option_map};
 ghost use Rattle.h5_print.specs.Lines.{line_text};
@@ -11,16 +11,16 @@ use super::parts::token_with;
 use h5_token::Token;
 use std::alloc::{AllocError, Global};
 
-/// What is handed to a taker of tokens.
+/// A call of a token sink.
 #[derive(Debug, Drop, PartialEq, Eq)]
 pub enum Item {
     /// A token, and the number of its first line, from 1.
     Token(Token, u64),
-    /// The call of the end.
+    /// The call of `end`.
     End,
 }
 
-// The item with this part, or nothing where it can't take it.
+// The item with this part, or `None` if the item can't have it.
 fn item_with(item: Item, part: Part) -> Result<Option<Item>, AllocError>
     ensures { IfOk result (λ made. option_map i.item_text made ≡ i.item_with (part_text part)
         (i.item_text item)) }
@@ -34,7 +34,7 @@ fn item_with(item: Item, part: Part) -> Result<Option<Item>, AllocError>
     }
 }
 
-// Puts a part to the last item. `Bad` where there is none, or where it can't take it.
+// Adds a part to the last item. Fails with `Bad` if there is no item, or if it can't have the part.
 fn take_part(items: &mut Vec<Item>, number: u64, part: Part) -> Result<(), LineFault>
     ensures { i.Takes (i.with_last (i.item_with (part_text part)) (i.item_texts items.old.items))
         number (i.item_texts items.new.items) result }
@@ -51,7 +51,7 @@ fn take_part(items: &mut Vec<Item>, number: u64, part: Part) -> Result<(), LineF
     }
 }
 
-// Takes the line of this number. `Bad` where it can't stand there.
+// Adds the line with this number. Fails with `Bad` if it is invalid here.
 fn take_line(items: &mut Vec<Item>, number: u64, line: Line) -> Result<(), LineFault>
     ensures { i.Takes (i.items_with (i.item_texts items.old.items) number (line_text line)) number
         (i.item_texts items.new.items) result }
@@ -70,7 +70,7 @@ fn take_line(items: &mut Vec<Item>, number: u64, line: Line) -> Result<(), LineF
     }
 }
 
-// Reads the line of this number.
+// Reads the line with this number.
 fn read_line(alloc: Global, items: &mut Vec<Item>, number: u64, text: &str) -> Result<(), LineFault>
     ensures { i.Takes (i.items_read (i.item_texts items.old.items) number text.now) number
         (i.item_texts items.new.items) result }
@@ -81,10 +81,10 @@ fn read_line(alloc: Global, items: &mut Vec<Item>, number: u64, text: &str) -> R
     }
 }
 
-/// The items of a text, line by line; LF ends a line, and empty lines are counted alone.
+/// Parses the lines of a text as items. LF ends a line; empty lines only count.
 ///
-/// The fault is `Bad`, with the number of the first line that is bad: by itself, or since it is a part and
-/// no token that takes it stands above. It is `Memory` where memory is refused.
+/// Fails with `Bad`, with the number of the first bad line: one that is invalid itself, or a part that the token above can't have, or
+/// without a token above. Fails with `Memory` if an allocation fails.
 pub fn parse(alloc: Global, text: &str) -> Result<Vec<Item>, LineFault>
     ensures { i.Reads (i.items_of text.now) result }
 {

@@ -1,17 +1,15 @@
-//! Tokens as lines of text, and what a builder built, and answered, as text.
+//! Tokens as lines of text, and trees and replies as text.
 //!
-//! A line says a token: it is a word, and behind a space what belongs to it. `D`, `S`, `E`, `T`, `C`, `N`, `P` and `Z` are the
-//! tokens, `Dp`, `Ds`, `Dq`, `A` and `/` parts of the doctype or the tag above, and `X` is the call of the end. Texts hold the
-//! escapes `\n`, `\t`, `\f`, `\r`, `\0` and `\\`. `items` reads the lines of a text together, and `line` each by itself;
-//! `words` has the words that lines begin with, `parts` what lines add to the token above, and `escapes` the escapes.
+//! A line is a word and, after a space, its operand. `D`, `S`, `E`, `T`, `C`, `N`, `P` and `Z` are the tokens, `Dp`, `Ds`, `Dq`, `A` and
+//! `/` parts of the doctype or the tag above, and `X` is the call of `end`. Texts have the escapes `\n`, `\t`, `\f`, `\r`, `\0` and `\\`.
+//! `items` parses the lines of a text, and `line` one line; `words` has the words, `parts` the parts, and `escapes` the escapes. `fault`
+//! has the errors.
 //!
-//! `tree` prints the tree of an arena, and `nodes` the lines of one node, with what stands before its names from
-//! `names`. `replies` prints quirks modes, and answers to tokens. `laws` tells that a tree has one text, and that what was
-//! written with escapes is read again.
+//! `tree` prints the tree of an arena, and `nodes` the lines of one node, with the prefixes in `names`. `replies` prints quirks modes, and
+//! replies to tokens. `laws` says that a tree has one text, and that escapes are read as they were written.
 //!
-//! It stands on names, tokens and `h5_arena`, whose trees it prints. `h5_commands` stands on it, and so do tests and
-//! `h5_vectors`, which read such lines. Begin with `specs/Lines.antt` and `specs/Items.antt`, then `src/items.rt`; and with
-//! `specs/Printed.antt` (the text of a tree) and `src/tree.rt`.
+//! This crate depends on h5_names, h5_token, h5_interface and h5_arena. `h5_commands` uses it, and so do `h5_tests` and `h5_vectors`. Begin
+//! with `specs/Lines.antt`, `specs/Items.antt` and `src/items.rt`; or with `specs/Printed.antt` (the text of a tree) and `src/tree.rt`.
 #![tactic(auto)]
 
 mod escapes;

@@ -1,4 +1,4 @@
-//! Lines, each by itself.
+//! Parses one line.
 ghost use Rattle.std.specs.Prelude.{◌≡◌, IfOk, option_and_then};
 ghost use Rattle.std.specs.Option.{option_map};
 ghost use Rattle.std.specs.String.{string_bytes};
@@ -11,7 +11,7 @@ use h5_names::{Attribute, LocalName, Namespace, QualName, namespaces};
 use h5_token::{Doctype, Tag, TagKind, Token};
 use std::alloc::{AllocError, Global};
 
-/// What the line of a doctype or a tag leaves to further lines.
+/// A part of the doctype or the tag above.
 #[derive(Debug, Drop, PartialEq, Eq)]
 pub enum Part {
     PublicId(String),
@@ -21,26 +21,26 @@ pub enum Part {
     SelfClosing,
 }
 
-/// What a line says.
+/// The meaning of a line.
 #[derive(Debug, Drop, PartialEq, Eq)]
 pub enum Line {
-    /// Nothing: it is empty.
+    /// An empty line.
     Blank,
     Token(Token),
     /// A part of the token above.
     Part(Part),
-    /// The call of the end.
+    /// The call of `end`.
     End,
 }
 
-// A name isn't empty, and holds no space.
+// A name isn't empty, and contains no space.
 fn is_name(text: &str) -> bool
     ensures { result ≡ l.is_name text.now }
 {
     !text.is_empty() && !text.as_bytes().contains(&b' ')
 }
 
-// The text of an operand, with its escapes undone; an operand that is missing is the empty text.
+// The text of an operand without its escapes; a missing operand is the empty text.
 fn read_text(alloc: Global, operand: Option<&str>) -> Result<Option<String>, AllocError>
     ensures { IfOk result (λ read. option_map string_bytes read ≡ l.text_in
         (option_map (λ text. text.now) operand.entry)) }
@@ -100,7 +100,7 @@ fn read_tag(alloc: Global, kind: TagKind, operand: Option<&str>) -> Result<Optio
     }
 }
 
-// An attribute without prefix and namespace.
+// An attribute without a prefix and a namespace.
 fn make_attribute(alloc: Global, name: &str, value: String) -> Result<Line, AllocError>
     ensures { IfOk result (λ line. l.line_text line ≡ l.attribute_named name.now (string_bytes value)) }
 {
@@ -127,7 +127,7 @@ fn read_attribute(alloc: Global, operand: &str) -> Result<Option<Line>, AllocErr
     }
 }
 
-// A line that is its word alone.
+// A line that has only its word.
 fn alone(line: Line, operand: Option<&str>) -> Option<Line>
     ensures { option_map l.line_text result ≡ l.alone (l.line_text line)
         (option_map (λ text. text.now) operand.entry) }
@@ -169,9 +169,9 @@ fn line_with(alloc: Global, word: Word, operand: Option<&str>) -> Result<Option<
     }
 }
 
-/// What a line says, without its LF, or nothing where it is bad by itself: where its word is none of the
-/// fourteen, where a name is empty or holds a space, where a text has another escape, and where a word that
-/// stands alone has a space behind it. An `AllocError` is told where memory is refused.
+/// Parses a line without its LF. Returns `None` if it is invalid itself: if its word is not one of the fourteen, if a name is empty or
+/// contains a space, if a text has an unknown escape, or if a space follows a word that has no operand. Fails with `AllocError` if an
+/// allocation fails.
 pub fn parse_line(alloc: Global, line: &str) -> Result<Option<Line>, AllocError>
     ensures { IfOk result (λ read. option_map l.line_text read ≡ l.line_of line.now) }
 {

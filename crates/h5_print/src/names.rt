@@ -1,10 +1,10 @@
-//! What stands before the names of elements and attributes.
+//! Prefixes of printed names, by their namespaces.
 ghost use Rattle.std.specs.Prelude.{◌≡◌};
 ghost use Rattle.h5_print.specs.Nodes.{attribute_prefix, element_prefix};
 
 use h5_names::{Namespace, namespaces};
 
-/// What stands before the name of an element.
+/// The text before the name of an element.
 pub fn element_prefix(ns: &Namespace) -> &'static str
     ensures { result.now ≡ element_prefix ns.now }
 {
@@ -18,7 +18,7 @@ pub fn element_prefix(ns: &Namespace) -> &'static str
     ""
 }
 
-/// What stands before the name of an attribute.
+/// The text before the name of an attribute.
 pub fn attribute_prefix(ns: &Namespace) -> &'static str
     ensures { result.now ≡ attribute_prefix ns.now }
 {

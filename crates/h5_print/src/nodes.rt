@@ -1,4 +1,4 @@
-//! The lines of one node, without those of what is below it.
+//! The lines of one node, without its subtree.
 ghost use Rattle.std.specs.Prelude.{◌≡◌, ◌++◌, ◌∷◌, [], codes, OnOk};
 ghost use Rattle.std.specs.String.{string_bytes};
 ghost use Rattle.h5_names.specs.AttributeText.{attribute_text, attribute_texts};

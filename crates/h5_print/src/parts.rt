@@ -1,4 +1,4 @@
-//! Parts that are put to the token above.
+//! Adds parts to the token above.
 ghost use Rattle.std.specs.Prelude.{◌≡◌, IfOk};
 ghost use Rattle.std.specs.List.{list_any};
 ghost use Rattle.std.specs.Option.{option_map};
@@ -11,7 +11,7 @@ use h5_names::{Attribute, QualName};
 use h5_token::{Doctype, Tag, Token};
 use std::alloc::AllocError;
 
-// The doctype with this part, or nothing where it can't take it.
+// The doctype with this part, or `None` if it can't have it.
 fn doctype_with(mut doctype: Doctype, part: Part) -> Option<Doctype>
     ensures { option_map doctype_text result ≡ p.doctype_with (doctype_text doctype) (p.part_text part) }
 {
@@ -45,7 +45,7 @@ fn has_name(attrs: &[Attribute], name: &QualName) -> bool
     attrs.iter().any(|attribute| attribute.name == *name)
 }
 
-// The tag with this part, or nothing where it can't take it.
+// The tag with this part, or `None` if it can't have it.
 fn tag_with(mut tag: Tag, part: Part) -> Result<Option<Tag>, AllocError>
     ensures { IfOk result (λ made. option_map tag_text made
         ≡ p.tag_with (tag_text tag) (p.part_text part)) }
@@ -68,8 +68,7 @@ fn tag_with(mut tag: Tag, part: Part) -> Result<Option<Tag>, AllocError>
     }
 }
 
-/// The token with this part, or nothing where it can't take it. An `AllocError` is told where memory is
-/// refused.
+/// Returns the token with this part, or `None` if it can't have it. Fails with `AllocError` if an allocation fails.
 pub fn token_with(token: Token, part: Part) -> Result<Option<Token>, AllocError>
     ensures { IfOk result (λ made. option_map token_text made
         ≡ p.token_with (token_text token) (p.part_text part)) }

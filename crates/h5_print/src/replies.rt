@@ -1,4 +1,4 @@
-//! Quirks modes, and answers to tokens.
+//! Quirks modes, and replies to tokens.
 ghost use Rattle.std.specs.Prelude.{◌≡◌, ◌++◌, ◌∷◌, [], codes, OnOk};
 ghost use Rattle.std.specs.Fmt.{decimal};
 ghost use Rattle.std.specs.String.{string_bytes};
@@ -22,8 +22,8 @@ fn mode_name(mode: QuirksMode) -> &'static str
     }
 }
 
-/// The line of a quirks mode: `quirks: ` and its name. Where memory is refused, with an `AllocError`, a part
-/// of it may have been written.
+/// Appends the line of a quirks mode: `quirks: ` and its name. Fails with `AllocError` if an allocation fails; then a part of it may have
+/// been written.
 pub fn print_quirks(out: &mut String, mode: QuirksMode) -> Result<(), AllocError>
     ensures { OnOk result (string_bytes out.new ≡ string_bytes out.old ++ quirks_line mode) }
 {
@@ -42,7 +42,7 @@ fn raw_name(kind: RawKind) -> &'static str
     }
 }
 
-// The number of a token, at the front of its line.
+// The number of a token, at the start of its line.
 fn print_number(out: &mut String, number: u64) -> Result<(), AllocError>
     ensures { OnOk result (string_bytes out.new ≡ string_bytes out.old ++ (decimal number ++ 32 ∷ [])) }
 {
@@ -77,9 +77,8 @@ fn print_encoding(out: &mut String, number: u64, encoding: &str) -> Result<(), A
     out.push_str("\"\n")
 }
 
-/// The line of the answer to the token of this number: `Script`, `Plaintext`, `RawData` with its kind, or
-/// `EncodingIndicator` with its text. `Continue` has no line. Where memory is refused, with an `AllocError`,
-/// a part of it may have been written.
+/// Appends the line of the reply to the token with this number: `Script`, `Plaintext`, `RawData` with its kind, or `EncodingIndicator` with
+/// its text. `Continue` has no line. Fails with `AllocError` if an allocation fails; then a part of it may have been written.
 pub fn print_answer<Handle>(
     out: &mut String,
     number: u64,
@@ -99,8 +98,8 @@ pub fn print_answer<Handle>(
     }
 }
 
-/// The line of a refusal of the token of this number: `AfterEnd` or `NotInText`. Faults that end a run have
-/// none. Where memory is refused, with an `AllocError`, a part of it may have been written.
+/// Appends the line of an error of the token with this number: `AfterEnd` or `NotInText`. Errors that end a run have no line. Fails with
+/// `AllocError` if an allocation fails; then a part of it may have been written.
 pub fn print_refusal(out: &mut String, number: u64, fault: BuildFault) -> Result<(), AllocError>
     ensures { OnOk result (string_bytes out.new
         ≡ string_bytes out.old ++ reply_line number (Refuses fault)) }

@@ -12,17 +12,17 @@ use h5_interface::TreeSink;
 use std::alloc::{AllocError, Global};
 use std::io::{self, Write};
 
-// So many bytes of a text are kept before they are written.
+// The number of bytes that are buffered before they are written.
 const PART: usize = 65_536;
 
-// A node whose first lines are printed, and how many of its children are.
+// A node whose first lines are printed, and the number of its children that are.
 #[derive(Clone, Copy)]
 pub struct Frame {
     node: NodeId,
     printed: usize,
 }
 
-// The first lines of a node at a level, which is opened.
+// Prints the first lines of a node at a level, and opens the node.
 fn print_node(
     arena: &Arena,
     node: NodeId,
@@ -52,7 +52,7 @@ fn print_node(
     }
 }
 
-// The next child of an open node, or its close where none is left.
+// Prints the next child of an open node, or closes the node if none is left.
 fn print_next(
     arena: &Arena,
     frame: Frame,
@@ -80,15 +80,14 @@ fn print_next(
     }
 }
 
-/// The children of the document of an arena, one line a node, two spaces a level.
+/// Returns the text of the tree below an arena's document: one line for each node, indented by two spaces for each level.
 ///
-/// `<!DOCTYPE name>`, with both identifiers quoted before the `>` where either isn't empty; `<name>`, with
-/// `svg ` or `math ` before the name in those namespaces; `<!-- text -->`; `"text"`; `<?target text>`. Below
-/// an element stand its attributes, as `name="value"` with `xlink `, `xml ` or `xmlns ` before the name in
-/// those namespaces, then the contents of a template below a line `content`, then its children. Texts,
-/// values, identifiers and comments have their escapes. An `AllocError` is told where memory is refused.
+/// `<!DOCTYPE name>`, with both identifiers quoted before the `>` if either isn't empty; `<name>`, with `svg ` or `math ` before the name
+/// in those namespaces; `<!-- text -->`; `"text"`; `<?target text>`. Below an element are its attributes, as `name="value"` with `xlink `,
+/// `xml ` or `xmlns ` before the name in those namespaces, then the contents of a template below a line `content`, then its children.
+/// Texts, values, identifiers and comments are escaped. Fails with `AllocError` if an allocation fails.
 ///
-/// The nodes that are open are kept in a list, so that no depth of a tree is too great for the stack.
+/// The open nodes are in a list, so that no depth of a tree is too great for the stack.
 pub fn print_tree(alloc: Global, arena: &Arena) -> Result<String, AllocError>
     ensures { IfOk result (λ text. IsTreeText arena.now (string_bytes text)) }
 {
@@ -104,11 +103,11 @@ pub fn print_tree(alloc: Global, arena: &Arena) -> Result<String, AllocError>
         };
         print_next(arena, frame, &mut out, &mut stack)?;
     }
-    // No memory holds so many lines.
+    // No memory has this many lines.
     Err(AllocError)
 }
 
-// Writes a text on and forgets it, where it has more bytes than that.
+// Writes a buffered text and empties it, if it has more than `most` bytes.
 fn write_part<W: Write>(part: &mut String, writer: &mut W, most: usize) -> io::Result<()>
     ensures passes { OnOk result (PassesOn (string_bytes part.old) (string_bytes part.new) (W.contents writer.old) (W.contents writer.new)) }
     ensures rest { OnOk result (string_len part.new ≤ most) }
@@ -121,10 +120,11 @@ fn write_part<W: Write>(part: &mut String, writer: &mut W, most: usize) -> io::R
     Ok(())
 }
 
-/// Writes what `print_tree` gives of an arena, in parts, so that no more than a part of it stands in memory: a line for each node
-/// is indented by its depth, and a tree whose elements nest has a text that grows with the square of its depth.
+/// Writes the text of `print_tree` in parts, so that only a part of it is in memory: each line is indented by the depth of its node, so the
+/// text of nested elements is quadratic in their depth.
 ///
-/// An error is the writer's, or of the kind `OutOfMemory`. Nothing is said then of what was written.
+/// Fails with the error of the writer, or with the kind `OutOfMemory` if an allocation fails. Nothing is promised then about what was
+/// written.
 pub fn write_tree<W: Write>(alloc: Global, arena: &Arena, writer: &mut W) -> io::Result<()>
     ensures { OnOk result (WritesTree arena.now (W.contents writer.old) (W.contents writer.new)) }
 {
@@ -141,6 +141,6 @@ pub fn write_tree<W: Write>(alloc: Global, arena: &Arena, writer: &mut W) -> io:
         print_next(arena, frame, &mut part, &mut stack)?;
         write_part(&mut part, writer, PART)?;
     }
-    // No memory holds so many lines.
+    // No memory has this many lines.
     Err(AllocError.into())
 }

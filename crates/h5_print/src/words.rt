@@ -1,9 +1,9 @@
-//! The words that lines begin with.
+//! The first words of lines.
 ghost use Rattle.std.specs.Prelude.{◌≡◌};
 ghost use Rattle.std.specs.Option.{option_map};
 ghost use Rattle.h5_print.specs.Words.{cut, word_of};
 
-/// What a line begins with.
+/// The first word of a line.
 #[derive(Clone, Copy, Debug, PartialEq, Eq)]
 pub enum Word {
     Doctype,
@@ -22,7 +22,7 @@ pub enum Word {
     End,
 }
 
-/// Which word this is.
+/// The word with this text, if there is one.
 pub fn word_of(text: &str) -> Option<Word>
     ensures { result ≡ word_of text.now }
 {
@@ -45,7 +45,7 @@ pub fn word_of(text: &str) -> Option<Word>
     }
 }
 
-/// A text up to its first space, and what stands behind that space, if there is one.
+/// The text up to the first space, and the text after that space, if there is one.
 pub fn cut_word<'a>(text: &'a str) -> (&'a str, Option<&'a str>)
     ensures word { result.0.now ≡ (cut text.now).word }
     ensures operand { option_map (λ operand. operand.now) result.1 ≡ (cut text.now).operand }

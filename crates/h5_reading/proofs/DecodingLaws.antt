@@ -1,4 +1,4 @@
--- How the text of bytes is put together.
+-- Joining the text of bytes from parts.
 use Rattle.std.proofs.Common.{◌≡◌, ℕ, ◌+◌, ◌-◌, ◌<◌, ◌≤◌, None, Some, List, [], ◌++◌, length, drop, sym, ap, subst, ◌∙◌, arith, ⊎_elim, append_assoc, length-append, length-drop, take, take_all}
 use Rattle.std.specs.Char.{encode_utf8}
 use Rattle.std.specs.Str.{IsUtf8, IsValidUpTo, StartsWithNoChar}
@@ -19,14 +19,14 @@ no_char_in_nothing c rest s is = absurd (omega (arith, ap length is, length-appe
 pub nothing_unfinished : IsUnfinished []
 nothing_unfinished = record { no_char = no_char_in_nothing; no_error = utf8_error_len-nil; few = omega arith }
 
--- no character begins behind the longest front that is UTF-8
+-- no character begins after the longest prefix that is UTF-8
 pub no_char_behind_text : (bs : List ℕ) (n : ℕ) → n ≡ utf8_valid_len bs → StartsWithNoChar (drop n bs)
 no_char_behind_text bs n is = ⊎_elim
     (λ whole. subst StartsWithNoChar (sym (ap (λ k. drop k bs) (is ∙ utf8_valid_len-IsUtf8 bs whole) ∙ drop-length bs)) no_char_in_nothing)
     (λ stop. subst (λ k. StartsWithNoChar (drop k bs)) (sym is) (no_char_behind bs (utf8_valid_len bs) stop))
     (utf8_valid_len-cases bs)
 
--- a text that no character begins is empty
+-- a text that no character begins has no error
 pub no_error_in_text : (bs : List ℕ) → StartsWithNoChar bs → IsUtf8 bs → utf8_error_len bs ≡ None
 no_error_in_text bs none text = ⊎_elim
     (λ (some : 0 < length bs).
@@ -42,7 +42,7 @@ pub decodes_before : (bs text left more : List ℕ) → Decodes bs text left →
 decodes_before bs text left more decodes others =
     ap utf8_lossy (append_assoc bs more others) ∙ decodes (more ++ others) ∙ ap (λ t. text ++ utf8_lossy t) (sym (append_assoc left more others))
 
--- a text, and an error behind it
+-- a text, and an error after it
 pub text_decodes : (bs text rest : List ℕ) → IsUtf8 text → text ++ rest ≡ bs → Decodes bs text rest
 text_decodes bs text rest utf8 parts more =
     ap (λ t. utf8_lossy (t ++ more)) (sym parts) ∙ ap utf8_lossy (append_assoc text rest more) ∙ text_at_front text (rest ++ more) utf8
@@ -62,7 +62,7 @@ appends_then bs left old new text rest appends decodes = record {
 pub behind_part : (bs part rest : List ℕ) (n : ℕ) → part ++ rest ≡ drop n bs → rest ≡ drop (n + length part) bs
 behind_part bs part rest n parts = sym (drop-append_seam part rest) ∙ ap (drop (length part)) parts ∙ drop-drop (length part) n bs
 
--- bytes that no character begins stop being text at once
+-- bytes that no character begins are UTF-8 up to index 0
 pub stops_at_front : (bs : List ℕ) (n : ℕ) → StartsWithNoChar bs → IsValidUpTo bs n → n ≡ 0
 stops_at_front bs n none stop =
     let at_front = stops_at_once bs (omega (arith, stop.short)) none in
@@ -71,6 +71,6 @@ stops_at_front bs n none stop =
 pub no_char_in_none : (bs : List ℕ) → length bs ≡ 0 → StartsWithNoChar bs
 no_char_in_none bs empty = subst StartsWithNoChar (sym (drop_of_length-le bs {i = 0} (omega arith))) no_char_in_nothing
 
--- what stands from a place on, as a range
+-- what follows an index, as a range
 pub all_that_follows : (bs : List ℕ) (n : ℕ) → take (length bs - n) (drop n bs) ≡ drop n bs
 all_that_follows bs n = take_all (length bs - n) (drop n bs) (omega (arith, length-drop n bs))

@@ -1,4 +1,4 @@
--- Errors in UTF-8 stay what they are, whatever follows them.
+-- Errors in UTF-8 don't depend on what follows them.
 use Rattle.std.proofs.Common.{◌≡◌, ◌⊎◌, ℕ, ◌+◌, ◌/◌, ◌%◌, ◌<◌, ◌≤◌, true, false, Bool, Option, None, Some, List, [], ◌∷◌, ◌++◌, length, take, drop, slice_index, nat_lt, refl, sym, ap, subst, ◌∙◌, arith, inl, inr, ⊎_elim, cond, length-append}
 use Rattle.std.specs.Int.{is_in_range}
 use Rattle.std.specs.Char.{encode_utf8}
@@ -16,7 +16,7 @@ use Rattle.std.proofs.Math.Seq.{take-append_seam}
 use Rattle.std.proofs.Math.ListN.{drop_of_length-le}
 use Rattle.h5_reading.proofs.Fronts.{stops_at_once}
 
--- `utf8_error_len` of n bytes that begin with x y z, of which there is one, by how many are seen to be in order
+-- `utf8_error_len` of n bytes that begin with x y z, of which the first exists, by how many of them are in order
 abbrev of_three : (n z : ℕ) → Option ℕ
 of_three n z = cond (is_in_range 0x80 0xBF z) (cond (nat_lt n 4) None (Some 3)) (Some 2)
 
@@ -29,7 +29,7 @@ of_one n x y z = cond (is_in_range 0xC2 0xF4 x) (cond (nat_lt n 2) None (of_two 
 abbrev of_bytes : List ℕ → Option ℕ
 of_bytes bs = of_one (length bs) (slice_index bs 0) (slice_index bs 1) (slice_index bs 2)
 
--- a test that asks for j bytes
+-- a test that needs j bytes
 enough : (n m j : ℕ) (a b : Option ℕ) (k : ℕ) → cond (nat_lt n j) None a ≡ Some k → n ≤ m → (j ≤ n → a ≡ Some k → b ≡ Some k) → cond (nat_lt m j) None b ≡ Some k
 enough n m j a b k is more later = ⊎_elim
     (λ (few : n < j). let t : nat_lt n j ≡ true = grind (arith, nat_tests) in let e : None ≡ Some k = sym (cond-true _ _ _ t) ∙ is in absurd (cc))
@@ -44,7 +44,7 @@ alike : (p : Bool) (a b c : Option ℕ) (k : ℕ) → cond p a c ≡ Some k → 
 alike true a b c k is later = later is
 alike false a b c k is later = is
 
--- an error doesn't change where there are more bytes
+-- an error doesn't change when there are more bytes
 of_more : (n m x y z v w k : ℕ) → of_one n x y z ≡ Some k → n ≤ m → (1 < n → v ≡ y) → (2 < n → w ≡ z) → of_one m x v w ≡ Some k
 of_more n m x y z v w k is more second third =
     alike (is_in_range 0xC2 0xF4 x) (cond (nat_lt n 2) None (of_two n x y z)) (cond (nat_lt m 2) None (of_two m x v w)) (Some 1) k is
@@ -71,7 +71,7 @@ error_stays bs more k is =
     ∙ ap (λ x. of_one (length (bs ++ more)) x (slice_index (bs ++ more) 1) (slice_index (bs ++ more) 2)) first
     ∙ of_more n (length (bs ++ more)) (slice_index bs 0) (slice_index bs 1) (slice_index bs 2) (slice_index (bs ++ more) 1) (slice_index (bs ++ more) 2) k here (omega arith) (λ h. get_or_append_left bs more 0 1 h) (λ h. get_or_append_left bs more 0 2 h)
 
--- a test that asks for j bytes, of which there are fewer or which all is well with
+-- a test that needs j bytes, if there are fewer or they pass
 none_yet : (n j : ℕ) (a : Option ℕ) → (j ≤ n → a ≡ None) → cond (nat_lt n j) None a ≡ None
 none_yet n j a later = ⊎_elim
     (λ (few : n < j). cond-true _ _ _ (let t : nat_lt n j ≡ true = grind (arith, nat_tests) in t))
@@ -104,7 +104,7 @@ no_error_is_short bs none = ⊎_elim
     absurd (long_is_error (length bs) (slice_index bs 0) (slice_index bs 1) (slice_index bs 2) long (sym (utf8_error_len_some bs some) ∙ none)))
     (cases_lt (length bs) 4)
 
--- bytes at the front of a character are no error
+-- a proper prefix of a character isn't an error
 of_front_of_two : (c n x y z : ℕ) → 128 ≤ c → c < 2048 → n < 2 → x ≡ 192 + c / 64 → of_one n x y z ≡ None
 of_front_of_two c n x y z low high few first =
     cond-true _ _ _ (let t : is_in_range 0xC2 0xF4 x ≡ true = grind (arith, nat_tests) in t)
@@ -129,7 +129,7 @@ of_front_of_four c n x y z low high few first second third =
     cond-true _ _ _ (let t : is_in_range 0x80 0xBF z ≡ true = grind (arith, nat_tests) in t)
     ∙ none_yet n 4 _ (λ all. absurd (omega arith))))
 
--- where a character begins with all of some bytes and goes on, they are no error
+-- if a character begins with all of some bytes and goes on, they aren't an error
 module _ (bs more rest : List ℕ) (c : ℕ) (some : 0 < length bs) (few : length bs < length (encode_utf8 c)) (is : bs ++ more ≡ encode_utf8 c ++ rest) where
   byte_of : (i : ℕ) → i < length bs → slice_index bs i ≡ slice_index (encode_utf8 c) i
   byte_of i within = sym (get_or_append_left bs more 0 i within) ∙ ap (λ t. slice_index t i) is ∙ get_or_append_left (encode_utf8 c) rest 0 i (omega arith)
@@ -158,7 +158,7 @@ module _ (bs more rest : List ℕ) (c : ℕ) (some : 0 < length bs) (few : lengt
       (cases_lt c 2048))
       (cases_lt c 128)
 
--- where bytes are an error and begin no character, they begin none with more bytes behind them
+-- if bytes are an error and begin no character, they begin none when more bytes follow
 still_no_char : (bs more : List ℕ) (k : ℕ) → StartsWithNoChar bs → utf8_error_len bs ≡ Some k → StartsWithNoChar (bs ++ more)
 still_no_char bs more k none error c rest s is =
     let size = length (encode_utf8 c) in
@@ -170,7 +170,7 @@ still_no_char bs more k none error c rest s is =
     none c (drop size bs) s (sym (take-append-drop size bs) ∙ ap (λ t. t ++ drop size bs) front))
     (cases_lt (length bs) size)
 
--- so U+FFFD stands for that error, whatever follows it
+-- so U+FFFD replaces that error, whatever follows it
 pub error_at_front : (bs more : List ℕ) (k : ℕ) → StartsWithNoChar bs → utf8_error_len bs ≡ Some k → k ≤ length bs
     → utf8_lossy (bs ++ more) ≡ replacement_bytes ++ utf8_lossy (drop k bs ++ more)
 error_at_front bs more k none error within =
@@ -186,7 +186,7 @@ error_at_front bs more k none error within =
     ∙ ap (λ n. take n all ++ (replacement_bytes ++ utf8_lossy (after_first_chunk all))) at
     ∙ ap (λ t. replacement_bytes ++ utf8_lossy t) behind
 
--- and it stands for an unfinished character that is the last
+-- and it replaces an unfinished character at the end
 pub unfinished_at_end : (bs : List ℕ) → StartsWithNoChar bs → utf8_error_len bs ≡ None → 0 < length bs → utf8_lossy bs ≡ replacement_bytes
 unfinished_at_end bs none no_error some =
     let at : utf8_valid_len bs ≡ 0 = utf8_valid_len-IsValidUpTo bs 0 (stops_at_once bs some none) in

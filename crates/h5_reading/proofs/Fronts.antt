@@ -1,4 +1,4 @@
--- The longest front of bytes that is UTF-8.
+-- The longest prefix of bytes that is UTF-8.
 use Rattle.std.proofs.Common.{◌≡◌, ◌⊎◌, ℕ, zero, suc, ◌+◌, ◌-◌, ◌<◌, ◌≤◌, List, [], ◌++◌, length, take, drop, refl, sym, ap, subst, ◌∙◌, arith, inl, inr, ⊎_elim, true≢false, append_assoc, length-append, take_all}
 use Rattle.std.specs.Char.{encode_utf8}
 use Rattle.std.specs.Str.{IsUtf8, IsValidUpTo, StartsWithNoChar, is_utf8}
@@ -29,7 +29,7 @@ longest_front bs (suc m) =
     ))
     (cases_Bool (is_utf8 (take (suc m) bs)))
 
--- bytes are UTF-8, or they stop being it at `utf8_valid_len`
+-- bytes are UTF-8, or UTF-8 up to `utf8_valid_len`
 pub utf8_valid_len-cases : (bs : List ℕ) → IsUtf8 bs ⊎ IsValidUpTo bs (utf8_valid_len bs)
 unfolding utf8_valid_len
 utf8_valid_len-cases bs =
@@ -54,7 +54,7 @@ rest_is_text v w u both =
     let boundary = IsCharBoundary-from_take (v ++ w) (length v) both (omega (arith, length-append v w)) (subst IsUtf8 (sym (take-append_seam v w)) u) in
     subst IsUtf8 (drop-append_seam v w) (IsUtf8-drop (v ++ w) (length v) both boundary)
 
--- what follows the longest front begins no character
+-- what follows the longest prefix begins no character
 pub no_char_behind : (bs : List ℕ) (n : ℕ) → IsValidUpTo bs n → StartsWithNoChar (drop n bs)
 no_char_behind bs n v c rest s is =
     let size = length (encode_utf8 c) in
@@ -63,11 +63,11 @@ no_char_behind bs n v c rest s is =
     take-add n size bs ∙ ap (λ t. take n bs ++ take size t) is ∙ ap (λ t. take n bs ++ t) (take-append_seam (encode_utf8 c) rest) in
     v.longest (n + size) (omega arith) (subst IsUtf8 (sym front) (IsUtf8-append _ _ v.front (IsUtf8-encode c s)))
 
--- bytes that begin no character are no text
+-- bytes that begin no character aren't a text
 pub stops_at_once : (bs : List ℕ) → 0 < length bs → StartsWithNoChar bs → IsValidUpTo bs 0
 stops_at_once bs some none = valid_to bs 0 some IsUtf8-nil none
 
--- bytes with a fault behind a text have it behind that text and more
+-- bytes with an error after a text have it after that text and more
 later_fault : (v bs : List ℕ) (n : ℕ) → IsUtf8 v → IsValidUpTo bs n → IsValidUpTo (v ++ bs) (length v + n)
 later_fault v bs n u stop = record {
   short = omega (arith, stop.short, length-append v bs);
@@ -78,7 +78,7 @@ later_fault v bs n u stop = record {
       stop.longest k (omega arith) (rest_is_text v (take k bs) u (subst IsUtf8 (ap (λ j. take j (v ++ bs)) is ∙ take-append-add v bs k) text));
 }
 
--- a text at the front stays as it is, whatever follows it
+-- a text at the start stays as it is, whatever follows it
 pub text_at_front : (v more : List ℕ) → IsUtf8 v → utf8_lossy (v ++ more) ≡ v ++ utf8_lossy more
 text_at_front v more u = ⊎_elim
     (λ whole. utf8_lossy-IsUtf8 (v ++ more) (IsUtf8-append v more u whole) ∙ ap (λ t. v ++ t) (sym (utf8_lossy-IsUtf8 more whole)))

@@ -1,4 +1,4 @@
--- Joins of neighbouring texts.
+-- Joins of adjacent texts.
 use Rattle.std.proofs.Common.{◌≡◌, ℕ, List, [], ◌∷◌, ◌++◌, refl, sym, ap, ◌∙◌, append_assoc}
 use Rattle.h5_token.specs.TokenText.{TokenText, Characters}
 use Rattle.h5_token.specs.Joins.{glue, join}
@@ -33,7 +33,7 @@ onto_join [] acc = refl
 onto_join (Characters t ∷ ts) acc = ap (glue t) (onto_join ts acc) ∙ glue_onto t (join ts) acc
 onto_join (x ∷ ts) acc = ap (λ l. x ∷ l) (onto_join ts acc)
 
--- lists whose joins are equal may stand for one another in front, and behind
+-- lists whose joins are equal may replace each other, before and after other lists
 pub joins_append : (ts ts' us us' : List TokenText) → join ts ≡ join ts' → join us ≡ join us' → join (ts ++ us) ≡ join (ts' ++ us')
 joins_append ts ts' us us' e f =
     join_append ts us ∙ onto_join ts (join us) ∙ ap (λ l. onto l (join us)) e ∙ sym (onto_join ts' (join us)) ∙ ap (onto ts') f ∙ sym (join_append ts' us')

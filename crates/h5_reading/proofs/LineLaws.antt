@@ -1,4 +1,4 @@
--- Newlines, counted in parts, and the line that they come to.
+-- Newlines, counted in parts, and the resulting line.
 use Rattle.std.proofs.Common.{◌≡◌, ℕ, zero, suc, ◌<◌, ◌≤◌, ◌+◌, ◌-◌, ◌^◌, Bool, true, false, not, ◌&&◌, List, [], ◌∷◌, ◌++◌, cond, eqb, length, take, drop, get_or, refl, ap, ◌∙◌, subst, arith, length-append, length-drop}
 use Rattle.std.proofs.Math.Seq.{take-append_seam}
 use Rattle.std.proofs.lemmas.Bool.{eqb-true}
@@ -41,7 +41,7 @@ none_by true b r f = refl
 none_by false true r f = refl
 none_by false false r f = omega arith
 
--- those up to a byte, and those behind it
+-- the newlines up to a byte, and those after it
 pub in_parts : (after_cr : Bool) (xs : List ℕ) (n : ℕ) → n < length xs → newlines after_cr xs ≡ newlines after_cr (take (suc n) xs) + newlines (eqb (get_or xs n 0) 13) (drop (suc n) xs)
 in_parts after_cr [] n lt = absurd (omega arith)
 in_parts after_cr (x ∷ xs) zero lt = none_by (eqb x 13) (eqb x 10 && not after_cr) (λ n. n) (λ b. newlines b xs)
@@ -54,7 +54,7 @@ high_by x true b e f h = let same : x ≡ 13 = eqb-true x 13 e in absurd (omega 
 high_by x false true e f h = let same : x ≡ 10 = eqb-true x 10 f in absurd (omega arith)
 high_by x false false e f h = (refl, refl)
 
--- bytes that are none may be passed, where no CR came before them
+-- bytes that aren't newlines may be skipped, if no CR is before them
 pub none_passed : (xs : List ℕ) (n : ℕ) → ((k : ℕ) → k < n → 13 < get_or xs k 0) → newlines false xs ≡ newlines false (drop n xs)
 none_passed xs zero h = refl
 none_passed [] (suc n) h = refl
@@ -62,7 +62,7 @@ none_passed (x ∷ xs) (suc n) h =
     let none = high_by x (eqb x 13) (eqb x 10) refl refl (h 0 (omega arith)) in
     rw (none.0, none.1) (none_passed xs n (λ k lt. h (suc k) (omega arith)))
 
--- where none of the bytes up to one, and that one, may be a newline, there is none
+-- if none of the bytes up to and including one may be a newline, there is no newline
 quiet_through : (xs : List ℕ) (n : ℕ) → ((k : ℕ) → k < n → 13 < get_or xs k 0) → 13 < get_or xs n 0 → newlines false (take (suc n) xs) ≡ 0
 quiet_through [] n h i = refl
 quiet_through (x ∷ xs) zero h i =
@@ -95,7 +95,7 @@ in_line_more (x ∷ xs) inner rest some high e le h =
     ap (λ k. newlines false (take k (x ∷ xs))) same
     ∙ rw (none.0, none.1) (subst (λ (l : List ℕ). newlines_passed l rest ≡ 0) e h)
 
--- the same was passed, whatever follows
+-- the passed bytes don't depend on what follows
 passed_on : (xs ys more : List ℕ) → passed (xs ++ more) (ys ++ more) ≡ passed xs ys
 passed_on xs ys more =
     let n : length (xs ++ more) - length (ys ++ more) ≡ length xs - length ys = omega (arith, length-append xs more, length-append ys more) in
@@ -104,7 +104,7 @@ passed_on xs ys more =
 pub line_on : (line : ℕ) (xs ys more : List ℕ) → line_behind line (xs ++ more) (ys ++ more) ≡ line_behind line xs ys
 line_on line xs ys more = ap (λ l. u64_saturate (line + newlines false l)) (passed_on xs ys more)
 
--- what was passed, where that is known
+-- the passed bytes, if they are known
 pub passed_is : (xs ys front : List ℕ) → xs ≡ front ++ ys → passed xs ys ≡ front
 passed_is xs ys front split =
     let n : length xs - length ys ≡ length front = omega (arith, ap length split, length-append front ys) in
@@ -117,10 +117,10 @@ few_passed xs ys = omega (arith, few false (passed xs ys), length-take-le (lengt
 pub line_fits : (line : ℕ) (after_cr : Bool) (xs : List ℕ) → line_past line after_cr xs ≤ 2 ^ 64 - 1
 line_fits line after_cr xs = omega arith
 
--- a line behind which there is no newline
+-- a line that no newline follows
 pub line_none : (line n : ℕ) → line ≤ 2 ^ 64 - 1 → n ≡ 0 → line ≡ u64_saturate (line + n)
 line_none line n le none = omega (arith, le, none)
 
--- the line behind one part, and then behind another
+-- the line after one part, and then after another
 pub line_more : (line a b c : ℕ) → c ≡ a + b → u64_saturate (u64_saturate (line + a) + b) ≡ u64_saturate (line + c)
 line_more line a b c e = omega (arith, e)

@@ -14,7 +14,7 @@ tail_by : (b : Bool) (n m r : ℕ) → n ≡ m + r → cond (b && true) (1 + n) 
 tail_by true n m r h = omega (arith, h)
 tail_by false n m r h = h
 
--- one more byte of plain text, which is no CR
+-- one more byte of plain text, which isn't a CR
 pub plain_more : (xs : List ℕ) (n : ℕ) → n < length xs → ((k : ℕ) → k < n → is_plain (get_or xs k 0) ≡ true) → is_plain (get_or xs n 0) ≡ true → newlines false (take (suc n) xs) ≡ newlines false (take n xs) + cond (eqb (get_or xs n 0) 10) 1 0
 plain_more [] n lt h i = absurd (omega arith)
 plain_more (x ∷ xs) zero lt h i = rw (plain x i).cr (head_by (eqb x 10))
@@ -23,7 +23,7 @@ plain_more (x ∷ xs) (suc n) lt h i =
     (tail_by (eqb x 10) (newlines false (take (suc n) xs)) (newlines false (take n xs)) (cond (eqb (get_or xs n 0) 10) 1 0)
     (plain_more xs n (omega arith) (λ k lt. h (suc k) (omega arith)) i))
 
--- a part behind plain bytes
+-- a part after plain bytes
 pub plain_apart : (xs : List ℕ) (n m : ℕ) → n ≤ length xs → ((k : ℕ) → k < n → is_plain (get_or xs k 0) ≡ true) → newlines false (take (n + m) xs) ≡ newlines false (take n xs) + newlines false (take m (drop n xs))
 plain_apart xs zero m le h =
     let same : 0 + m ≡ m = omega arith in
@@ -41,11 +41,11 @@ plain_next xs n lines next lt h i e f =
     let same : suc n ≡ n + 1 = omega arith in
     f ∙ ap (λ l. l + cond (eqb (get_or xs n 0) 10) 1 0) e ∙ sym (plain_more xs n lt h i) ∙ ap (λ m. newlines false (take m xs)) same
 
--- a byte that is no newline adds none
+-- a byte that isn't a newline adds none
 pub none_more : {lines : ℕ} {b : Bool} → b ≡ false → lines + cond b 1 0 ≡ lines
 none_more {lines} e = rw e (omega arith)
 
--- bytes behind all that ends plain text
+-- bytes above all that end plain text
 pub high_plain : (x : ℕ) → 93 < x → is_plain x ≡ true
 high_plain x h = grind (arith, nat_tests)
 

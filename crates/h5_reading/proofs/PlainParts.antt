@@ -7,13 +7,13 @@ use Rattle.h5_reading.specs.Lines.{newlines}
 use Rattle.h5_reading.proofs.LineLaws.{few}
 use Rattle.h5_reading.proofs.PlainLines.{plain_apart}
 
--- so many bytes are plain, with so many newlines
+-- n bytes are plain, with this number of newlines
 pub record ArePlain (xs : List ℕ) (n lines : ℕ) : Type 0 where
   pub within : n ≤ length xs
   pub plain : (k : ℕ) → k < n → is_plain (get_or xs k 0) ≡ true
   pub counted : lines ≡ newlines false (take n xs)
 
--- a byte of a rest
+-- a byte of a suffix
 pub in_rest : (xs rest : List ℕ) (n k : ℕ) → rest ≡ drop n xs → get_or rest k 0 ≡ get_or xs (n + k) 0
 in_rest xs rest n k e = ap (λ l. get_or l k 0) e ∙ get_or-drop n xs k 0
 
@@ -26,7 +26,7 @@ joined_plain xs rest n m e before behind k lt =
     sym (ap is_plain (in_rest xs rest n (k - n) e ∙ ap (λ j. get_or xs j 0) back)) ∙ behind (k - n) (omega arith))
     (cases_lt k n)
 
--- one part behind another
+-- two adjacent parts
 pub joined : (xs rest : List ℕ) (n m lines others : ℕ) → rest ≡ drop n xs → ArePlain xs n lines → ArePlain rest m others → ArePlain xs (n + m) (lines + others)
 joined xs rest n m lines others e first second = record {
   within = omega (arith, first.within, second.within, ap length e, length-drop n xs);
@@ -34,7 +34,7 @@ joined xs rest n m lines others e first second = record {
   counted = (λ i. first.counted i + second.counted i) ∙ ap (λ l. newlines false (take n xs) + newlines false (take m l)) e ∙ sym (plain_apart xs n m first.within first.plain);
 }
 
--- a part of the front
+-- a part of the start
 pub of_front : (xs front : List ℕ) (near n lines : ℕ) → front ≡ take near xs → near ≤ length xs → n ≤ near → ArePlain front n lines → ArePlain xs n lines
 of_front xs front near n lines e le inside h = record {
   within = omega arith;

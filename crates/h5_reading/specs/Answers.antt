@@ -1,8 +1,8 @@
--- Answers of a taker of tokens, by what they mean for reading.
+-- Replies of a token sink, by their effect on the tokenizer.
 use Rattle.std.specs.Prelude.{Bool, true, false}
 use Rattle.h5_token.specs.Reply.{Reply, Continues, RunsScript, TurnsPlain, TurnsRaw, Indicates, Refuses}
 
--- whether reading goes on after an answer
+-- true if tokenization goes on after a reply
 abbrev pub goes_on : Reply → Bool
 goes_on Continues = true
 goes_on (RunsScript node) = false

@@ -1,11 +1,11 @@
--- Takers of tokens to which it doesn't matter how a text is cut.
+-- Token sinks to which it doesn't matter how a text is split.
 use Rattle.std.specs.Prelude.{◌≡◌, ℕ, Bool, List, ◌∷◌, ◌++◌}
 use Rattle.h5_token.specs.TokenText.{TokenText, Characters}
 use Rattle.h5_token.specs.Reply.{Reply}
 
 module _ {M : Type 0} (reply_to : M → TokenText → Reply) (after : M → TokenText → ℕ → M) (foreign : M → Bool) (ended : M → M) where
-  -- An equivalence of meanings that is kept by equal tokens, whatever lines they are told with, and to which it
-  -- doesn't matter how a text is cut. Meanings that are equivalent give the same answers.
+  -- An equivalence of meanings. Equal tokens keep it, on any lines, and it doesn't matter how a text is split. Equivalent
+  -- meanings give equal replies.
   pub record IsBlindToCuts (alike : M → M → Type 0) : Type 0 where
     pub reflexive : (m : M) → alike m m
     pub symmetric : (m n : M) → alike m n → alike n m

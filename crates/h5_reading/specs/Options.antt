@@ -1,4 +1,4 @@
--- Options of a reader, without where their texts lie in memory.
+-- Options of a tokenizer, with texts as lists of bytes.
 use Rattle.std.specs.Prelude.{ℕ, Bool, true, false, List, Option, None, Some, string_bytes}
 use Rattle.std.specs.Option.{option_map}
 use Rattle.h5_token.specs.declared.states.State.{State}
@@ -21,6 +21,6 @@ options_text o = record {
 abbrev pub default_options : TokenizerOpts
 default_options = record { exact_errors = false; discard_bom = true; initial_state = None; last_start_tag_name = None }
 
--- the same options, with a state to begin in
+-- the options with this initial state
 abbrev pub beginning_in : State → TokenizerOpts → TokenizerOpts
 beginning_in state opts = record opts { initial_state = Some state }

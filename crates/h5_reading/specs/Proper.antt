@@ -1,8 +1,8 @@
--- The tokens that reading hands on.
+-- The tokens that a reading emits.
 use Rattle.std.specs.Prelude.{List, [], ◌∷◌}
 use Rattle.h5_token.specs.TokenText.{TokenText, DoctypeIs, TagIs, CommentIs, Characters, NullCharacter, EndOfFile, ParseErrorIs}
 
--- no parse error, no empty text, and not the end of the file, which only the end of the input hands on
+-- not a parse error, not an empty text, and not the end-of-file token, which only the end of the input emits
 abbrev pub IsProper : TokenText → Type 0
 IsProper (DoctypeIs doctype) = Unit {0}
 IsProper (TagIs tag) = Unit {0}

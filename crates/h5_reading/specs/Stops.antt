@@ -1,4 +1,4 @@
--- Answers that stop a reader.
+-- Replies that stop a tokenizer.
 use Rattle.std.specs.Prelude.{◌≡◌, ℕ, true, Option, Some, None, string_bytes}
 use Rattle.h5_token.specs.Reply.{Reply, RunsScript, Indicates}
 use Rattle.h5_reading.specs.Answers.{goes_on}
@@ -7,12 +7,12 @@ use Rattle.h5_reading.specs.declared.stop.Stop.TheVariants as stop
 use Rattle.h5_reading.specs.declared.result.TokenizerResult.{TokenizerResult}
 use Rattle.h5_reading.specs.declared.result.TokenizerResult.TheVariants as result
 
--- what stops the reader, as `feed` answers it
+-- the result of `feed` for what stops the tokenizer
 abbrev pub result_of : {H : Type 0} → Stop H → TokenizerResult H
 result_of (stop.Script handle) = result.Script handle
 result_of (stop.EncodingIndicator encoding) = result.EncodingIndicator encoding
 
--- what stops the reader, as an answer
+-- the reply for what stops the tokenizer
 abbrev pub stops_as : {H : Type 0} → (H → ℕ) → Stop H → Reply
 stops_as node (stop.Script handle) = RunsScript (node handle)
 stops_as node (stop.EncodingIndicator encoding) = Indicates (string_bytes encoding)

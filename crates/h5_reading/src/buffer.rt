@@ -1,4 +1,4 @@
-//! Text that waits to be read.
+//! The queue of text that waits to be tokenized.
 ghost use Rattle.std.specs.Prelude.{◌≡◌, ◌==◌, ◌≤◌, ◌-◌, ◌++◌, [], OnOk, OnErr, length, drop};
 ghost use Rattle.std.specs.String.{string_bytes};
 ghost use Rattle.std.specs.Str.{IsCharBoundary};
@@ -7,11 +7,11 @@ use std::alloc::{AllocError, Global};
 use std::marker::Model;
 use std::mem;
 
-/// The text that waits to be read. A contract sees its bytes.
+/// The text that waits to be tokenized. Contracts see it as its bytes.
 #[derive(Drop)]
 pub struct BufferQueue {
     text: String,
-    // What stands before it was read.
+    // The text before this offset was read.
     start: usize,
 }
 
@@ -28,7 +28,7 @@ impl Model for BufferQueue {
 }
 
 impl BufferQueue {
-    /// An empty queue. It takes no memory.
+    /// Returns an empty queue. Allocates nothing.
     pub fn new(alloc: Global) -> BufferQueue
         ensures { result ≡ [] }
     {
@@ -38,7 +38,7 @@ impl BufferQueue {
         }
     }
 
-    /// Puts a text behind what waits. Where memory is refused nothing changes.
+    /// Appends a text. If this fails, nothing changes.
     pub fn push_back(&mut self, text: String) -> Result<(), AllocError>
         ensures ok { OnOk result (self.new ≡ self.old ++ string_bytes text) }
         ensures err { OnErr result (self.new ≡ self.old) }
@@ -52,14 +52,14 @@ impl BufferQueue {
         Ok(())
     }
 
-    /// Whether nothing waits.
+    /// Returns true if the queue is empty.
     pub fn is_empty(&self) -> bool
         ensures { result ≡ (length self.now == 0) }
     {
         self.start == self.text.len()
     }
 
-    /// What waits, as text.
+    /// Returns the waiting text.
     pub fn as_str(&self) -> &str
         ensures { result.now ≡ self.now }
     {
@@ -67,8 +67,7 @@ impl BufferQueue {
         waiting
     }
 
-    /// Puts what waits in another queue, which is empty then, behind what waits here. Where memory is refused both stay as they
-    /// are.
+    /// Moves the text of another queue to the end of this one. If this fails, both queues are unchanged.
     pub fn append(&mut self, other: &mut BufferQueue) -> Result<(), AllocError>
         ensures ok { OnOk result ((self.new ≡ self.old ++ other.old) × (other.new ≡ [])) }
         ensures err { OnErr result ((self.new ≡ self.old) × (other.new ≡ other.old)) }
@@ -90,7 +89,7 @@ impl BufferQueue {
         self.start = 0;
     }
 
-    // Moves what waits to the front of its memory.
+    // Moves the waiting text to the start of its memory, if that succeeds.
     fn give_back(&mut self)
         ensures { self.new ≡ self.old }
     {
@@ -100,7 +99,8 @@ impl BufferQueue {
         }
     }
 
-    /// Keeps the last bytes alone, and gives back the memory of the others where they are the most.
+    /// Removes all but the last `left` bytes; this may free the memory of the others. `left` must be at most the number of
+    /// waiting bytes, and the bytes that stay must begin on a character boundary.
     pub fn keep(&mut self, left: usize)
         requires left { left ≤ length self.old }
         requires boundary { IsCharBoundary self.old (length self.old - left) }

@@ -1,4 +1,4 @@
-//! A decoder of bytes that come in chunks.
+//! A decoder of UTF-8 bytes that come in chunks.
 ghost use Rattle.std.specs.Prelude.{◌≡◌, ◌++◌, ◌<◌, ◌≤◌, ℕ, List, [], length, drop, string_bytes, IfOk, OnErr, MatchOption};
 ghost use Rattle.std.specs.Str.{IsUtf8, StartsWithNoChar};
 ghost use Rattle.std.specs.Str.Lossy.{utf8_error_len, utf8_lossy};
@@ -7,7 +7,7 @@ ghost use Rattle.h5_reading.specs.Decoding.{Appends, IsDecoded, IsUnfinished};
 use std::alloc::{AllocError, Global};
 use std::marker::Model;
 
-// The longest text at the front of some bytes, and what follows it.
+// Splits bytes after their longest prefix that is UTF-8.
 fn split_text(bytes: &[u8]) -> (&str, &[u8])
     ensures parts { result.0.now ++ result.1.now ≡ bytes.now }
     ensures text { IsUtf8 result.0.now }
@@ -23,7 +23,7 @@ fn split_text(bytes: &[u8]) -> (&str, &[u8])
     }
 }
 
-// How many bytes one U+FFFD stands for, where no character begins these, whatever follows them. `None` where that isn't decided.
+// Returns how many bytes one U+FFFD replaces, or `None` if the bytes that follow decide that.
 fn error_len(bytes: &[u8]) -> Option<usize>
     requires { StartsWithNoChar bytes.now }
     ensures value { result ≡ utf8_error_len bytes.now }
@@ -35,7 +35,7 @@ fn error_len(bytes: &[u8]) -> Option<usize>
     }
 }
 
-// Appends the text of some bytes as far as it is decided, and tells how many bytes that took.
+// Appends the text of the bytes as far as it is decided. Returns how many bytes that took.
 fn push_text(text: &mut String, bytes: &[u8]) -> Result<usize, AllocError>
     ensures within { IfOk result (λ taken. taken ≤ length bytes.now) }
     ensures appends { IfOk result (λ taken. Appends bytes.now (drop taken bytes.now) (string_bytes text.old) (string_bytes text.new)) }
@@ -56,8 +56,8 @@ fn push_text(text: &mut String, bytes: &[u8]) -> Result<usize, AllocError>
     }
 }
 
-// Appends the text of an unfinished character and of as many bytes behind it as it takes to decide that, and gives the bytes that
-// are left. Where there are too few, none are left, and the character is still unfinished.
+// Appends the text of an unfinished character, with as many of the bytes as it takes to decide that text, and returns the
+// remaining bytes. If there are too few, none remain, and the character is still unfinished.
 fn push_front<'a>(
     text: &mut String,
     unfinished: &mut Vec<u8>,
@@ -81,11 +81,11 @@ fn push_front<'a>(
     Ok(rest)
 }
 
-/// A decoder of bytes in UTF-8 that come in chunks, as tendril's `Utf8LossyDecoder`: U+FFFD stands for each error, which is a
-/// longest run of bytes that begin a character and don't go on so, or else one byte (Encoding Standard, "UTF-8 decode without
-/// BOM", and Unicode, "U+FFFD Substitution of Maximal Subparts"). A byte order mark is a character like others, and stays.
+/// A decoder of UTF-8 bytes that come in chunks, like tendril's `Utf8LossyDecoder`. U+FFFD replaces each error: a longest run
+/// of bytes that begin a character but don't finish it, or else one byte (Encoding Standard, "UTF-8 decode without BOM";
+/// Unicode, "U+FFFD Substitution of Maximal Subparts"). A byte order mark is decoded like any other character.
 ///
-/// It keeps the bytes of a character that isn't finished, which are three at the most. Contracts see it as these bytes.
+/// It stores the bytes of an unfinished character, which are at most three. Contracts see it as these bytes.
 #[derive(Drop)]
 pub struct Utf8LossyDecoder {
     unfinished: Vec<u8>,
@@ -104,7 +104,7 @@ impl Model for Utf8LossyDecoder {
 }
 
 impl Utf8LossyDecoder {
-    /// A decoder that took nothing yet. It takes no memory.
+    /// Returns a new decoder. Allocates nothing.
     pub fn new(alloc: Global) -> Utf8LossyDecoder
         ensures { result ≡ [] }
     {
@@ -114,7 +114,7 @@ impl Utf8LossyDecoder {
         }
     }
 
-    /// The text of the next bytes, as far as it is decided. Where it answers `AllocError`, nothing has changed.
+    /// Decodes the next bytes, as far as their text is decided. If this fails, nothing changes.
     pub fn decode(&mut self, bytes: &[u8]) -> Result<String, AllocError>
         ensures decoded { IfOk result (λ text. IsDecoded (self.old ++ bytes.now) (string_bytes text) self.new) }
         ensures same { OnErr result (self.new ≡ self.old) }
@@ -130,7 +130,7 @@ impl Utf8LossyDecoder {
         Ok(text)
     }
 
-    /// The text of what is left at the end: U+FFFD where a character isn't finished, and else none.
+    /// Returns the text of what is left at the end: U+FFFD for an unfinished character, else the empty text.
     pub fn finish(self) -> &'static str
         ensures { result.now ≡ utf8_lossy self }
     {

@@ -11,8 +11,7 @@ enum Origin {
     Read(LocalName),
 }
 
-/// The name of the last start tag, or the empty text where there is none: a text that was given, or the name of a tag that was
-/// read.
+/// The name of the last start tag, or the empty text if there is none. It comes from the options or from a tag that was read.
 #[derive(Drop)]
 pub struct LastName {
     origin: Origin,
@@ -28,7 +27,7 @@ impl Model for LastName {
 }
 
 impl LastName {
-    /// The name that was given, which is moved. It takes no memory.
+    /// Makes a name of a given text. Allocates nothing.
     pub fn given(text: String) -> LastName
         ensures { result ≡ string_bytes text }
     {
@@ -37,7 +36,7 @@ impl LastName {
         }
     }
 
-    /// The name of a tag that was read.
+    /// Makes the name of a tag that was read.
     pub fn read(name: LocalName) -> LastName
         ensures { result ≡ name }
     {
@@ -46,7 +45,7 @@ impl LastName {
         }
     }
 
-    /// Its text.
+    /// Returns the text of the name.
     pub fn as_str(&self) -> &str
         ensures { result.now ≡ self.now }
     {

@@ -1,18 +1,15 @@
-//! What readers of HTML have in common, whatever of it they read.
+//! What the tokenizers have in common.
 //!
-//! `buffer` has text that waits, `parts` how much of a text is copied at a time, `options` and `result` what a reader is told
-//! and answers, and `stage` whether it still reads. `last_name` has the name of the last start tag. `stop` has the answers of a taker of tokens that stop a reader, and
-//! `taking` what is asked of one, up to the end. `lines` counts lines, and `plain` the bytes and the newlines of text that
-//! stands for itself. `likeness` is for the law that no cut of the input matters to a taker that doesn't see how texts are cut.
+//! `buffer` has the queue of waiting text, `options` and `result` the options and results of a tokenizer, and `stage` whether
+//! it has ended or failed. `stop` has the replies of a token sink that stop a tokenizer, and `taking` the calls of a token
+//! sink. `last_name` has the name of the last start tag. `lines` counts newlines, `plain` the bytes that are text in every
+//! state, and `parts` how much of a text is copied at a time. `likeness` is for the law that it doesn't matter how the input is
+//! split. `decoder` decodes UTF-8 bytes that come in chunks; how they are split doesn't matter.
 //!
-//! `decoder` gives the text of bytes in UTF-8 that come in chunks (Encoding Standard, "UTF-8 decode without BOM"). It keeps
-//! the bytes of a character that isn't finished, three at the most, and U+FFFD stands for each error. How the bytes are cut
-//! into chunks doesn't matter. `specs/Decoding.antt` has bytes as a text, where more may follow.
-//!
-//! It has no reader: where one is, what its steps are and what it reads stands in its own crate. `h5_tokenizer` has the plain
-//! reader, and `h5_states` the definition of all of HTML's tokenization. It stands on names and tokens, and on `h5_markup` for
-//! which bytes are plain. Begin with `specs/Taking.antt` (what a token that is handed on does), `specs/Lines.antt` (newlines)
-//! and `specs/Blindness.antt` (takers to which cuts don't matter), then `src/buffer.rt`.
+//! The tokenizers themselves are in other crates: the plain one in `h5_tokenizer`, the standard's in `h5_states` (definition),
+//! `h5_machine` and `h5_standard`. This crate depends on names and tokens, and on `h5_markup` for the bytes that are plain.
+//! Begin with `specs/Taking.antt` (what passing a token to a sink does), `specs/Lines.antt` (newlines) and
+//! `specs/Blindness.antt` (token sinks to which it doesn't matter how texts are split), then `src/buffer.rt`.
 #![tactic(auto)]
 
 mod buffer;

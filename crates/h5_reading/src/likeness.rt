@@ -1,6 +1,6 @@
-//! Meanings of a taker of tokens that are alike.
+//! Equivalence of a token sink's meanings.
 
-/// A relation of what is seen of a sink's meanings, for the law of cuts. It has no code.
+/// A relation between views of a sink's meaning, for the law that it doesn't matter how the input is split. It has no code.
 pub trait Likeness {
     ghost Seen: { Type 0 };
 

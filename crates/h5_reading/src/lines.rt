@@ -1,9 +1,8 @@
-//! Lines, counted by their ends.
+//! Newlines and lines. CR LF, CR and LF are one newline each.
 ghost use Rattle.std.specs.Prelude.{◌≡◌, ◌<◌, ◌≤◌, ℕ, false, length, slice_index};
 ghost use Rattle.h5_reading.specs.Lines.{line_behind, newlines, newlines_passed};
 
-/// How many newlines a few bytes are, where a CR came before them or didn't: CR LF is one. There are few
-/// enough of them that a byte counts them.
+/// Counts the newlines of fewer than 256 bytes, after a CR if `behind_cr`.
 pub fn few_newlines(bytes: &[u8], behind_cr: bool) -> u8
     requires { length bytes.now < 256 }
     ensures { result ≡ newlines behind_cr bytes.now }
@@ -19,7 +18,7 @@ pub fn few_newlines(bytes: &[u8], behind_cr: bool) -> u8
     count
 }
 
-// The index of the first byte that may be a newline, or the length where there is none.
+// Returns the index of the first byte that may be a newline, or the length if there is none.
 fn first_low(bytes: &[u8]) -> usize
     ensures within { result ≤ length bytes.now }
     ensures passed { (k : ℕ) → k < result → 13 < slice_index bytes.now k }
@@ -32,7 +31,7 @@ fn first_low(bytes: &[u8]) -> usize
     bytes.len()
 }
 
-// The same as `few_newlines`, for bytes that mostly have none.
+// Counts newlines like `few_newlines`, faster for bytes that have few.
 fn rare_newlines(bytes: &[u8], behind_cr: bool) -> u8
     requires { length bytes.now < 256 }
     ensures { result ≡ newlines behind_cr bytes.now }
@@ -44,7 +43,7 @@ fn rare_newlines(bytes: &[u8], behind_cr: bool) -> u8
     few_newlines(rest, false)
 }
 
-// How many newlines these bytes are.
+// Counts the newlines of bytes.
 #[inline(never)]
 fn newlines(bytes: &[u8]) -> u64
     ensures { result ≡ newlines false bytes.now }
@@ -61,7 +60,7 @@ fn newlines(bytes: &[u8]) -> u64
     count + rare_newlines(rest, after_cr) as u64
 }
 
-/// How many newlines were passed of a text of which this rest is left.
+/// Counts the newlines of the part of a text that is before its suffix `rest`. `rest` must not be longer than the text.
 #[inline(always)]
 pub fn newlines_passed(text: &str, rest: &str) -> u64
     requires { length rest.now ≤ length text.now }
@@ -74,7 +73,8 @@ pub fn newlines_passed(text: &str, rest: &str) -> u64
     newlines(&text.as_bytes()[..n])
 }
 
-/// The line behind what was passed of a text that begins in this line, and of which this rest is left.
+/// Returns the line that `rest` begins in, of a text that begins in the given line. The count stops at the maximum of `u64`.
+/// `rest` must not be longer than the text.
 pub fn line_behind(line: u64, text: &str, rest: &str) -> u64
     requires { length rest.now ≤ length text.now }
     ensures { result ≡ line_behind line text.now rest.now }

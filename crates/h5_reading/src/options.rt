@@ -1,21 +1,22 @@
-//! Options of the reader.
+//! Options of the tokenizers.
 ghost use Rattle.std.specs.Prelude.{◌≡◌, IfOk};
 ghost use Rattle.h5_reading.specs.Options.{beginning_in, options_text};
 
 use h5_token::states::State;
 use std::alloc::AllocError;
 
-/// Options of the reader.
+/// Options of a tokenizer.
 #[derive(Debug, Drop)]
 pub struct TokenizerOpts {
-    /// It is kept for the name's sake: the reader reports no errors.
+    /// Has no effect. It exists for compatibility with html5ever.
     pub exact_errors: bool,
-    /// Whether a byte order mark at the start is passed.
+    /// If true, a byte order mark at the start is skipped.
     pub discard_bom: bool,
-    /// The state to begin in, in place of Data.
+    /// The initial state, instead of the data state.
     pub initial_state: Option<State>,
-    /// What is taken for the name of a start tag that came before. The empty text is no name. The plain reader compares it in any
-    /// case. The standard reader compares it as it stands with names in lower case, so a name with capitals ends no text there.
+    /// The name of the last start tag before the input. An empty text stands for no name. The plain tokenizer compares it in
+    /// any case. The standard tokenizer compares it unchanged with names in lower case, so a name with capitals ends no text
+    /// there.
     pub last_start_tag_name: Option<String>,
 }
 
@@ -36,7 +37,7 @@ impl Default for TokenizerOpts {
 }
 
 impl TokenizerOpts {
-    /// Equal options, or an `AllocError` where memory is refused.
+    /// Returns a copy, with equal options.
     pub fn clone(&self) -> Result<TokenizerOpts, AllocError>
         ensures { IfOk result (λ opts. options_text opts ≡ options_text self.now) }
     {
@@ -52,7 +53,7 @@ impl TokenizerOpts {
         })
     }
 
-    /// The same options, with this state to begin in.
+    /// Returns the options with this initial state.
     pub fn beginning_in(self, state: State) -> TokenizerOpts
         ensures { result ≡ beginning_in state self }
     {

@@ -1,4 +1,4 @@
-//! Text that stands for itself, with its lines.
+//! Bytes that are text in every state, with their newlines.
 ghost use Rattle.std.specs.Prelude.{◌≡◌, ℕ, false, true, ◌<◌, ◌≤◌, length, slice_index, take};
 ghost use Rattle.h5_markup.specs.Plain.{is_plain};
 ghost use Rattle.h5_reading.specs.Lines.{newlines};
@@ -6,7 +6,7 @@ ghost use Rattle.h5_reading.specs.Lines.{newlines};
 use super::lines::few_newlines;
 use h5_markup::{are_plain, is_plain};
 
-// How many bytes at the front are text in every state, as far as 64 at once are, and how many newlines are among them.
+// Returns the length of a prefix that is text in every state, in blocks of 64 bytes, and its newlines.
 fn count_blocks(bytes: &[u8]) -> (usize, u64)
     ensures within { result.0 ≤ length bytes.now }
     ensures plain { (k : ℕ) → k < result.0 → is_plain (slice_index bytes.now k) ≡ true }
@@ -26,8 +26,8 @@ fn count_blocks(bytes: &[u8]) -> (usize, u64)
     (n, lines)
 }
 
-// The index of the first byte that isn't text in every state, or the length where all are, and how many newlines come
-// before it.
+// Returns the index of the first byte that isn't text in every state, or the length if there is none, and the number of
+// newlines before it.
 #[inline(always)]
 fn count_bytes(bytes: &[u8]) -> (usize, u64)
     ensures within { result.0 ≤ length bytes.now }
@@ -37,7 +37,7 @@ fn count_bytes(bytes: &[u8]) -> (usize, u64)
 {
     let mut lines: u64 = 0;
     for (i, b) in bytes.iter().enumerate() {
-        // Most bytes are letters in lower case, and these are asked nothing else.
+        // Most bytes are letters in lower case, which need no other test.
         if *b <= b']' {
             if !is_plain(*b) {
                 return (i, lines);
@@ -50,7 +50,7 @@ fn count_bytes(bytes: &[u8]) -> (usize, u64)
     (bytes.len(), lines)
 }
 
-// The same, where many bytes are likely to be text.
+// Does what `count_bytes` does, faster for bytes that are mostly text.
 #[inline(never)]
 fn count_far(bytes: &[u8]) -> (usize, u64)
     ensures within { result.0 ≤ length bytes.now }
@@ -64,10 +64,10 @@ fn count_far(bytes: &[u8]) -> (usize, u64)
     (n + m, lines + others)
 }
 
-// How many bytes are looked at one by one, before those behind them are by blocks. Most texts are shorter.
+// How many bytes are tested one by one, before the others are tested in blocks. Most texts are shorter.
 const NEAR: usize = 32;
 
-/// How many bytes at the front are text in every state, and how many newlines are among them.
+/// Returns the length of the longest prefix that is text in every state, and its newlines.
 pub fn count_plain(text: &str) -> (usize, u64)
     ensures within { result.0 ≤ length text.now }
     ensures plain { (k : ℕ) → k < result.0 → is_plain (slice_index text.now k) ≡ true }

@@ -1,12 +1,12 @@
-//! How far the input was read.
+//! How much of the input was read.
 
-/// How far the input was read.
+/// How much of the input was read.
 #[derive(Debug, Drop)]
 pub enum TokenizerResult<Handle> {
-    /// To its end, but for what isn't decided.
+    /// All of it, except what isn't decided yet.
     Done,
-    /// To a script that is to be run first.
+    /// All up to a script that must be executed first.
     Script(Handle),
-    /// To a place where the document names this encoding.
+    /// All up to a place where the document names this encoding.
     EncodingIndicator(String),
 }

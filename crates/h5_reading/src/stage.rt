@@ -1,11 +1,11 @@
-//! Whether the reader still reads.
+//! The stage of a tokenizer: it reads, or it has ended or failed.
 
-/// Whether the reader still reads.
+/// The stage of a tokenizer.
 #[derive(Clone, Copy, Debug, PartialEq, Eq)]
 pub enum Stage {
     Reading,
-    /// The end was handed on.
+    /// The end was passed to the sink.
     Ended,
-    /// A call met a fault.
+    /// A call failed.
     Failed,
 }

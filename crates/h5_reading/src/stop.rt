@@ -1,4 +1,4 @@
-//! Answers of a taker of tokens that stop a reader.
+//! Replies of a token sink that stop a tokenizer.
 ghost use Rattle.std.specs.Prelude.{◌≡◌, ℕ};
 ghost use Rattle.h5_token.specs.Reply.{reply};
 ghost use Rattle.h5_reading.specs.Stops.{AnswersAs, result_of};
@@ -13,7 +13,7 @@ pub enum Stop<H> {
     EncodingIndicator(String),
 }
 
-/// Whether an answer stops the reader.
+/// Returns what stops the tokenizer, or `None` if the reply doesn't stop it.
 pub fn stop_of<H: Drop>(answer: TokenSinkResult<H>) -> Option<Stop<H>>
     ensures { (node : H → ℕ) → AnswersAs node result (reply node answer) }
 {
@@ -24,7 +24,7 @@ pub fn stop_of<H: Drop>(answer: TokenSinkResult<H>) -> Option<Stop<H>>
     }
 }
 
-/// What `feed` answers then.
+/// Returns the result of `feed` for what stops the tokenizer.
 pub fn result_of<H: Drop>(stop: Stop<H>) -> TokenizerResult<H>
     ensures { result ≡ result_of stop }
 {

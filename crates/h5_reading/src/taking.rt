@@ -1,10 +1,10 @@
-//! What a reader asks of a taker of tokens.
+//! Calls of a token sink.
 ghost use Rattle.h5_token.specs.TokenText.{token_text};
 ghost use Rattle.h5_reading.specs.Taking.{Asks, Takes, Finishes};
 
 use h5_token::{BuildFault, Token, TokenSink, TokenSinkResult};
 
-/// Hands a token on, with its line.
+/// Passes a token to the sink, with its line.
 #[inline(always)]
 pub fn ask<S: TokenSink>(
     sink: &mut S,
@@ -16,7 +16,7 @@ pub fn ask<S: TokenSink>(
     sink.process_token(token, line)
 }
 
-/// Hands on a token of the end, whose answer leads nowhere else.
+/// Passes a token of the end to the sink, and drops the reply unless it is an error.
 pub fn offer<S: TokenSink>(sink: &mut S, token: Token, line: u64) -> Result<(), BuildFault>
     ensures { Takes S.reply_to S.after S.ended (S.meaning sink.old) (token_text token) line (S.meaning sink.new) result }
 {
@@ -24,7 +24,7 @@ pub fn offer<S: TokenSink>(sink: &mut S, token: Token, line: u64) -> Result<(), 
     Ok(())
 }
 
-/// Hands on the end of the file, with the last line, and tells the sink of the end.
+/// Passes the end-of-file token to the sink, with the last line, and then calls `end`.
 pub fn finish<S: TokenSink>(sink: &mut S, line: u64) -> Result<(), BuildFault>
     ensures { Finishes S.reply_to S.after S.ended (S.meaning sink.old) line (S.meaning sink.new) result }
 {

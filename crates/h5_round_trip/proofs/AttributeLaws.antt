@@ -105,7 +105,7 @@ abbrev Apart : List AttributeText → List AttributeText → Type 0
 Apart kept [] = Unit {0}
 Apart kept (a ∷ others) = (is_named_in a.name.local kept ≡ false) × Apart kept others
 
--- names without prefix and namespace are told apart by their local parts
+-- names without prefix and namespace differ if their local parts do
 other_name : (a b : AttributeText) → a.name.prefix ≡ Nothing → a.name.ns ≡ [] → b.name.prefix ≡ Nothing → b.name.ns ≡ [] → is_same_name b.name a.name ≡ false → is_same_text a.name.local b.name.local ≡ false
 other_name a b p q r s h = same_sym a.name.local b.name.local ∙ sym (rw (p, q, r, s) refl) ∙ h
 

@@ -1,4 +1,5 @@
--- A newline at the front of a `pre`, which is written twice: what is looked at of nodes stays, and no two lists are written alike.
+-- A newline at the start of a `pre`, which is written twice: what is compared of nodes stays, and no two lists have the
+-- same text.
 use Rattle.std.proofs.Common.{◌≡◌, ◌==◌, ◌∙◌, ℕ, Bool, true, false, cond, List, [], ◌∷◌, codes, IsAscii, zero, suc, refl, sym, ap, subst, arith}
 use Rattle.std.proofs.lemmas.Str.{IsUtf8-append, IsUtf8-from_ascii}
 use Rattle.h5_names.specs.AttributeText.{is_same_text}
@@ -78,7 +79,7 @@ read_written End c = c
 read_written (TextThen text rest) c = (c.0, read_written rest c.1)
 read_written (ElementThen name attrs inner rest) c = (c.0, (read_held name (as_written inner) (read_written inner c.1.0), read_written rest c.1.1))
 
--- what is written tells what was to be written: without a newline at the front of each `pre`, it is that
+-- what is written determines the nodes: without the first newline of each `pre`, it is these
 
 abbrev without_newline : Nodes → Nodes
 without_newline (TextThen (b ∷ t) rest) = TextThen (cond (b == 10) t (b ∷ t)) rest

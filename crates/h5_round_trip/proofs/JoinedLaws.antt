@@ -1,4 +1,4 @@
--- No two texts stand beside each other in the tokens of plain documents and fragments.
+-- No two texts are adjacent in the tokens of plain documents and fragments.
 use Rattle.std.proofs.Common.{◌≡◌, ℕ, Bool, true, false, List, [], ◌∷◌, cond, refl, sym, ap, ◌∙◌, subst, codes}
 use Rattle.h5_names.specs.AttributeText.{AttributeText}
 use Rattle.h5_token.specs.Joins.{glue, join}
@@ -7,14 +7,15 @@ use Rattle.h5_plain.specs.Plain.{ElementThen, End, Nodes, PlainDocument, TextThe
 use Rattle.h5_round_trip.proofs.DoubledLaws.{shape_written}
 use Rattle.h5_round_trip.proofs.ShapeLaws.{Element, None, Shape, Text, Title, Void, below_root, below_shape, is_html, is_title}
 
--- a list that begins with a tag, or with the end of the file
+-- a list that is empty, or begins with a tag, or with the end of the file
 abbrev BeginsWithTag : List TokenText → Type 0
+BeginsWithTag [] = Unit {0}
 BeginsWithTag (TagIs tag ∷ ts) = Unit {0}
 BeginsWithTag (EndOfFile ∷ ts) = Unit {0}
 BeginsWithTag _ = ⊥
 
 glue_tag : (x : ℕ) (t : List ℕ) (ts : List TokenText) → BeginsWithTag ts → glue (x ∷ t) ts ≡ Characters (x ∷ t) ∷ ts
-glue_tag x t [] h = absurd h
+glue_tag x t [] h = refl
 glue_tag x t (TagIs tag ∷ ts) h = refl
 glue_tag x t (EndOfFile ∷ ts) h = refl
 glue_tag x t (_ ∷ ts) h = absurd h
@@ -47,6 +48,10 @@ nodes_joined _ more (Title {attrs} {first} {more = words} {rest = others} p s) h
 
 pub fragment_joined : {b : Bool} (ns : Nodes) → Shape b ns → join (fragment_tokens ns) ≡ fragment_tokens ns
 fragment_joined ns shape = nodes_joined (as_written ns) (EndOfFile ∷ []) (shape_written shape) tt refl
+
+-- also if nothing follows them
+pub inside_joined : {b : Bool} (ns : Nodes) → Shape b ns → join (tokens_before (as_written ns) []) ≡ tokens_before (as_written ns) []
+inside_joined ns shape = nodes_joined (as_written ns) [] (shape_written shape) tt refl
 
 pub document_joined : (d : PlainDocument) → join (document_tokens d) ≡ document_tokens d
 document_joined d =

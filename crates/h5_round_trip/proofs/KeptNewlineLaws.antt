@@ -1,4 +1,4 @@
--- Where no `pre` begins with a newline, nodes are written as they stand.
+-- If no `pre` begins with a newline, nodes are written as they are.
 use Rattle.std.proofs.Common.{◌≡◌, ◌∙◌, ℕ, Bool, true, false, List, [], ◌∷◌, ap, codes, refl}
 use Rattle.std.specs.Prelude.{◌&&◌, ◌==◌, if◌then◌else◌, not}
 use Rattle.std.proofs.lemmas.Bool.{and_parts}
@@ -6,7 +6,7 @@ use Rattle.h5_names.specs.AttributeText.{is_same_text}
 use Rattle.h5_plain.specs.Plain.{ElementThen, End, Nodes, TextThen, as_written, held_as_written, with_doubled}
 use Rattle.h5_round_trip.specs.Written.{begins_with_newline, keeps_newlines}
 
--- a text at the front that begins with no newline
+-- a first text that doesn't begin with a newline
 text_kept : (b : ℕ) (t : List ℕ) (rest : Nodes) (is_newline : Bool) → not is_newline ≡ true → TextThen (if is_newline then 10 ∷ b ∷ t else b ∷ t) rest ≡ TextThen (b ∷ t) rest
 text_kept b t rest true h = cc
 text_kept b t rest false h = refl

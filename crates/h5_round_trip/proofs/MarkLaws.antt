@@ -50,7 +50,7 @@ text_decides x text more r = by (chars (x ∷ text)) (encodes-chars (x ∷ text)
     by [] e = absurd (cc)
     by (c ∷ cs) e = ap (λ l. is_open (mark l)) (append_assoc (escape_char false c) (flat_map (escape_char false) cs) more) ∙ escape_decides c (flat_map (escape_char false) cs ++ more)
 
--- where something is written, it is known whether a mark stands at its front
+-- if something is written, it is known if it begins with a mark
 pub text_begins : {b : Bool} (ns : Nodes) (more : List ℕ) → Shape b ns → CanBeRead ns → (ns ≡ End) ⊎ (is_open (mark (written_before ns more)) ≡ false)
 text_begins End more None c = inl refl
 text_begins _ more (Text {first} {more = words} {rest} s) c = inr (text_decides first words (written_before rest more) c.0)

@@ -62,7 +62,7 @@ plain_goes NullCharacter = refl
 plain_goes EndOfFile = refl
 plain_goes (ParseErrorIs d) = refl
 
--- the place behind a start tag, and behind an end tag
+-- the place after a start tag, and after an end tag
 behind_start : (q : ReaderPlace) (name : List ℕ) (attrs : List AttributeText) (reply : Reply) (text rest : List ℕ) → is_same_text name (codes "title") ≡ false → In false q → reply ≡ plain_reply (start_tag name attrs) → In false (behind (next_place q (start_tag name attrs) reply) text rest)
 behind_start q name attrs reply text rest other i e = (i.0, ap chosen_mode e ∙ ap (λ b. chosen_mode (cond b (TurnsRaw Rcdata) Continues)) other)
 
@@ -210,7 +210,7 @@ module _ {M : Type 0} (reply_to : M → TokenText → Reply) (after : M → Toke
   nothing_settled place f i = ap (λ mode. settle mode place.last f []) i
 
   module _ {p : ReaderPlace} {m : M} {xs : List ℕ} {all : List TokenText} where
-    -- the end, in data, where nothing is left
+    -- the end, in data, if nothing is left
     closes : {place : ReaderPlace} {meaning : M} {handed : List TokenText} → Readings reply_to after foreign p m xs handed place meaning [] → place.mode ≡ Data → handed ++ EndOfFile ∷ [] ≡ all → (n : M) × ReadsToEnd reply_to after foreign ended p m xs all n
     closes {place} {meaning} {handed} readings i whole =
         let none = nothing_settled place (foreign meaning) i in (
@@ -230,7 +230,7 @@ module _ {M : Type 0} (reply_to : M → TokenText → Reply) (after : M → Toke
   pub ends : (p : ReaderPlace) (m : M) (xs : List ℕ) (all : List TokenText) → Reached p m xs all false (EndOfFile ∷ []) [] → (n : M) × ReadsToEnd reply_to after foreign ended p m xs all n
   ends p m xs all r = closes (more_reading no_reading r.read (unrefused r.reply r.goes)) r.is_in.1 r.whole
 
-  -- at the front, where no byte order mark stands
+  -- at the start, if no byte order mark is there
   begun : (m : M) (xs : List ℕ) (all : List TokenText) → mark xs ≡ No → Answers reply_to after m all → Reached (first_place default_options) m xs all false all xs
   begun m xs all none answers = record {
     place = started (first_place default_options);

@@ -1,4 +1,4 @@
--- What is looked at of plain documents where they are read.
+-- The parts of plain documents that reading them depends on.
 use Rattle.std.proofs.Common.{◌≡◌, ℕ, Bool, true, false, ◌||◌, List, [], ◌∷◌, refl, subst, codes}
 use Rattle.std.proofs.lemmas.Bool.{false≢true}
 use Rattle.std.specs.Cmp.Lexicographic.{same_text}
@@ -8,7 +8,7 @@ use Rattle.h5_plain.specs.Plain.{ArePlain, ElementThen, End, Flow, IsHead, IsPla
 use Rattle.h5_plain.specs.Plain.{Barrier, Blank, Break, Caption, Cell, Column, ColumnBlank, ColumnGroup, Describing, Division, Formatted, Heading, Item, Link, Paragraph, Phrase, Preformatted, Ruled, Section, Table, TableRow, Words, Titled, Untitled}
 use Rattle.h5_round_trip.proofs.TagLaws.{IsTagName}
 
--- an element that is written with an end tag, and is no title
+-- an element that is written with an end tag, and isn't a title
 pub record IsOrdinary (name : List ℕ) : Type 0 where
   pub tag : IsTagName name
   pub ends : has_end_tag name ≡ true
@@ -23,7 +23,7 @@ pub record IsVoid (name : List ℕ) : Type 0 where
   pub raw : is_one_of raw_names name ≡ false
   pub noscript : is_same_text name (codes "noscript") ≡ false
 
--- plain nodes, behind a text or not: which stands in which isn't looked at, but for a title's text
+-- plain nodes, after a text or not; nesting is ignored, except that a title holds a text
 pub data Shape : (after_text : Bool) → Nodes → Type 0 where
   None : {b : Bool} → Shape b End
   Text : {first : ℕ} {more : List ℕ} {rest : Nodes} → Shape true rest → Shape false (TextThen (first ∷ more) rest)
@@ -51,7 +51,7 @@ open_block_all = (record { tag = record { first = 97; more = codes "ddress"; is 
 
 barrier_all : AreOrdinary barrier_names
 unfolding barrier_names void_names raw_names
-barrier_all = (record { tag = record { first = 97; more = codes "rticle"; is = refl; letter = refl; bytes = (refl, (refl, (refl, (refl, (refl, (refl, (refl, tt))))))) }; ends = refl; other = refl; raw = refl; noscript = refl }, (record { tag = record { first = 97; more = codes "side"; is = refl; letter = refl; bytes = (refl, (refl, (refl, (refl, (refl, tt))))) }; ends = refl; other = refl; raw = refl; noscript = refl }, (record { tag = record { first = 98; more = codes "lockquote"; is = refl; letter = refl; bytes = (refl, (refl, (refl, (refl, (refl, (refl, (refl, (refl, (refl, (refl, tt)))))))))) }; ends = refl; other = refl; raw = refl; noscript = refl }, (record { tag = record { first = 99; more = codes "enter"; is = refl; letter = refl; bytes = (refl, (refl, (refl, (refl, (refl, (refl, tt)))))) }; ends = refl; other = refl; raw = refl; noscript = refl }, (record { tag = record { first = 100; more = codes "etails"; is = refl; letter = refl; bytes = (refl, (refl, (refl, (refl, (refl, (refl, (refl, tt))))))) }; ends = refl; other = refl; raw = refl; noscript = refl }, (record { tag = record { first = 100; more = codes "ir"; is = refl; letter = refl; bytes = (refl, (refl, (refl, tt))) }; ends = refl; other = refl; raw = refl; noscript = refl }, (record { tag = record { first = 100; more = codes "l"; is = refl; letter = refl; bytes = (refl, (refl, tt)) }; ends = refl; other = refl; raw = refl; noscript = refl }, (record { tag = record { first = 102; more = codes "ieldset"; is = refl; letter = refl; bytes = (refl, (refl, (refl, (refl, (refl, (refl, (refl, (refl, tt)))))))) }; ends = refl; other = refl; raw = refl; noscript = refl }, (record { tag = record { first = 102; more = codes "igcaption"; is = refl; letter = refl; bytes = (refl, (refl, (refl, (refl, (refl, (refl, (refl, (refl, (refl, (refl, tt)))))))))) }; ends = refl; other = refl; raw = refl; noscript = refl }, (record { tag = record { first = 102; more = codes "igure"; is = refl; letter = refl; bytes = (refl, (refl, (refl, (refl, (refl, (refl, tt)))))) }; ends = refl; other = refl; raw = refl; noscript = refl }, (record { tag = record { first = 102; more = codes "ooter"; is = refl; letter = refl; bytes = (refl, (refl, (refl, (refl, (refl, (refl, tt)))))) }; ends = refl; other = refl; raw = refl; noscript = refl }, (record { tag = record { first = 104; more = codes "eader"; is = refl; letter = refl; bytes = (refl, (refl, (refl, (refl, (refl, (refl, tt)))))) }; ends = refl; other = refl; raw = refl; noscript = refl }, (record { tag = record { first = 104; more = codes "group"; is = refl; letter = refl; bytes = (refl, (refl, (refl, (refl, (refl, (refl, tt)))))) }; ends = refl; other = refl; raw = refl; noscript = refl }, (record { tag = record { first = 109; more = codes "ain"; is = refl; letter = refl; bytes = (refl, (refl, (refl, (refl, tt)))) }; ends = refl; other = refl; raw = refl; noscript = refl }, (record { tag = record { first = 109; more = codes "enu"; is = refl; letter = refl; bytes = (refl, (refl, (refl, (refl, tt)))) }; ends = refl; other = refl; raw = refl; noscript = refl }, (record { tag = record { first = 110; more = codes "av"; is = refl; letter = refl; bytes = (refl, (refl, (refl, tt))) }; ends = refl; other = refl; raw = refl; noscript = refl }, (record { tag = record { first = 111; more = codes "l"; is = refl; letter = refl; bytes = (refl, (refl, tt)) }; ends = refl; other = refl; raw = refl; noscript = refl }, (record { tag = record { first = 115; more = codes "earch"; is = refl; letter = refl; bytes = (refl, (refl, (refl, (refl, (refl, (refl, tt)))))) }; ends = refl; other = refl; raw = refl; noscript = refl }, (record { tag = record { first = 115; more = codes "ection"; is = refl; letter = refl; bytes = (refl, (refl, (refl, (refl, (refl, (refl, (refl, tt))))))) }; ends = refl; other = refl; raw = refl; noscript = refl }, (record { tag = record { first = 115; more = codes "ummary"; is = refl; letter = refl; bytes = (refl, (refl, (refl, (refl, (refl, (refl, (refl, tt))))))) }; ends = refl; other = refl; raw = refl; noscript = refl }, (record { tag = record { first = 117; more = codes "l"; is = refl; letter = refl; bytes = (refl, (refl, tt)) }; ends = refl; other = refl; raw = refl; noscript = refl }, tt)))))))))))))))))))))
+barrier_all = (record { tag = record { first = 97; more = codes "rticle"; is = refl; letter = refl; bytes = (refl, (refl, (refl, (refl, (refl, (refl, (refl, tt))))))) }; ends = refl; other = refl; raw = refl; noscript = refl }, (record { tag = record { first = 97; more = codes "side"; is = refl; letter = refl; bytes = (refl, (refl, (refl, (refl, (refl, tt))))) }; ends = refl; other = refl; raw = refl; noscript = refl }, (record { tag = record { first = 98; more = codes "lockquote"; is = refl; letter = refl; bytes = (refl, (refl, (refl, (refl, (refl, (refl, (refl, (refl, (refl, (refl, tt)))))))))) }; ends = refl; other = refl; raw = refl; noscript = refl }, (record { tag = record { first = 99; more = codes "enter"; is = refl; letter = refl; bytes = (refl, (refl, (refl, (refl, (refl, (refl, tt)))))) }; ends = refl; other = refl; raw = refl; noscript = refl }, (record { tag = record { first = 100; more = codes "etails"; is = refl; letter = refl; bytes = (refl, (refl, (refl, (refl, (refl, (refl, (refl, tt))))))) }; ends = refl; other = refl; raw = refl; noscript = refl }, (record { tag = record { first = 100; more = codes "ir"; is = refl; letter = refl; bytes = (refl, (refl, (refl, tt))) }; ends = refl; other = refl; raw = refl; noscript = refl }, (record { tag = record { first = 100; more = codes "l"; is = refl; letter = refl; bytes = (refl, (refl, tt)) }; ends = refl; other = refl; raw = refl; noscript = refl }, (record { tag = record { first = 102; more = codes "ieldset"; is = refl; letter = refl; bytes = (refl, (refl, (refl, (refl, (refl, (refl, (refl, (refl, tt)))))))) }; ends = refl; other = refl; raw = refl; noscript = refl }, (record { tag = record { first = 102; more = codes "igcaption"; is = refl; letter = refl; bytes = (refl, (refl, (refl, (refl, (refl, (refl, (refl, (refl, (refl, (refl, tt)))))))))) }; ends = refl; other = refl; raw = refl; noscript = refl }, (record { tag = record { first = 102; more = codes "igure"; is = refl; letter = refl; bytes = (refl, (refl, (refl, (refl, (refl, (refl, tt)))))) }; ends = refl; other = refl; raw = refl; noscript = refl }, (record { tag = record { first = 102; more = codes "ooter"; is = refl; letter = refl; bytes = (refl, (refl, (refl, (refl, (refl, (refl, tt)))))) }; ends = refl; other = refl; raw = refl; noscript = refl }, (record { tag = record { first = 104; more = codes "eader"; is = refl; letter = refl; bytes = (refl, (refl, (refl, (refl, (refl, (refl, tt)))))) }; ends = refl; other = refl; raw = refl; noscript = refl }, (record { tag = record { first = 104; more = codes "group"; is = refl; letter = refl; bytes = (refl, (refl, (refl, (refl, (refl, (refl, tt)))))) }; ends = refl; other = refl; raw = refl; noscript = refl }, (record { tag = record { first = 109; more = codes "ain"; is = refl; letter = refl; bytes = (refl, (refl, (refl, (refl, tt)))) }; ends = refl; other = refl; raw = refl; noscript = refl }, (record { tag = record { first = 109; more = codes "enu"; is = refl; letter = refl; bytes = (refl, (refl, (refl, (refl, tt)))) }; ends = refl; other = refl; raw = refl; noscript = refl }, (record { tag = record { first = 110; more = codes "av"; is = refl; letter = refl; bytes = (refl, (refl, (refl, tt))) }; ends = refl; other = refl; raw = refl; noscript = refl }, (record { tag = record { first = 111; more = codes "l"; is = refl; letter = refl; bytes = (refl, (refl, tt)) }; ends = refl; other = refl; raw = refl; noscript = refl }, (record { tag = record { first = 115; more = codes "ection"; is = refl; letter = refl; bytes = (refl, (refl, (refl, (refl, (refl, (refl, (refl, tt))))))) }; ends = refl; other = refl; raw = refl; noscript = refl }, (record { tag = record { first = 115; more = codes "ummary"; is = refl; letter = refl; bytes = (refl, (refl, (refl, (refl, (refl, (refl, (refl, tt))))))) }; ends = refl; other = refl; raw = refl; noscript = refl }, (record { tag = record { first = 117; more = codes "l"; is = refl; letter = refl; bytes = (refl, (refl, tt)) }; ends = refl; other = refl; raw = refl; noscript = refl }, tt))))))))))))))))))))
 
 term_all : AreOrdinary term_names
 unfolding term_names void_names raw_names

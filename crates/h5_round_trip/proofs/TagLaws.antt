@@ -38,7 +38,7 @@ pub walk_none : (place : Inside) (stop : ℕ → Bool) (xs : List ℕ) → Stays
 walk_none place stop [] s h = refl
 walk_none place stop (x ∷ xs) s h = rw (s.goes_on x h.0, s.same x h.0) (walk_none place stop xs s h.1)
 
--- behind the name, or behind an attribute
+-- after the name, or after an attribute
 abbrev inside : Bool → Inside
 inside false = TagName
 inside true = BeforeAttributeName
@@ -146,7 +146,7 @@ start_made name attrs n p r =
 end_made : (name : List ℕ) → AreNameBytes name → token_of EndTag name ≡ end_tag name
 end_made name n = ap (λ l. end_tag (name_of l)) (before_all (is_in NameEnd) name (in_tag name n)) ∙ ap end_tag (name_read name n)
 
--- ---- at the front
+-- ---- at the start
 
 -- a start tag is read back
 pub start_read : (last : List ℕ) (foreign : Bool) (name : List ℕ) (attrs : List AttributeText) (rest : List ℕ) → IsTagName name → ArePlain attrs → AreReadable attrs → front Data last foreign (60 ∷ (tag_written name attrs ++ 62 ∷ rest)) ≡ Found (Whole (start_tag name attrs)) rest
@@ -170,7 +170,7 @@ end_read last foreign name rest t =
     front_concluded Data last foreign (60 ∷ 47 ∷ inner) inner name rest EndTag begins (name_ends name rest t.bytes)
     ∙ ap (λ x. Found (Whole x) rest) (end_made name t.bytes)
 
--- the end tag of a title, behind its text
+-- the end tag of a title, after its text
 pub title_end_read : (foreign : Bool) (rest : List ℕ) → front (RawData Rcdata) (codes "title") foreign (codes "</title>" ++ rest) ≡ Found (Whole (end_tag (codes "title"))) rest
 unfolding text_of
 title_end_read foreign rest = refl

@@ -1,4 +1,4 @@
--- The text of a plain document tells which document it is.
+-- The text of a plain document determines the document.
 use Rattle.std.proofs.Common.{◌≡◌, ℕ, Bool, true, false, List, [], ◌∷◌, cond, refl, sym, ap, ◌∙◌, subst}
 use Rattle.h5_names.specs.AttributeText.{AttributeText}
 use Rattle.h5_token.specs.Reply.{Reply}
@@ -18,7 +18,7 @@ use Rattle.h5_round_trip.proofs.JoinedLaws.{document_joined}
 use Rattle.h5_round_trip.proofs.ReadingLaws.{document_read}
 use Rattle.h5_round_trip.proofs.ShapeLaws.{Element, None, Shape, Text, Title, Void, document_shape, is_title}
 
--- ---- tokens tell the nodes
+-- ---- tokens determine the nodes
 
 -- a list that begins with an end tag, or with the end of the file
 abbrev Closes : List TokenText → Type 0
@@ -39,12 +39,12 @@ told (Void v p s) = ElementTold (λ e. refl) NothingTold (told s)
 told (Element o p i s) = ElementTold (λ e. absurd (let clash : true ≡ false = sym o.ends ∙ e in cc)) (told i) (told s)
 told (Title p s) = ElementTold (λ e. absurd (let clash : true ≡ false = sym is_title.ends ∙ e in cc)) (TextTold NothingTold) (told s)
 
--- two lists of nodes are the same, and so are the tokens behind them
+-- two lists of nodes are equal, and so are the tokens after them
 record AreSame (ns ms : Nodes) (ts us : List TokenText) : Type 0 where
   nodes : ns ≡ ms
   behind : ts ≡ us
 
--- the tokens behind a start tag
+-- the tokens after a start tag
 abbrev inside : List ℕ → Nodes → Nodes → List TokenText → List TokenText
 inside name inner rest more = cond (has_end_tag name) (tokens_before inner (end_tag name ∷ tokens_before rest more)) (tokens_before rest more)
 
@@ -77,7 +77,7 @@ no_start name attrs ts us h e = let k : Closes (start_tag name attrs ∷ ts) = s
 apart : (t name : List ℕ) (attrs : List AttributeText) (ts us : List TokenText) → Characters t ∷ ts ≡ start_tag name attrs ∷ us → ⊥
 apart t name attrs ts us e = let clash : true ≡ false = ap is_text_first e in cc
 
--- what an element holds, and what stands behind it
+-- the content of an element, and what follows it
 record HoldSame (i j m l : Nodes) (ts us : List TokenText) : Type 0 where
   inner : i ≡ j
   rest : AreSame m l ts us
@@ -115,9 +115,9 @@ same (ElementTold {name} {attrs} {inner} {rest} v x r) (ElementTold {name = othe
     let both = held_same name inner rest jnner others ts us h k v (subst (λ n. has_end_tag n ≡ false → jnner ≡ End) (sym names) w) (same x y) (same r s) (tail ∙ ap (λ n. inside n jnner others us) (sym names)) in
     record { nodes = λ z. ElementThen (names z) (attributes z) (both.inner z) (both.rest.nodes z); behind = both.rest.behind }
 
--- ---- the text tells the tokens
+-- ---- the text determines the tokens
 
--- a taker that answers as to a plain document, whatever comes
+-- a token sink that replies as to a plain document, to any tokens
 abbrev replies : Unit {0} → TokenText → Reply
 replies m t = plain_reply t
 

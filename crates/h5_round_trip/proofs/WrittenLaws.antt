@@ -1,4 +1,4 @@
--- What is written of a forest in which a plain document stands.
+-- The text that is written of a forest that has a plain document.
 use Rattle.std.proofs.Common.{◌≡◌, ℕ, Bool, true, false, not, ◌||◌, ◌&&◌, List, [], ◌∷◌, ◌++◌, cond, refl, sym, ap, ◌∙◌, append_assoc, append-nil, Option, Some, None as Nothing, codes}
 use Rattle.std.specs.Prelude.{unwrap_or}
 use Rattle.std.proofs.lemmas.Bool.{false≢true}
@@ -23,7 +23,7 @@ use Rattle.h5_plain.specs.Rebuilding.{DocumentStands, Looks, Stands}
 use Rattle.h5_round_trip.specs.Written.{serialized_of, tag_written, written_before}
 use Rattle.h5_round_trip.proofs.ShapeLaws.{Element, None, Shape, Text, Title, Void, document_shape, is_title}
 
--- what stands open, innermost first: no void element, and the last is none whose text is written as it stands
+-- the openers, innermost first: no void element, and the last isn't one whose text is written unescaped
 pub record IsOpen (o : Opener) (os : List Opener) : Type 0 where
   pub shown : are_hidden (o ∷ os) ≡ false
   pub escaped : o.is_raw ≡ false

@@ -5,5 +5,6 @@ pub mod ReferenceLaws
 pub mod TextLaws
 pub mod TagLaws
 pub mod ReadingLaws
+pub mod InsideLaws
 pub mod MarkupLaws
 pub mod PlainMarkupLaws

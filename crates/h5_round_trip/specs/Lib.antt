@@ -3,3 +3,4 @@ pub mod Readable
 pub mod Answers
 pub mod Fragment
 pub mod Markup
+pub mod Inside

@@ -17,7 +17,7 @@ pub data Mark : Type 0 where
   -- a title, its text, and its end tag
   Title : (attrs : List AttributeText) (first : ℕ) (more : List ℕ) → Mark
 
--- its bytes, before others
+-- its bytes, followed by others
 abbrev pub written_mark : Mark → List ℕ → List ℕ
 written_mark (Words first more) rest = escape false (first ∷ more) ++ rest
 written_mark (Start name attrs) rest = codes "<" ++ (tag_written name attrs ++ (codes ">" ++ rest))
@@ -30,7 +30,7 @@ abbrev pub written_marks : List Mark → List ℕ
 written_marks [] = []
 written_marks (mark ∷ marks) = written_mark mark (written_marks marks)
 
--- its tokens, before others
+-- its tokens, followed by others
 abbrev pub mark_tokens : Mark → List TokenText → List TokenText
 mark_tokens (Words first more) ts = Characters (first ∷ more) ∷ ts
 mark_tokens (Start name attrs) ts = start_tag name attrs ∷ ts
@@ -49,12 +49,12 @@ written_page marks = codes "<!DOCTYPE html>" ++ written_marks marks
 abbrev pub page_tokens : List Mark → List TokenText
 page_tokens marks = plain_doctype ∷ marks_tokens marks
 
--- an ASCII letter, and bytes of names behind it
+-- an ASCII letter, followed by bytes of names
 abbrev pub IsTagText : List ℕ → Type 0
 IsTagText [] = ⊥
 IsTagText (x ∷ xs) = (is_ascii_alphabetic x ≡ true) × AreNameBytes (x ∷ xs)
 
--- neither '-', '<', NUL nor CR
+-- a byte other than '-', '<', NUL and CR
 abbrev pub is_comment_byte : ℕ → Bool
 is_comment_byte x = not (x == 45 || (x == 60 || (x == 0 || x == 13)))
 
@@ -62,12 +62,12 @@ abbrev pub AreCommentBytes : List ℕ → Type 0
 AreCommentBytes [] = Unit {0}
 AreCommentBytes (x ∷ xs) = (is_comment_byte x ≡ true) × AreCommentBytes xs
 
--- such bytes, of which the first isn't '>'
+-- such bytes; the first isn't '>'
 abbrev pub IsCommentText : List ℕ → Type 0
 IsCommentText [] = Unit {0}
 IsCommentText (x ∷ xs) = (x == 62 ≡ false) × AreCommentBytes (x ∷ xs)
 
--- Names are in lower case, attributes have no namespace, each name once, and texts and values hold neither NUL nor CR.
+-- Names are in lower case; attributes have no namespace and distinct names; texts and values have neither NUL nor CR.
 abbrev pub IsMark : Mark → Type 0
 IsMark (Words first more) = IsReadable (first ∷ more)
 IsMark (Start name attrs) = IsTagText name × ((is_same_text name (codes "title") ≡ false) × (ArePlain attrs × AreReadable attrs))

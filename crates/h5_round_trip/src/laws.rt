@@ -23,18 +23,18 @@ pub mod standard;
 use h5_arena::laws::calls_stand_around_those_of_children;
 use h5_token::TokenSink;
 
-/// A value that was escaped is read back, if it is a text with neither NUL nor CR.
+/// If a value is UTF-8 with neither NUL nor CR, it is read back after it was escaped.
 pub fn values_are_read_back()
     ensures { (value : List ℕ) → IsReadable value → text_of true (escape true value) ≡ value }
 {}
 
-/// The tokens of a plain document have no two texts beside each other.
+/// The tokens of a plain document have no two adjacent texts.
 pub fn texts_of_documents_stand_apart()
     ensures { (d : PlainDocument) → join (document_tokens d) ≡ document_tokens d }
 {}
 
-/// What a serializer writes of the children of a document in which a plain document stands: its nodes as they stand. That is the
-/// document's text, if no `pre` of it begins with a newline: a reader drops one there, and a serializer writes it once.
+/// If a forest's document is a plain document, a serializer writes its children as they are. If no `pre` begins with a
+/// newline, that is the document's text: a tree builder drops one newline there, and a serializer writes it once.
 pub fn documents_are_written()
     ensures as_they_stand { (f : Forest) (d : PlainDocument) (opts : SerializeOpts) → IsForest f → DocumentStands f d
         → opts.traversal_scope ≡ ChildrenOnly None → opts.create_missing_parent ≡ false
@@ -46,19 +46,19 @@ pub fn documents_are_written()
     calls_stand_around_those_of_children();
 }
 
-/// Different documents have different texts: two that can be read and have one text hold the same nodes.
+/// If two documents can be read and have one text, they have the same nodes.
 pub fn different_documents_have_different_texts()
     ensures { (d e : PlainDocument) → IsReadableDocument d → IsReadableDocument e → written_of d ≡ written_of e → root_of d ≡ root_of e }
 {}
 
-/// The text of a plain document that can be read is read to its end, and its tokens are handed on, over every taker of
-/// tokens that answers them as a builder does: "go on", and to the start tag of a title that its text follows.
+/// If a plain document can be read, its text is read to its end, as its tokens, over any token sink that replies as a
+/// builder does: "go on", and at the start tag of a title the switch to its text.
 pub fn documents_are_read<S: TokenSink>()
     ensures { (d : PlainDocument) (m : S.Meaning) → IsReadableDocument d → Answers S.reply_to S.after m (document_tokens d)
         → (n : S.Meaning) × ReadsToEnd S.reply_to S.after S.is_foreign S.ended (first_place default_options) m (written_of d) (document_tokens d) n }
 {}
 
-/// So is the text of a fragment, unless it begins with U+FEFF, which a reader drops there.
+/// As above for the text of a fragment, unless it begins with U+FEFF, which a tokenizer drops there.
 pub fn fragments_are_read<S: TokenSink>()
     ensures { (nodes : Nodes) (m : S.Meaning) → IsPlain true (Flow false nothing_open) nodes → CanBeRead nodes
         → behind_mark true (written_fragment nodes) ≡ written_fragment nodes → Answers S.reply_to S.after m (fragment_tokens nodes)

@@ -1,4 +1,4 @@
--- What is known where a test of two parts holds or fails.
+-- The parts of a test, if the test holds or fails.
 use Rattle.std.proofs.Common.{◌≡◌, Bool, true, false, cond, not, ◌&&◌, ◌||◌, refl}
 
 pub later_true : (a b : Bool) → b ≡ true → cond a true b ≡ true

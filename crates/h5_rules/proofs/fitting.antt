@@ -1,4 +1,4 @@
--- What each insertion mode tells of the open elements, and which changes keep it.
+-- What each insertion mode says about the open elements, and which changes preserve it.
 pub mod ChangeLaws
 pub mod ContextLaws
 pub mod CutNameLaws

@@ -1,4 +1,4 @@
--- What holds of rows: of the one that a tag's name chooses, and of each in turn.
+-- What holds for the row that a tag's name chooses, and for each row in turn.
 pub mod ByNameLaws
 pub mod EndingLaws
 pub mod KeptLaws

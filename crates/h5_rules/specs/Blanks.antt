@@ -1,4 +1,4 @@
--- Blanks: TAB, LF, FF, CR and SPACE (Infra standard: ASCII whitespace).
+-- ASCII whitespace (Infra standard): TAB, LF, FF, CR and SPACE.
 use Rattle.std.specs.Prelude.{◌==◌, ℕ, Bool, true, ◌&&◌, ◌||◌, if◌then◌else◌, List, [], ◌∷◌}
 
 abbrev pub is_blank : ℕ → Bool
@@ -8,7 +8,7 @@ abbrev pub all_blank : List ℕ → Bool
 all_blank [] = true
 all_blank (b ∷ t) = is_blank b && all_blank t
 
--- the longest front of blanks, and what follows it
+-- the longest prefix of ASCII whitespace, and what follows it
 abbrev pub blanks_of : List ℕ → List ℕ
 blanks_of [] = []
 blanks_of (b ∷ t) = if is_blank b then b ∷ blanks_of t else []

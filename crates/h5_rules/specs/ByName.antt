@@ -11,15 +11,15 @@ use Rattle.h5_tables.specs.TurnText.{TagTurn, TurnText}
 use Rattle.h5_rules.specs.Rows.{Row, ignored}
 use Rattle.h5_rules.specs.World.{World}
 
--- whether a name is this one
+-- a name is this known name
 abbrev pub named : KnownName → List ℕ → Bool
 named known name = is_same_text name (name_text known)
 
--- the names of end tags that act as "anything else" before the body
+-- the names of the end tags that act as "anything else" before the body
 unfoldable pub outer_names : List (List ℕ)
 outer_names = codes "head" ∷ codes "body" ∷ codes "html" ∷ codes "br" ∷ []
 
--- the names that a rule is for: a known one alone, or any of a list
+-- the names that a rule is for: a single known name, or any name of a list
 pub data Names : Type 0 where
   Only : (known : KnownName) → Names
   AnyOf : (names : List (List ℕ)) → Names
@@ -28,11 +28,11 @@ abbrev pub is_among : Names → List ℕ → Bool
 is_among (Only known) name = named known name
 is_among (AnyOf names) name = is_one_of names name
 
--- rules, each with the names that it is for, in their order; the first that a tag's name is among is its rule
+-- an ordered list of rules, each with the names that it is for; the first one that has a tag's name is the tag's rule
 abbrev pub Rules : Type 0
 Rules = List (Names × (TagText → World → Row))
 
--- and where it is among none, another
+-- the row of a tag by these rules; if none has its name, by `other`
 abbrev pub by_name : Rules → (TagText → World → Row) → TagText → World → Row
 by_name [] other tag w = other tag w
 by_name (x ∷ xs) other tag w = if is_among x.0 tag.name then x.1 tag w else by_name xs other tag w
@@ -42,23 +42,23 @@ abbrev pub rule_of : Rules → (TagText → World → Row) → List ℕ → TagT
 rule_of [] other name = other
 rule_of (x ∷ xs) other name = if is_among x.0 name then x.1 else rule_of xs other name
 
--- the same, asked of what HTML knows a tag's name as: a name that it doesn't know is among none
+-- as `by_name`, but the name is replaced by the known name that it is, if it is one
 abbrev pub by_known : Rules → (TagText → World → Row) → TagText → World → Row
 by_known rules other tag w = rule_of rules other (name_text (known_name_of tag.name)) tag w
 
--- a name is among those of no rule
+-- no rule is for this name
 abbrev pub NonePasses : Rules → List ℕ → Type 0
 NonePasses [] name = Unit {0}
 NonePasses (x ∷ xs) name = (is_among x.0 name ≡ false) × NonePasses xs name
 
--- a rule for any token, of a tag
+-- a rule for any token, applied to a tag
 abbrev pub of_tag : (TurnText → World → Row) → TagText → World → Row
 of_tag rule tag w = rule (TagTurn tag) w
 
 abbrev pub ignored_tag : TagText → World → Row
 ignored_tag tag w = ignored
 
--- of a start tag, and of an end tag
+-- one of two rows, by the kind of the tag
 abbrev pub by_kind : TagKind → Row → Row → Row
 by_kind StartTag start end = start
 by_kind EndTag start end = end

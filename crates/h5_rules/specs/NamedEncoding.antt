@@ -12,12 +12,12 @@ abbrev pub is_content_type : Option (List ℕ) → Bool
 is_content_type None = false
 is_content_type (Some value) = str_eq_ignore_ascii_case value (codes "content-type")
 
--- what the value of `content` names
+-- the encoding that the value of `content` names
 abbrev pub content_encoding : Option (List ℕ) → Option (List ℕ)
 content_encoding None = None
 content_encoding (Some value) = meta_encoding value
 
--- the value of `charset`; where there is none, what `content` names, if `http-equiv` says that it is for that
+-- the value of `charset`; if there is none, the encoding that `content` names, if `http-equiv` is `content-type`
 abbrev pub charset_or_content : (charset : Option (List ℕ)) → List AttributeText → Option (List ℕ)
 charset_or_content (Some charset) attrs = Some charset
 charset_or_content None attrs =
@@ -26,7 +26,7 @@ charset_or_content None attrs =
 unfoldable pub named_encoding : List AttributeText → Option (List ℕ)
 named_encoding attrs = charset_or_content (first_value (codes "charset") attrs) attrs
 
--- it is answered
+-- the ending of a turn that found this encoding: it is the reply
 abbrev pub indicates : Option (List ℕ) → Ending
 indicates None = IsAcknowledged
 indicates (Some encoding) = Answers (Indicates encoding)

@@ -1,4 +1,4 @@
--- A rule of tree construction: changes in order, and one ending (HTML standard, section 13.2.6.4).
+-- A rule of tree construction: an ordered list of changes, and one ending (HTML standard, section 13.2.6.4).
 use Rattle.std.specs.Prelude.{◌≡◌, ℕ, Bool, true, false, if◌then◌else◌, List, [], ◌∷◌, Option, Some, None, ◌<◌}
 use Rattle.h5_names.specs.AttributeText.{AttributeText}
 use Rattle.h5_names.specs.declared.qualified.QualName.{QualName}
@@ -141,8 +141,8 @@ abbrev pub apply_all : SinkChoices → List Change → World → World
 apply_all choices [] w = w
 apply_all choices (x ∷ xs) w = apply_all choices xs (apply choices x w)
 
--- how a rule ends: the token is done with, and a self-closing flag may be acknowledged besides; it takes another
--- turn, in a mode that is named, or that the world tells as it is after the changes; or it is answered
+-- how a rule ends: the token is done, or done with its self-closing flag acknowledged; it is reprocessed in a given
+-- mode, or in the mode that the world has after the changes; or a reply is returned
 pub data Ending : Type 0 where
   IsDone : Ending
   IsAcknowledged : Ending
@@ -150,7 +150,7 @@ pub data Ending : Type 0 where
   AgainBy : (mode : World → InsertionMode) → Ending
   Answers : (answer : Reply) → Ending
 
--- the mode of another turn, where one is taken
+-- the mode in which the token is reprocessed, if it is
 abbrev pub next_mode : Ending → World → Option InsertionMode
 next_mode IsDone w = None
 next_mode IsAcknowledged w = None
@@ -158,25 +158,25 @@ next_mode (Again mode) w = Some mode
 next_mode (AgainBy mode) w = Some (mode w)
 next_mode (Answers answer) w = None
 
--- in a quiet row no parse error is told, and in any other one is
+-- a rule's effect on one token; it is quiet if it reports no parse error
 pub record Row : Type 0 where
   pub changes : List Change
   pub ending : Ending
   pub quiet : Bool
 
--- a row that tells no parse error
+-- a quiet row
 abbrev pub row : List Change → Ending → Row
 row changes ending = record { changes = changes; ending = ending; quiet = true }
 
--- a row that tells one
+-- a row that reports a parse error
 abbrev pub errs : List Change → Ending → Row
 errs changes ending = record { changes = changes; ending = ending; quiet = false }
 
--- a row that tells none exactly where this is so
+-- a row that is quiet exactly if `quiet` holds
 abbrev pub row_if : Bool → List Change → Ending → Row
 row_if quiet changes ending = record { changes = changes; ending = ending; quiet = quiet }
 
--- nothing changes, and a parse error is told
+-- a parse error, and no change
 abbrev pub ignored : Row
 ignored = errs [] IsDone
 
@@ -188,15 +188,15 @@ choose b chosen other = if b then chosen else other
 abbrev pub changed_by : SinkChoices → Row → World → World
 changed_by choices r w = apply_all choices r.changes w
 
--- what a turn ended with is this ending in the world after it, and a token that takes another turn is the one that
--- came
+-- the result of a turn is this ending, in the world after the turn; a token that is reprocessed is the one that came
 abbrev pub EndsAs : {H : Type 0} → (H → ℕ) → TurnText → TurnResult H → Ending → World → Type 0
 EndsAs node t results.Done e w = e ≡ IsDone
 EndsAs node t results.DoneAckSelfClosing e w = e ≡ IsAcknowledged
 EndsAs node t (results.Reprocess mode token) e w = (next_mode e w ≡ Some mode) × (turn_text token ≡ t)
 EndsAs node t (results.Answer answer) e w = e ≡ Answers (reply node answer)
 
--- a turn followed a row: what changed, how it ended, and whether the sink's error mark moved
+-- a turn that followed a row: the changed world, the result, and the sink's mark of errors, which is unchanged after a
+-- quiet row, and isn't 0 after any other
 pub record Follows {H : Type 0} (choices : SinkChoices) (node : H → ℕ) (r : Row) (t : TurnText) (old new : World) (old_errors new_errors : ℕ) (result : TurnResult H) : Type 0 where
   pub world : new ≡ apply_all choices r.changes old
   pub ending : EndsAs node t result r.ending new

@@ -22,15 +22,15 @@ pub record View : Type 0 where
   pub ended : Bool
   pub failed : Bool
 
--- what a builder keeps, until it has ended or failed
+-- what a builder keeps until it has ended or failed
 pub record IsFitting (v : View) : Type 0 where
   pub fitting : v.failed ≡ false → v.ended ≡ false → Fitting v.world
 
--- the newline flag is taken
+-- the newline flag is reset
 abbrev pub taken : World → World
 taken w = record w { ignore_lf = false }
 
--- a text loses one leading newline where the flag was set
+-- a text without one leading newline, if the flag was set
 abbrev pub without_lf : Bool → List ℕ → List ℕ
 without_lf true [] = []
 without_lf true (b ∷ t) = if b == 10 then t else b ∷ t
@@ -45,21 +45,21 @@ with_doctype choices d w =
 unfoldable pub judged : SinkChoices → DoctypeText → World → World
 judged choices d w = set_mode BeforeHtml (set_quirks_mode (quirks_of w.options.iframe_srcdoc d) (with_doctype choices d w))
 
--- what is told at once
+-- a result without any turn
 abbrev pub at_once : World → Bool → Settled
 at_once w quiet = record { world = w; turns = 0; reply = Continues; quiet = quiet }
 
--- a doctype elsewhere is an error, and nothing more
+-- a doctype in any other mode is a parse error, and changes nothing
 abbrev pub doctype_in : InsertionMode → SinkChoices → DoctypeText → World → Settled
 doctype_in Initial choices d w = at_once (judged choices d w) (is_good_doctype d)
 doctype_in _ choices d w = at_once w false
 
--- a text, whose turns aren't told where it isn't empty
+-- a text; the turns of one that isn't empty aren't counted
 abbrev pub text_step : SinkChoices → List ℕ → World → Settled
 text_step choices [] w = at_once w true
 text_step choices (b ∷ t) w = at_once (text_rule choices (b ∷ t) w) (is_quiet_text w.mode)
 
--- a token that is taken
+-- one token, if it isn't refused
 unfoldable pub step : SinkChoices → TokenText → World → Settled
 step choices (DoctypeIs doctype) w = doctype_in w.mode choices doctype (taken w)
 step choices (TagIs tag) w = settle choices (TagTurn tag) (taken w)
@@ -69,7 +69,7 @@ step choices NullCharacter w = settle choices NullTurn (taken w)
 step choices EndOfFile w = settle choices EofTurn (taken w)
 step choices (ParseErrorIs message) w = at_once (taken w) false
 
--- in a text no start tag, comment and null can come from a reader
+-- a start tag, a comment or a null, which no tokenizer emits in the mode "text"
 abbrev pub is_refused_in_text : TokenText → Bool
 is_refused_in_text (TagIs tag) = is_start tag.kind
 is_refused_in_text (CommentIs text) = true
@@ -80,7 +80,7 @@ abbrev pub refuses_in : InsertionMode → TokenText → Bool
 refuses_in Text t = is_refused_in_text t
 refuses_in _ t = false
 
--- refusals, in their order
+-- the reason to refuse a token, if there is one; they are checked in this order
 abbrev pub refusal : View → TokenText → Option BuildFault
 refusal v t =
     if v.failed then Some Failed
@@ -95,7 +95,7 @@ take_or_refuse choices t None v = record v { world = (step choices t v.world).wo
 abbrev pub after_token : SinkChoices → TokenText → View → View
 after_token choices t v = take_or_refuse choices t (refusal v t) v
 
--- the turns of a text aren't told, unless it is empty: they depend on how it is cut
+-- the turns of a text are counted only if it is empty, since they depend on how the text is split
 abbrev pub is_empty_text : List ℕ → Bool
 is_empty_text [] = true
 is_empty_text (b ∷ t) = false
@@ -104,13 +104,13 @@ abbrev pub is_counted : TokenText → World → Bool
 is_counted (Characters text) w = is_empty_text (without_lf w.ignore_lf text)
 is_counted _ w = true
 
--- how many turns a token took: none, where it was refused, or as many as are told
+-- the turns of a token: it was refused, or took this many, or they aren't counted
 pub data Turns : Type 0 where
   WasRefused : Turns
   Took : (count : ℕ) → Turns
   Untold : Turns
 
--- what is told of a token: the reply to it, its turns, and whether no parse error was told
+-- the report for a token: the reply, its turns, and that no parse error was reported (`quiet`)
 pub record Told : Type 0 where
   pub reply : Reply
   pub turns : Turns
@@ -132,7 +132,7 @@ reply_to choices t v = (told_of choices t v).reply
 abbrev pub is_quiet : SinkChoices → TokenText → View → Bool
 is_quiet choices t v = (told_of choices t v).quiet
 
--- THE RUN of a list of tokens: the view after it, and what is told of each
+-- THE RUN of a list of tokens: the view after it, and the report for each
 pub record Ran : Type 0 where
   pub view : View
   pub told : List Told
@@ -150,7 +150,7 @@ after_all choices ts v = (run choices ts v).view
 abbrev pub told_all : SinkChoices → List TokenText → View → List Told
 told_all choices ts v = (run choices ts v).told
 
--- the replies, and whether no parse error is told at all
+-- the replies; and that no parse error is reported at all
 abbrev pub replies_in : List Told → List Reply
 replies_in [] = []
 replies_in (x ∷ xs) = x.reply ∷ replies_in xs
@@ -165,13 +165,13 @@ replies choices ts v = replies_in (told_all choices ts v)
 abbrev pub all_quiet : SinkChoices → List TokenText → View → Bool
 all_quiet choices ts v = quiet_in (told_all choices ts v)
 
--- a count of turns after one that was there before: that of the last token that was taken
+-- the count of turns after a token, by the count before; a refused token doesn't change it
 abbrev pub CountsTurns : Turns → (old new : ℕ) → Type 0
 CountsTurns WasRefused old new = new ≡ old
 CountsTurns (Took count) old new = new ≡ count
 CountsTurns Untold old new = Unit {0}
 
--- the turns of the token of a list that was taken last
+-- the turns of the last token of a list that wasn't refused
 abbrev pub later_turns : Turns → Turns → Turns
 later_turns before WasRefused = before
 later_turns before (Took count) = Took count

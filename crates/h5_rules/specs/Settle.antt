@@ -1,5 +1,5 @@
--- The turns of one token: a chain of rules, each but the last ending in "again" (HTML standard, section 13.2.6, "the
--- tree construction dispatcher").
+-- The turns of one token: a chain of rules, in which each but the last ends in "again" (HTML standard, section 13.2.6,
+-- "the tree construction dispatcher").
 use Rattle.std.specs.Prelude.{◌≡◌, ℕ, zero, suc, ◌+◌, Bool, true, not, ◌&&◌, length, Option, Some, None}
 use Rattle.h5_token.specs.Reply.{Reply, Continues}
 use Rattle.h5_interface.specs.SinkChoices.{SinkChoices}
@@ -10,33 +10,34 @@ use Rattle.h5_rules.specs.modes.ForeignContent.{dispatch}
 use Rattle.h5_rules.specs.Rows.{Answers, Ending, IsDone, Row, changed_by, next_mode}
 use Rattle.h5_rules.specs.World.{World}
 
--- what a token came to: the world after it, its turns, the answer, and whether no parse error was told
+-- the effect of a token: the world after it, the number of its turns, the reply, and that no parse error was reported
+-- (`quiet`)
 pub record Settled : Type 0 where
   pub world : World
   pub turns : ℕ
   pub reply : Reply
   pub quiet : Bool
 
--- what is answered where no other turn is taken
+-- the reply of a last turn
 abbrev pub answer_of : Ending → Reply
 answer_of (Answers answer) = answer
 answer_of _ = Continues
 
--- where the token is done with and nobody looked at its self-closing flag, a start tag that has it is a parse error
+-- a start tag with a self-closing flag that wasn't acknowledged is a parse error once the token is done
 abbrev pub is_quiet_end : TurnText → Ending → Bool
 is_quiet_end t IsDone = not (is_self_closing t)
 is_quiet_end t _ = true
 
--- after the last turn
+-- the effect of a last turn
 abbrev pub ends_with : TurnText → Row → World → Settled
 ends_with t r w = record { world = w; turns = 1; reply = answer_of r.ending; quiet = r.quiet && is_quiet_end t r.ending }
 
--- after a turn, and what the token came to then
+-- the effect of a turn that is followed by others
 abbrev pub goes_on_to : Row → Settled → Settled
 goes_on_to r s = record { world = s.world; turns = s.turns + 1; reply = s.reply; quiet = r.quiet && s.quiet }
 
--- THE CHAIN of a token from a world: a turn by its rule there, which is the last, or is followed by the chain from
--- the mode that its ending leads to
+-- THE CHAIN of a token from a world: a turn by its rule there, which is the last one, or is followed by the chain from
+-- the mode that its ending names
 pub data Chain (choices : SinkChoices) (t : TurnText) : World → Settled → Type 0 where
   Ends : (w : World) → next_mode (dispatch choices t w).ending (changed_by choices (dispatch choices t w) w) ≡ None
       → Chain choices t w (ends_with t (dispatch choices t w) (changed_by choices (dispatch choices t w) w))
@@ -51,12 +52,12 @@ then_turns go t r w (Some mode) = goes_on_to r (go (set_mode mode w))
 abbrev pub by_row : SinkChoices → (World → Settled) → TurnText → Row → World → Settled
 by_row choices go t r w = then_turns go t r (changed_by choices r w) (next_mode r.ending (changed_by choices r w))
 
--- what a token comes to within so many turns
+-- the effect of a token within at most n turns
 unfoldable pub settle_within : SinkChoices → ℕ → TurnText → World → Settled
 settle_within choices zero t w = record { world = w; turns = 0; reply = Continues; quiet = true }
 settle_within choices (suc n) t w = by_row choices (λ v. settle_within choices n t v) t (dispatch choices t w) w
 
--- what a token comes to: sixteen turns, and as many as elements are open, are more than enough
+-- the effect of a token; sixteen turns, and one for each open element, are more than enough
 unfoldable pub settle : SinkChoices → TurnText → World → Settled
 settle choices t w = settle_within choices (16 + length w.stack) t w
 

@@ -1,4 +1,4 @@
--- What holds of a builder and its sink at every moment, and what the insertion mode tells of the open elements (HTML
+-- What holds for a builder and its sink at every moment, and what the insertion mode says about the open elements (HTML
 -- standard, sections 13.2.4.1 and 13.2.4.2).
 use Rattle.std.specs.Prelude.{◌≡◌, ℕ, is_some, List, [], ◌∷◌, codes, Option, Some, None, IsTrue}
 use Rattle.h5_interface.specs.Forest.{ElementNode, Forest, HasContents, IsElement, IsForest, kind_of, parent_of}
@@ -13,14 +13,15 @@ use Rattle.h5_rules.specs.fitting.NamesFit.{NamesFit}
 use Rattle.h5_rules.specs.stack.Root.{IsRootOpen}
 use Rattle.h5_rules.specs.World.{World, name_in, names_of}
 
--- the forest is one, open elements are its elements, none is an ancestor of an older one, and templates have contents
+-- the forest is a forest; the open elements are elements of it; none is an ancestor of an older one; templates have
+-- contents
 pub record Stands (f : Forest) (s : List ℕ) : Type 0 where
   pub is_forest : IsForest f
   pub elements : (n : ℕ) → IsIn n s → IsElement f n
   pub ordered : IsOrdered (parent_of f) s
   pub templates : (n : ℕ) → IsIn n s → IsTrue (is_html_template (name_in f n)) → HasContents f n
 
--- the root, where one is open, has no parent but the document
+-- the root, if one is open, has no parent except the document
 abbrev pub RootIsTop : Forest → List ℕ → Type 0
 RootIsTop f [] = Unit {0}
 RootIsTop f (n ∷ []) = (p : ℕ) → parent_of f n ≡ Some p → p ≡ f.document
@@ -30,10 +31,10 @@ RootIsTop f (n ∷ m ∷ s) = RootIsTop f (m ∷ s)
 abbrev pub IsHtml : Forest → List ℕ → ℕ → Type 0
 IsHtml f local n = kind_of f n ≡ Some (ElementNode (html_name local))
 
--- at every moment, also where memory ran out: so they stand, and what the builder points at is there. The head
--- element is a `head`; the form element is another, and a `form` where it is open; the context of a fragment is another
--- than the head element, and is never open; an element in the list of active formatting elements, open or not, is of its
--- tag's name, one of the formatting elements'
+-- what holds at every moment, also after a failed allocation: the above, and that the nodes that the builder refers to
+-- exist. The head element is a `head`. The form element is another one, and is a `form` if it is open. The context of a
+-- fragment isn't the head element, and is never open. Each element in the list of active formatting elements, open or
+-- not, has its tag's name, which is that of a formatting element
 pub record AllStand (f : Forest) (s : List ℕ) (l : List Entry) (head form context : Option ℕ) : Type 0 where
   pub stands : Stands f s
   pub root_top : RootIsTop f s
@@ -50,12 +51,12 @@ pub record AllStand (f : Forest) (s : List ℕ) (l : List Entry) (head form cont
 abbrev pub Sound : World → Type 0
 Sound w = AllStand w.forest w.stack w.formatting w.head w.form w.context
 
--- the role of the context element, where a fragment is parsed (section 13.4)
+-- the role of the context element, if a fragment is parsed (section 13.4)
 abbrev pub role_at : Forest → Option ℕ → Option Role
 role_at f None = None
 role_at f (Some n) = Some (role_of (name_in f n))
 
--- what the facts of a mode see of a world besides its mode and its open elements
+-- what `Fits` reads of a world in addition to its mode and its open elements
 abbrev pub situation_of : World → Situation
 situation_of w = record {
   template_modes = w.template_modes;
@@ -69,18 +70,18 @@ situation_of w = record {
 abbrev pub HasLists : World → Type 0
 HasLists w = Lists w.stack w.formatting
 
--- at every turn, and between tokens: the open elements fit the mode, and the list agrees with them
+-- what holds at every turn and between tokens: the open elements fit the mode, and the list agrees with them
 pub record Fits (w : World) : Type 0 where
   pub mode : NamesFit (situation_of w) w.mode (names_of w)
   pub lists : HasLists w
 
--- WHAT A BUILDER KEEPS at every turn, and between tokens
+-- WHAT A BUILDER KEEPS at every turn and between tokens
 pub record Fitting (w : World) : Type 0 where
   pub sound : Sound w
   pub fits : Fits w
 
--- in the body, where formatting elements are closed: all stands, the list agrees with the stack, and the root is an
--- `html`
+-- what holds in the body when formatting elements are closed: the world is sound, the list agrees with the stack, and
+-- the root is an `html`
 pub record HasHtmlRoot (w : World) : Type 0 where
   pub sound : Sound w
   pub lists : HasLists w

@@ -1,4 +1,5 @@
--- The rule of a text, in one step: in foreign content, or by the mode, for its longest front of blanks and for the rest.
+-- The rule of a text, in one step: in foreign content, or by the mode, for its longest prefix of ASCII whitespace and
+-- for the remainder.
 use Rattle.std.specs.Prelude.{◌≡◌, ℕ, Bool, true, false, List, [], ◌∷◌, codes, filter, Option, Some, None, if◌then◌else◌}
 use Rattle.h5_interface.specs.SinkChoices.{SinkChoices}
 use Rattle.h5_tables.specs.TurnText.{TextTurn, TurnText}
@@ -23,12 +24,12 @@ use Rattle.h5_rules.specs.Rows.{Row, changed_by, next_mode}
 use Rattle.h5_rules.specs.World.{World}
 use Rattle.h5_rules.specs.modes.InHeadNoscript.{in_head_noscript_else}
 
--- a rule of a text, and nothing where there is none
+-- a rule for a text, if it isn't empty
 abbrev pub if_any : (List ℕ → World → World) → List ℕ → World → World
 if_any f [] w = w
 if_any f (b ∷ t) w = f (b ∷ t) w
 
--- the blanks at the front, if any, and then the rest, if any
+-- the prefix of whitespace and then the remainder, each if it isn't empty
 abbrev pub split : (List ℕ → World → World) → (List ℕ → World → World) → List ℕ → World → World
 split blanks others t w = if_any others (rest_of t) (if_any blanks (blanks_of t) w)
 
@@ -47,11 +48,11 @@ after_row choices r w = in_next (next_mode r.ending (changed_by choices r w)) (c
 abbrev pub foreign_text : List ℕ → World → World
 foreign_text t w = append_text t (set_frameset_ok_by_text t w)
 
--- there, or else by another rule
+-- the rule of foreign content if the text is foreign, otherwise another rule
 abbrev pub unless_foreign : SinkChoices → (List ℕ → World → World) → List ℕ → World → World
 unless_foreign choices f t w = if is_foreign_text choices w then foreign_text t w else f t w
 
--- by "anything else", and then by the rule of the mode that this leads to, unless that leads to foreign content
+-- "anything else" of a mode, and then the rule of the mode that this leads to, unless the text is foreign there
 abbrev pub by_else : SinkChoices → (TurnText → World → Row) → (List ℕ → World → World) → List ℕ → World → World
 by_else choices r next t w = unless_foreign choices next t (after_row choices (r (TextTurn NotWhitespace t) w) w)
 
@@ -63,15 +64,16 @@ text_in_body choices t w = append_text t (set_frameset_ok_by_text t (reconstruct
 abbrev pub fostered_text : SinkChoices → List ℕ → World → World
 fostered_text choices t w = set_foster false (text_in_body choices t (set_foster true w))
 
--- kept back
+-- the text is added to the pending text
 abbrev pub text_in_table_text : List ℕ → World → World
 text_in_table_text t w = append_pending_text t w
 
--- in a table, a row group and a row: where the current node keeps it back, the mode is left for it
+-- in a table, a row group and a row: if the current node buffers text, the mode is left for that
 unfoldable pub text_in_table : SinkChoices → List ℕ → World → World
 text_in_table choices t w = if keeps_text w then text_in_table_text t (set_mode InTableText (save_mode w)) else fostered_text choices t w
 
--- in a column group that is the current node, which what isn't blank closes; and in any other, blanks alone
+-- in a column group: if the current node is a `colgroup`, text that isn't whitespace closes it; otherwise only
+-- whitespace is inserted
 abbrev pub closes_column_group : SinkChoices → List ℕ → World → World
 closes_column_group choices = split append_text (by_else choices in_column_group_else (text_in_table choices))
 
@@ -102,14 +104,14 @@ text_before_html choices = split dropped (by_else choices before_html_else (text
 unfoldable pub text_initial : SinkChoices → List ℕ → World → World
 text_initial choices = split dropped (by_else choices initial_else (text_before_html choices))
 
--- in and after framesets blanks alone, in the place of insertion or by the body
+-- in and after framesets: only whitespace, at the place of insertion or by the rule of the body
 abbrev pub text_in_frameset : List ℕ → World → World
 text_in_frameset t w = if_any append_text (all_blanks t) w
 
 abbrev pub text_after_after_frameset : SinkChoices → List ℕ → World → World
 text_after_after_frameset choices t w = if_any (text_in_body choices) (all_blanks t) w
 
--- in each mode
+-- the rule of each mode
 abbrev pub text_in : InsertionMode → SinkChoices → List ℕ → World → World
 text_in Initial choices = text_initial choices
 text_in BeforeHtml choices = text_before_html choices
@@ -139,7 +141,7 @@ text_rule choices t w = unless_foreign choices (text_in w.mode choices) t w
 abbrev pub text_any : SinkChoices → List ℕ → World → World
 text_any choices t w = if_any (text_rule choices) t w
 
--- the modes that cut a text into runs
+-- the modes that split a text into runs
 abbrev pub splits : InsertionMode → Bool
 splits Initial = true
 splits BeforeHtml = true
@@ -155,15 +157,14 @@ splits AfterAfterBody = true
 splits AfterAfterFrameset = true
 splits _ = false
 
--- a run is of blanks, or has none; a whole text is for a mode that doesn't split, or for foreign content
+-- a run, of whitespace only or without any; in a mode that doesn't split, and in foreign content, the whole text
 abbrev pub IsRun : InsertionMode → (foreign : Bool) → SplitStatus → List ℕ → Type 0
 IsRun mode foreign Whitespace t = rest_of t ≡ []
 IsRun mode foreign NotWhitespace t = all_blanks t ≡ []
 IsRun mode true NotSplit t = Unit {0}
 IsRun mode false NotSplit t = splits mode ≡ false
 
--- in the body, a caption, a cell, a template and a text no text is a parse error, nor in foreign content there; elsewhere
--- one may be
+-- the modes in which no text is a parse error, including foreign content there; in the others one may be
 abbrev pub is_quiet_text : InsertionMode → Bool
 is_quiet_text InBody = true
 is_quiet_text InCaption = true

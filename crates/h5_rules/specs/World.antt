@@ -1,4 +1,4 @@
--- What a tree builder and its sink mean together (HTML standard, section 13.2.4, "Parse state").
+-- The combined state of a tree builder and its sink (HTML standard, section 13.2.4, "Parse state").
 use Rattle.std.specs.Prelude.{ℕ, Bool, List, [], map, Option, Some, None}
 use Rattle.h5_names.specs.declared.qualified.QualName.{QualName}
 use Rattle.h5_interface.specs.Forest.{CommentNode, DoctypeNode, DocumentNode, ElementNode, Forest, FragmentNode, InstructionNode, Kind, kind_of}
@@ -8,8 +8,8 @@ use Rattle.h5_tables.specs.declared.options.TreeBuilderOpts.{TreeBuilderOpts}
 use Rattle.h5_rules.specs.formatting.FormattingList.{Entry}
 use Rattle.h5_rules.specs.stack.Order.{first_or, last_or}
 
--- Open elements and formatting list have the newest first. `seen_quirks` is the quirks mode that the sink
--- was told, `quirks` the builder's own.
+-- The stack of open elements and the list of active formatting elements, both with the newest first, and all else that
+-- rules read. `seen_quirks` is the quirks mode that the sink received, `quirks` the builder's own.
 pub record World : Type 0 where
   pub forest : Forest
   pub seen_quirks : QuirksMode
@@ -28,7 +28,7 @@ pub record World : Type 0 where
   pub foster : Bool
   pub context : Option ℕ
 
--- the name of what is no element
+-- the name of a node that isn't an element
 abbrev pub no_name : QualName
 no_name = record { prefix = None; ns = []; local = [] }
 
@@ -52,10 +52,10 @@ name_in f n = name_of_found (kind_of f n)
 unfoldable pub names_of : World → List QualName
 names_of w = map (name_in w.forest) w.stack
 
--- the current node (HTML standard, section 13.2.4.2); where none is open, the document
+-- the current node (HTML standard, section 13.2.4.2); if no element is open, the document
 abbrev pub current : World → ℕ
 current w = first_or w.forest.document w.stack
 
--- the root: the open element that is the oldest
+-- the root: the oldest open element; if none is open, the document
 abbrev pub root : World → ℕ
 root w = last_or w.forest.document w.stack

@@ -1,5 +1,5 @@
--- What each insertion mode tells of the open elements, by the roles of their names, and the reset of the
--- mode by them (HTML standard, section 13.2.4.1).
+-- What each insertion mode says about the open elements, by the roles of their names, and the reset of the mode by them
+-- (HTML standard, section 13.2.4.1).
 pub mod Contexts
 pub mod Fits
 pub mod Floors

@@ -1,4 +1,4 @@
--- Where what is inserted goes, and what is made (HTML standard, section 13.2.6.1).
+-- Places of insertion, and how nodes are created (HTML standard, section 13.2.6.1).
 pub mod Foreign
 pub mod FormOwner
 pub mod Place

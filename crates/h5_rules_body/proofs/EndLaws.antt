@@ -86,7 +86,7 @@ form_expected choices w v n root_open e =
     at f [] h = absurd h
     at f (m ∷ s) h = refl
 
--- the row of the end tag, where there is a form element
+-- the row of the end tag, if there is a form element
 abbrev pub scoped_row : ℕ → World → Row
 scoped_row form w = row_if (is_expected_node form (names_of w) w.stack) (ClearForm ∷ GenerateImpliedEnd ∷ RemoveFromStack form ∷ []) IsDone
 

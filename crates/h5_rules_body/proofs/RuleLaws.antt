@@ -1,4 +1,4 @@
--- When the rule of `hr` tells a parse error of an option that stays open.
+-- When the rule of `hr` reports a parse error for an option that stays open.
 use Rattle.std.proofs.Common.{◌≡◌, Bool, true, false, cond, not, ◌&&◌, ◌||◌, List, codes, refl}
 use Rattle.h5_names.specs.declared.qualified.QualName.{QualName}
 use Rattle.h5_tables.specs.TagSets.{is_default_scope, is_html_named, is_implied}

@@ -43,7 +43,7 @@ fn after_after_body_tag<S: TreeSink>(sink: &mut S, state: &mut State<S::Handle>,
     }
 }
 
-/// A turn after all that.
+/// A turn in "after after body".
 pub fn step_after_after_body<S: TreeSink>(
     sink: &mut S,
     state: &mut State<S::Handle>,

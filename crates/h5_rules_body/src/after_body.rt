@@ -27,7 +27,7 @@ fn after_body_end_html<S: TreeSink>(sink: &mut S, state: &mut State<S::Handle>, 
     Ok(ProcessResult::Done)
 }
 
-/// What belongs into the body goes back there.
+/// Reprocesses a token that belongs in the body in the mode "in body", with a parse error.
 pub(crate) fn back_to_body<S: TreeSink>(
     sink: &mut S,
     state: &mut State<S::Handle>,
@@ -76,7 +76,7 @@ fn after_body_tag<S: TreeSink>(sink: &mut S, state: &mut State<S::Handle>, tag: 
     }
 }
 
-/// A turn after the body.
+/// A turn in "after body".
 pub fn step_after_body<S: TreeSink>(
     sink: &mut S,
     state: &mut State<S::Handle>,

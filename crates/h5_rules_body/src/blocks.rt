@@ -15,13 +15,13 @@ use h5_insertion::{
 use h5_interface::TreeSink;
 use h5_names::KnownName;
 use h5_state::{
-    State, Turn, has_p_in_button_scope, is_current_html, pop_until_named, set_frameset_not_ok,
-    set_ignore_lf, tell_error, unexpected_tag,
+    State, Turn, has_p_in_button_scope, is_current_html, pop_until_named, report_error,
+    set_frameset_not_ok, set_ignore_lf, unexpected_tag,
 };
 use h5_tables::{ProcessResult, TreeError};
 use h5_token::Tag;
 
-// A start tag `address`, `article`, .., `ul`: a block, after which no `p` is in button scope.
+// A start tag `address`, `article`, .., `ul`: a block, before which a `p` in button scope is closed.
 pub(crate) fn in_body_start_block<S: TreeSink>(
     sink: &mut S,
     state: &mut State<S::Handle>,
@@ -37,7 +37,7 @@ pub(crate) fn in_body_start_block<S: TreeSink>(
     Ok(ProcessResult::Done)
 }
 
-// A start tag `pre` or `listing`: a block, in which a newline that comes first is dropped.
+// A start tag `pre` or `listing`: a block, in which a newline at the start is dropped.
 pub(crate) fn in_body_start_preformatted<S: TreeSink>(
     sink: &mut S,
     state: &mut State<S::Handle>,
@@ -55,7 +55,7 @@ pub(crate) fn in_body_start_preformatted<S: TreeSink>(
     Ok(ProcessResult::Done)
 }
 
-// A heading isn't expected in another.
+// A heading in a heading is a parse error.
 fn check_heading<S: TreeSink>(sink: &mut S, state: &State<S::Handle>)
     requires { IsSound S.TreeSink sink.old state.now }
     ensures told { TellsErrors S.TreeSink sink.old sink.new state.now }
@@ -63,11 +63,11 @@ fn check_heading<S: TreeSink>(sink: &mut S, state: &State<S::Handle>)
     ensures quiet { first_passes is_heading (names_of (world_of S.TreeSink sink.old state.now)) ≡ false → errors_of S.TreeSink sink.new ≡ errors_of S.TreeSink sink.old }
 {
     if is_current_heading(sink, state) {
-        tell_error(sink, state, TreeError::NestedHeadings);
+        report_error(sink, state, TreeError::NestedHeadings);
     }
 }
 
-// A start tag `h1` to `h6`: as a block, and the current node, where it is a heading, is closed.
+// A start tag `h1` to `h6`: as a block, and the current node is closed if it is a heading.
 pub(crate) fn in_body_start_heading<S: TreeSink>(
     sink: &mut S,
     state: &mut State<S::Handle>,
@@ -85,7 +85,7 @@ pub(crate) fn in_body_start_heading<S: TreeSink>(
     Ok(ProcessResult::Done)
 }
 
-// An end tag `address`, `article`, .., `ul`: it closes the block of its name, where one is in scope.
+// An end tag `address`, `article`, .., `ul`: it closes the block of its name, if one is in scope.
 #[tactic(auto, unfolding(h5_rules::specs::modes::InBody::in_body_end_block))]
 pub(crate) fn in_body_end_block<S: TreeSink>(
     sink: &mut S,
@@ -112,7 +112,7 @@ pub(crate) fn in_body_end_block<S: TreeSink>(
     }
 }
 
-// An end tag `p`: it closes the `p` in button scope, or one that is made for it.
+// An end tag `p`: it closes the `p` in button scope, or one that is inserted for it.
 #[tactic(auto, unfolding(h5_rules::specs::modes::InBody::in_body_end_p))]
 pub(crate) fn in_body_end_p<S: TreeSink>(
     sink: &mut S,
@@ -128,14 +128,14 @@ pub(crate) fn in_body_end_p<S: TreeSink>(
         expect_to_close(sink, state, expected);
         Ok(ProcessResult::Done)
     } else {
-        tell_error(sink, state, TreeError::NoParagraphToClose);
+        report_error(sink, state, TreeError::NoParagraphToClose);
         insert_phantom(sink, state, KnownName::P)?;
         close_p_element(sink, state);
         Ok(ProcessResult::Done)
     }
 }
 
-// An end tag `h1` to `h6`: it closes the heading in scope, also one of another name.
+// An end tag `h1` to `h6`: it closes the heading in scope, even one of another name.
 #[tactic(auto, unfolding(h5_rules::specs::modes::InBody::in_body_end_heading))]
 pub(crate) fn in_body_end_heading<S: TreeSink>(
     sink: &mut S,
@@ -155,7 +155,7 @@ pub(crate) fn in_body_end_heading<S: TreeSink>(
             Ok(ProcessResult::Done)
         }
         None => {
-            tell_error(sink, state, TreeError::NoHeadingToClose);
+            report_error(sink, state, TreeError::NoHeadingToClose);
             Ok(ProcessResult::Done)
         }
     }

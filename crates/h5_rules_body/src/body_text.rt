@@ -10,8 +10,8 @@ use h5_interface::TreeSink;
 use h5_state::{State, Turn, set_frameset_ok_by_text};
 use h5_tables::{ProcessResult, SplitStatus};
 
-/// A text: formatting elements that were closed are made anew, it is appended, and the frameset flag goes off where it
-/// isn't blank. It answers an `AllocError` where memory is refused.
+/// A text: active formatting elements are reconstructed, the text is inserted, and the frameset-ok flag is set to "not
+/// ok" if the text isn't all whitespace.
 pub fn in_body_text<S: TreeSink>(
     sink: &mut S,
     state: &mut State<S::Handle>,

@@ -8,11 +8,11 @@ use super::opens::open_control;
 use h5_insertion::{find_in_default_scope, generate_implied_end_tags};
 use h5_interface::TreeSink;
 use h5_names::{KnownName, LocalName};
-use h5_state::{State, Turn, pop_until_named, tell_error};
+use h5_state::{State, Turn, pop_until_named, report_error};
 use h5_tables::{ProcessResult, TreeError};
 use h5_token::Tag;
 
-/// A start tag `button`: one that is in scope is closed. It answers an `AllocError` where memory is refused.
+/// A start tag `button`: a `button` in scope is closed.
 #[tactic(auto, unfolding(h5_rules::specs::modes::InBody::in_body_start_button))]
 pub fn in_body_start_button<S: TreeSink>(
     sink: &mut S,
@@ -25,7 +25,7 @@ pub fn in_body_start_button<S: TreeSink>(
     let button = LocalName::from_known(KnownName::Button);
     match find_in_default_scope(sink, state, &button) {
         Some(place) => {
-            tell_error(sink, state, TreeError::NestedButtons);
+            report_error(sink, state, TreeError::NestedButtons);
             generate_implied_end_tags(sink, state);
             pop_until_named(sink, state, &button, place);
             open_control(sink, state, tag)?;

@@ -10,7 +10,7 @@ use h5_names::{Namespace, namespaces};
 use h5_state::{State, Turn};
 use h5_token::Tag;
 
-// An element in a namespace, after formatting elements that were closed were made anew.
+// An element in a namespace, after active formatting elements are reconstructed.
 fn in_body_start_foreign<S: TreeSink>(
     sink: &mut S,
     state: &mut State<S::Handle>,

@@ -14,20 +14,19 @@ use h5_interface::TreeSink;
 use h5_names::{KnownName, LocalName};
 use h5_state::{
     State, Turn, current_node, has_form, has_open_template, is_current_html, is_node_in_scope,
-    pop_until_named, take_form, tell_error,
+    pop_until_named, report_error, take_form,
 };
 use h5_tables::{ProcessResult, TreeError};
 use h5_token::Tag;
 
-/// A start tag `form`: it is ignored where there is a form element, and no template is open. It answers an `AllocError`
-/// where memory is refused.
+/// A start tag `form`; it is ignored if there is a form element and no template is open.
 #[tactic(auto, unfolding(h5_rules::specs::modes::InBody::in_body_start_form))]
 pub fn in_body_start_form<S: TreeSink>(sink: &mut S, state: &mut State<S::Handle>, tag: Tag) -> Turn
     requires { IsSound S.TreeSink sink.old state.old }
     ensures { TakesTag S.TreeSink in_body_start_form tag sink.old state.old sink.new state.new result }
 {
     if has_form(sink, state) && !has_open_template(sink, state) {
-        tell_error(sink, state, TreeError::NestedForms);
+        report_error(sink, state, TreeError::NestedForms);
         Ok(ProcessResult::Done)
     } else {
         let expected = close_p_element_in_button_scope(sink, state);
@@ -37,7 +36,7 @@ pub fn in_body_start_form<S: TreeSink>(sink: &mut S, state: &mut State<S::Handle
     }
 }
 
-// The form element isn't one any more, and leaves the stack, where it is in scope.
+// Clears the form element, and removes it from the stack if it is in scope.
 #[tactic(auto, unfolding(h5_rules::specs::modes::InBody::close_the_form))]
 fn close_form_element<S: TreeSink>(sink: &mut S, state: &mut State<S::Handle>, tag: Tag) -> Turn
     requires sound { IsSound S.TreeSink sink.old state.old }
@@ -46,11 +45,11 @@ fn close_form_element<S: TreeSink>(sink: &mut S, state: &mut State<S::Handle>, t
 {
     let _ = tag;
     let Some(form) = take_form(sink, state) else {
-        tell_error(sink, state, TreeError::NoFormElementToClose);
+        report_error(sink, state, TreeError::NoFormElementToClose);
         return Ok(ProcessResult::Done);
     };
     if !is_node_in_scope(sink, state, &form) {
-        tell_error(sink, state, TreeError::FormElementOutOfScope);
+        report_error(sink, state, TreeError::FormElementOutOfScope);
         return Ok(ProcessResult::Done);
     }
     generate_implied_end_tags(sink, state);
@@ -61,7 +60,7 @@ fn close_form_element<S: TreeSink>(sink: &mut S, state: &mut State<S::Handle>, t
     Ok(ProcessResult::Done)
 }
 
-// In a template, an open HTML `form` is closed, where one is in scope.
+// In a template, the open HTML `form` is closed, if one is in scope.
 #[tactic(auto, unfolding(h5_rules::specs::modes::InBody::close_open_form))]
 fn close_open_form<S: TreeSink>(sink: &mut S, state: &mut State<S::Handle>, tag: Tag) -> Turn
     requires { IsSound S.TreeSink sink.old state.old }
@@ -78,14 +77,13 @@ fn close_open_form<S: TreeSink>(sink: &mut S, state: &mut State<S::Handle>, tag:
             Ok(ProcessResult::Done)
         }
         None => {
-            tell_error(sink, state, TreeError::NoFormToClose);
+            report_error(sink, state, TreeError::NoFormToClose);
             Ok(ProcessResult::Done)
         }
     }
 }
 
-/// An end tag `form`: it closes the form element, wherever that stands in scope, and in a template the open one that is
-/// in scope.
+/// An end tag `form`: it closes the form element, wherever it is in scope; in a template, the open `form` in scope.
 #[tactic(auto, unfolding(h5_rules::specs::modes::InBody::in_body_end_form))]
 pub fn in_body_end_form<S: TreeSink>(sink: &mut S, state: &mut State<S::Handle>, tag: Tag) -> Turn
     requires sound { IsSound S.TreeSink sink.old state.old }

@@ -17,12 +17,12 @@ use h5_insertion::{
 };
 use h5_interface::TreeSink;
 use h5_names::{Attribute, KnownName, LocalName};
-use h5_state::{State, Turn, in_scope_named, set_frameset_not_ok, tell_error, unexpected_tag};
+use h5_state::{State, Turn, in_scope_named, report_error, set_frameset_not_ok, unexpected_tag};
 use h5_tables::{ProcessResult, TreeError};
 use h5_token::Tag;
 use std::alloc::AllocError;
 
-// An `a` isn't expected where one is listed.
+// An `a` is a parse error if one is listed.
 fn check_a<S: TreeSink>(sink: &mut S, state: &State<S::Handle>, tag: &Tag)
     ensures told { TellsErrors S.TreeSink sink.old sink.new state.now }
     ensures noted { is_named_listed (codes "a") (world_of S.TreeSink sink.old state.now) ≡ true → 0 < errors_of S.TreeSink sink.new }
@@ -34,7 +34,7 @@ fn check_a<S: TreeSink>(sink: &mut S, state: &State<S::Handle>, tag: &Tag)
     }
 }
 
-// A start tag `a`: one that is listed is closed, and a formatting element follows.
+// A start tag `a`: a listed one is closed, and a formatting element follows.
 pub(crate) fn in_body_start_a<S: TreeSink>(
     sink: &mut S,
     state: &mut State<S::Handle>,
@@ -52,7 +52,7 @@ pub(crate) fn in_body_start_a<S: TreeSink>(
     Ok(ProcessResult::Done)
 }
 
-// A `nobr` in scope is closed, and what is closed with it is made anew.
+// A `nobr` in scope is closed, and active formatting elements are reconstructed again.
 #[tactic(auto, unfolding(h5_rules::specs::formatting::AdoptionAgency::handle_misnested_nobr_tags))]
 fn handle_misnested_nobr_tags<S: TreeSink>(
     sink: &mut S,
@@ -66,7 +66,7 @@ fn handle_misnested_nobr_tags<S: TreeSink>(
     ensures sound { IsSound S.TreeSink sink.new state.new }
 {
     if in_scope_named(sink, state, KnownName::Nobr) {
-        tell_error(sink, state, TreeError::NestedNobr);
+        report_error(sink, state, TreeError::NestedNobr);
         let nobr = LocalName::from_known(KnownName::Nobr);
         adoption_agency(sink, state, &nobr)?;
         reconstruct_active_formatting_elements(sink, state)
@@ -75,7 +75,7 @@ fn handle_misnested_nobr_tags<S: TreeSink>(
     }
 }
 
-// A start tag `nobr`: one that is in scope is closed, and a formatting element follows.
+// A start tag `nobr`: one in scope is closed, and a formatting element follows.
 pub(crate) fn in_body_start_nobr<S: TreeSink>(
     sink: &mut S,
     state: &mut State<S::Handle>,
@@ -107,7 +107,7 @@ pub(crate) fn in_body_start_formatting<S: TreeSink>(
     Ok(ProcessResult::Done)
 }
 
-// An end tag isn't expected where it closes more than the current node.
+// An end tag is a parse error if it closes more than the current node.
 fn error_unless_closing_one<S: TreeSink>(sink: &mut S, state: &State<S::Handle>, tag: &Tag)
     requires { IsSound S.TreeSink sink.old state.now }
     ensures told { TellsErrors S.TreeSink sink.old sink.new state.now }
@@ -135,7 +135,7 @@ pub(crate) fn in_body_end_formatting<S: TreeSink>(
     Ok(ProcessResult::Done)
 }
 
-// An element that isn't open, after which no frameset may come.
+// An element that isn't pushed; the frameset-ok flag is set to "not ok".
 fn insert_leaf<S: TreeSink>(
     sink: &mut S,
     state: &mut State<S::Handle>,
@@ -155,7 +155,7 @@ fn insert_leaf<S: TreeSink>(
     Ok(())
 }
 
-// A start tag `area`, `br`, `embed`, `img`, `keygen` or `wbr`: an element that isn't open.
+// A start tag `area`, `br`, `embed`, `img`, `keygen` or `wbr`: an element that isn't pushed.
 pub(crate) fn in_body_start_void<S: TreeSink>(
     sink: &mut S,
     state: &mut State<S::Handle>,
@@ -169,7 +169,7 @@ pub(crate) fn in_body_start_void<S: TreeSink>(
     Ok(ProcessResult::DoneAckSelfClosing)
 }
 
-// An end tag `br`, which is taken for a start tag without attributes.
+// An end tag `br`, which is handled as a start tag without attributes.
 #[cold]
 pub(crate) fn in_body_end_br<S: TreeSink>(
     sink: &mut S,

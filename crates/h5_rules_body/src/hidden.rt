@@ -1,18 +1,18 @@
-//! Inputs that aren't seen.
+//! Hidden inputs.
 ghost use Rattle.std.specs.Prelude.{◌≡◌};
 ghost use Rattle.h5_names.specs.AttributeText.{attribute_text, attribute_texts};
 ghost use Rattle.h5_rules.specs.modes.Shared.{is_type, is_type_hidden};
 
 use h5_names::{Attribute, KnownName};
 
-// Whether an attribute is `type`, in no namespace.
+// The attribute is `type`, in no namespace.
 fn is_type(attribute: &Attribute) -> bool
     ensures { result ≡ is_type (attribute_text attribute.now) }
 {
     attribute.name.ns.as_str().is_empty() && attribute.name.local.is(KnownName::TypeName)
 }
 
-/// Whether the first attribute `type` is `hidden`, in any case of ASCII letters.
+/// Returns true if the first attribute `type` is `hidden`, in any case of ASCII letters.
 pub fn is_type_hidden(attrs: &[Attribute]) -> bool
     ensures { result ≡ is_type_hidden (attribute_texts attrs.now) }
 {

@@ -48,13 +48,13 @@ use h5_rules_head::{
 use h5_state::{
     State, Turn, check_body_end, find_before_special, generate_implied_end_except,
     has_body_in_scope, has_body_second, has_open_template, is_current_html, is_frameset_ok,
-    is_in_quirks, pop_until_named, set_again, set_frameset_not_ok, set_mode, tell_error,
+    is_in_quirks, pop_until_named, report_error, set_again, set_frameset_not_ok, set_mode,
     unexpected, unexpected_tag,
 };
 use h5_tables::{InsertionMode, ProcessResult, Token, TreeError};
 use h5_token::{Tag, TagKind};
 
-// A start tag `body`: the body gets the attributes that it lacks.
+// A start tag `body`: the body gets the attributes that it doesn't have.
 #[cold]
 #[tactic(auto, unfolding(h5_rules::specs::modes::InBody::in_body_start_body))]
 fn in_body_start_body<S: TreeSink>(sink: &mut S, state: &mut State<S::Handle>, tag: Tag) -> Turn
@@ -71,7 +71,7 @@ fn in_body_start_body<S: TreeSink>(sink: &mut S, state: &mut State<S::Handle>, t
     }
 }
 
-// A start tag `frameset`: where the body may still be taken back, it takes the place of the body.
+// A start tag `frameset`: it replaces the body, if that is still possible.
 #[cold]
 #[tactic(auto, unfolding(h5_rules::specs::modes::InBody::in_body_start_frameset))]
 fn in_body_start_frameset<S: TreeSink>(sink: &mut S, state: &mut State<S::Handle>, tag: Tag) -> Turn
@@ -103,7 +103,7 @@ fn in_body_end_body<S: TreeSink>(sink: &mut S, state: &mut State<S::Handle>, tag
         set_mode(sink, state, InsertionMode::AfterBody);
         Ok(ProcessResult::Done)
     } else {
-        tell_error(sink, state, TreeError::BodyEndTagWithoutBody);
+        report_error(sink, state, TreeError::BodyEndTagWithoutBody);
         Ok(ProcessResult::Done)
     }
 }
@@ -120,12 +120,12 @@ fn in_body_end_html<S: TreeSink>(sink: &mut S, state: &mut State<S::Handle>, tag
         set_again(sink, state, Token::Tag(tag));
         Ok(ProcessResult::Reprocess(InsertionMode::AfterBody))
     } else {
-        tell_error(sink, state, TreeError::HtmlEndTagWithoutBody);
+        report_error(sink, state, TreeError::HtmlEndTagWithoutBody);
         Ok(ProcessResult::Done)
     }
 }
 
-// An end tag that closes another element than the current node isn't expected.
+// An end tag is a parse error if it closes an element other than the current node.
 fn check_nesting<S: TreeSink>(sink: &mut S, state: &State<S::Handle>, tag: &Tag)
     requires { IsSound S.TreeSink sink.old state.now }
     ensures told { TellsErrors S.TreeSink sink.old sink.new state.now }
@@ -137,7 +137,7 @@ fn check_nesting<S: TreeSink>(sink: &mut S, state: &State<S::Handle>, tag: &Tag)
     }
 }
 
-// Any other end tag: it closes the open element of its name, where no special element comes before.
+// Any other end tag: it closes the open element of its name, if no special element is newer.
 #[tactic(auto, unfolding(h5_rules::specs::modes::InBody::in_body_end_other))]
 fn in_body_end_other<S: TreeSink>(sink: &mut S, state: &mut State<S::Handle>, tag: Tag) -> Turn
     requires { IsSound S.TreeSink sink.old state.old }
@@ -152,13 +152,13 @@ fn in_body_end_other<S: TreeSink>(sink: &mut S, state: &mut State<S::Handle>, ta
             Ok(ProcessResult::Done)
         }
         None => {
-            tell_error(sink, state, TreeError::SpecialElementBeforeTheOneToClose);
+            report_error(sink, state, TreeError::SpecialElementBeforeTheOneToClose);
             Ok(ProcessResult::Done)
         }
     }
 }
 
-// Any other start tag: an element is inserted, after formatting elements that were closed were made anew.
+// Any other start tag: an element is inserted, after active formatting elements are reconstructed.
 fn in_body_start_other<S: TreeSink>(sink: &mut S, state: &mut State<S::Handle>, tag: Tag) -> Turn
     requires { IsSound S.TreeSink sink.old state.old }
     ensures { TakesTag S.TreeSink in_body_start_other tag sink.old state.old sink.new state.new result }
@@ -169,7 +169,7 @@ fn in_body_start_other<S: TreeSink>(sink: &mut S, state: &mut State<S::Handle>, 
     Ok(ProcessResult::Done)
 }
 
-// A start tag `table`: it closes a `p` but in quirks mode.
+// A start tag `table`: it closes a `p`, except in quirks mode.
 #[tactic(auto, unfolding(h5_rules::specs::modes::InBody::in_body_start_table))]
 fn in_body_start_table<S: TreeSink>(sink: &mut S, state: &mut State<S::Handle>, tag: Tag) -> Turn
     requires { IsSound S.TreeSink sink.old state.old }
@@ -186,7 +186,8 @@ fn in_body_start_table<S: TreeSink>(sink: &mut S, state: &mut State<S::Handle>, 
     Ok(ProcessResult::Done)
 }
 
-// Of what is put in: images, controls, elements whose content is text, annotations, MathML and SVG; and any other.
+// Start tags of inserted content: images, controls, elements whose content is text, annotations, MathML and SVG; and
+// any other.
 #[tactic(auto, unfolding(h5_rules::specs::modes::InBody::in_body_start_embedded, h5_rules::specs::modes::InBody::in_body_parts, h5_rules::specs::modes::InBody::in_body_ruby_bases, h5_rules::specs::modes::InBody::in_body_ruby_texts, h5_rules::specs::modes::InBody::in_body_ignored_starts, h5_rules::specs::modes::Shared::table_structure_names, h5_rules::specs::modes::InBody::outside_names, h5_names::specs::KnownNames::name_text))]
 fn in_body_start_embedded<S: TreeSink>(sink: &mut S, state: &mut State<S::Handle>, tag: Tag) -> Turn
     requires sound { IsSound S.TreeSink sink.old state.old }
@@ -227,7 +228,7 @@ fn in_body_start_embedded<S: TreeSink>(sink: &mut S, state: &mut State<S::Handle
     }
 }
 
-// Of lists, formatting elements, and others that stand in a text.
+// Start tags of lists, formatting elements, and other inline elements.
 #[tactic(auto, unfolding(h5_rules::specs::modes::InBody::in_body_start_inline, h5_rules::specs::modes::InBody::in_body_preformatted, h5_rules::specs::modes::InBody::list_item_names, h5_rules::specs::modes::InBody::description_names, h5_tables::specs::TagSets::formatting_names, h5_rules::specs::modes::InBody::in_body_marked, h5_rules::specs::modes::InBody::in_body_void, h5_names::specs::KnownNames::name_text))]
 fn in_body_start_inline<S: TreeSink>(sink: &mut S, state: &mut State<S::Handle>, tag: Tag) -> Turn
     requires sound { IsSound S.TreeSink sink.old state.old }
@@ -274,7 +275,7 @@ fn in_body_start_inline<S: TreeSink>(sink: &mut S, state: &mut State<S::Handle>,
     }
 }
 
-// Start tags, by their names: of the page and its blocks.
+// Start tags, by their names; here of the page and its blocks.
 #[tactic(auto, unfolding(h5_rules::specs::modes::InBody::in_body_start_blocks, h5_rules::specs::modes::Shared::head_start_names, h5_tables::specs::TagSets::block_start_names, h5_tables::specs::TagSets::heading_names, h5_names::specs::KnownNames::name_text))]
 fn in_body_start_tag<S: TreeSink>(sink: &mut S, state: &mut State<S::Handle>, tag: Tag) -> Turn
     requires sound { IsSound S.TreeSink sink.old state.old }
@@ -330,7 +331,7 @@ fn in_body_start_tag<S: TreeSink>(sink: &mut S, state: &mut State<S::Handle>, ta
     }
 }
 
-// Of paragraphs, lists, headings, formatting elements, and any other.
+// End tags of paragraphs, lists, headings, formatting elements, and any other.
 #[tactic(auto, unfolding(h5_rules::specs::modes::InBody::in_body_end_inline, h5_rules::specs::modes::InBody::list_item_names, h5_rules::specs::modes::InBody::description_names, h5_tables::specs::TagSets::heading_names, h5_tables::specs::TagSets::formatting_names, h5_rules::specs::modes::InBody::in_body_marked, h5_names::specs::KnownNames::name_text))]
 fn in_body_end_inline<S: TreeSink>(sink: &mut S, state: &mut State<S::Handle>, tag: Tag) -> Turn
     requires sound { IsSound S.TreeSink sink.old state.old }
@@ -370,7 +371,7 @@ fn in_body_end_inline<S: TreeSink>(sink: &mut S, state: &mut State<S::Handle>, t
     }
 }
 
-// End tags, by their names: of the page and its blocks.
+// End tags, by their names; here of the page and its blocks.
 #[tactic(auto, unfolding(h5_rules::specs::modes::InBody::in_body_end_blocks, h5_tables::specs::TagSets::block_end_names, h5_names::specs::KnownNames::name_text))]
 fn in_body_end_tag<S: TreeSink>(sink: &mut S, state: &mut State<S::Handle>, tag: Tag) -> Turn
     requires sound { IsSound S.TreeSink sink.old state.old }
@@ -412,7 +413,7 @@ fn in_body_end_tag<S: TreeSink>(sink: &mut S, state: &mut State<S::Handle>, tag:
     }
 }
 
-/// A turn of a tag in the body.
+/// A turn of a tag in "in body".
 #[tactic(auto, using(h5_rules::proofs::rows::KnownRuleLaws::in_body_start_known, h5_rules::proofs::rows::KnownRuleLaws::in_body_end_known), unfolding(h5_rules::specs::modes::InBody::in_body_tag))]
 #[inline(always)]
 pub fn in_body_tag<S: TreeSink>(sink: &mut S, state: &mut State<S::Handle>, tag: Tag) -> Turn
@@ -426,7 +427,7 @@ pub fn in_body_tag<S: TreeSink>(sink: &mut S, state: &mut State<S::Handle>, tag:
     }
 }
 
-// The end of the file: where template insertion modes are kept, by the rules of templates.
+// The end of the file: while there are template insertion modes, by the rules of templates.
 fn in_body_eof<S: TreeSink>(sink: &mut S, state: &mut State<S::Handle>) -> Turn
     requires { IsSound S.TreeSink sink.old state.old }
     ensures { TakesToken S.TreeSink in_body Token.Eof sink.old state.old sink.new state.new result }
@@ -438,7 +439,7 @@ fn in_body_eof<S: TreeSink>(sink: &mut S, state: &mut State<S::Handle>) -> Turn
     Ok(ProcessResult::Done)
 }
 
-/// A turn in the body.
+/// A turn in "in body".
 #[inline(always)]
 pub fn step_in_body<S: TreeSink>(sink: &mut S, state: &mut State<S::Handle>, token: Token) -> Turn
     requires sound { IsSound S.TreeSink sink.old state.old }

@@ -1,4 +1,4 @@
-//! Elements without content, in forms and beside them (HTML standard, section 13.2.6.4.7).
+//! Elements without content, of forms and others (HTML standard, section 13.2.6.4.7).
 ghost use Rattle.std.specs.Prelude.{◌&&◌, ◌<◌, ◌∷◌, ◌≡◌, OnOk, codes, false, true};
 ghost use Rattle.h5_names.specs.AttributeText.{attribute_texts};
 ghost use Rattle.h5_rules.specs.modes.InBody.{has_option_in_scope, in_body_start_hr, in_body_start_image, in_body_start_input, in_body_start_part, named_in_scope, unless_hidden};
@@ -17,13 +17,13 @@ use h5_insertion::{
 use h5_interface::TreeSink;
 use h5_names::{KnownName, LocalName};
 use h5_state::{
-    State, Turn, in_scope_named, pop_until_named, set_frameset_not_ok, tell_error, unexpected_tag,
+    State, Turn, in_scope_named, pop_until_named, report_error, set_frameset_not_ok, unexpected_tag,
 };
 use h5_tables::{ProcessResult, TreeError};
 use h5_token::Tag;
 use std::alloc::AllocError;
 
-/// A start tag `image`, which is taken for `img`. It answers an `AllocError` where memory is refused.
+/// A start tag `image`, which is handled as `img`.
 #[cold]
 pub fn in_body_start_image<S: TreeSink>(
     sink: &mut S,
@@ -41,7 +41,7 @@ pub fn in_body_start_image<S: TreeSink>(
     Ok(ProcessResult::DoneAckSelfClosing)
 }
 
-/// A start tag `param`, `source` or `track`. It answers an `AllocError` where memory is refused.
+/// A start tag `param`, `source` or `track`.
 pub fn in_body_start_part<S: TreeSink>(sink: &mut S, state: &mut State<S::Handle>, tag: Tag) -> Turn
     requires { IsSound S.TreeSink sink.old state.old }
     ensures { TakesTag S.TreeSink in_body_start_part tag sink.old state.old sink.new state.new result }
@@ -51,7 +51,7 @@ pub fn in_body_start_part<S: TreeSink>(sink: &mut S, state: &mut State<S::Handle
     Ok(ProcessResult::DoneAckSelfClosing)
 }
 
-// An `input`, after which no frameset may come, unless it is hidden.
+// An `input`; unless it is hidden, the frameset-ok flag is set to "not ok".
 fn insert_input<S: TreeSink>(
     sink: &mut S,
     state: &mut State<S::Handle>,
@@ -73,7 +73,7 @@ fn insert_input<S: TreeSink>(
     Ok(())
 }
 
-/// A start tag `input`: a `select` in scope is closed. It answers an `AllocError` where memory is refused.
+/// A start tag `input`: a `select` in scope is closed.
 #[tactic(auto, unfolding(h5_rules::specs::modes::InBody::in_body_start_input))]
 pub fn in_body_start_input<S: TreeSink>(
     sink: &mut S,
@@ -98,7 +98,7 @@ pub fn in_body_start_input<S: TreeSink>(
     }
 }
 
-// In a `select`, no option is expected to be open where a rule begins.
+// If a `select` is in scope, an open option is a parse error at an `hr`.
 fn check_rule<S: TreeSink>(sink: &mut S, state: &State<S::Handle>, in_select: bool)
     requires { IsSound S.TreeSink sink.old state.now }
     ensures told { TellsErrors S.TreeSink sink.old sink.new state.now }
@@ -106,12 +106,11 @@ fn check_rule<S: TreeSink>(sink: &mut S, state: &State<S::Handle>, in_select: bo
     ensures quiet { (in_select && has_option_in_scope (names_of (world_of S.TreeSink sink.old state.now))) ≡ false → errors_of S.TreeSink sink.new ≡ errors_of S.TreeSink sink.old }
 {
     if in_select && is_option_in_scope(sink, state) {
-        tell_error(sink, state, TreeError::HrInOption);
+        report_error(sink, state, TreeError::HrInOption);
     }
 }
 
-/// A start tag `hr`: a `p` in button scope is closed, and, in a `select`, what has an implied end. It answers an
-/// `AllocError` where memory is refused.
+/// A start tag `hr`: a `p` in button scope is closed and, if a `select` is in scope, elements with implied end tags.
 pub fn in_body_start_hr<S: TreeSink>(sink: &mut S, state: &mut State<S::Handle>, tag: Tag) -> Turn
     requires { IsSound S.TreeSink sink.old state.old }
     ensures { TakesTag S.TreeSink in_body_start_hr tag sink.old state.old sink.new state.new result }

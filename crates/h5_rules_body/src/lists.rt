@@ -1,4 +1,4 @@
-//! Items of lists in the body (HTML standard, section 13.2.6.4.7).
+//! List items in the body (HTML standard, section 13.2.6.4.7).
 ghost use Rattle.std.specs.Prelude.{◌<◌, ◌∷◌, ◌≡◌, [], false, length, true};
 ghost use Rattle.h5_tables.specs.TagSets.{is_html_named};
 ghost use Rattle.h5_rules.specs.stack.Scope.{cut_through, is_implied_but};
@@ -23,7 +23,7 @@ use h5_state::{
 use h5_tables::ProcessResult;
 use h5_token::Tag;
 
-// A start tag `li`, or `dd` or `dt`: it closes the item of its kind that is open, and is a block then.
+// A start tag `li`, `dd` or `dt`: it closes the open item of its kind, and is then handled as a block.
 pub(crate) fn in_body_start_item<S: TreeSink>(
     sink: &mut S,
     state: &mut State<S::Handle>,
@@ -43,7 +43,7 @@ pub(crate) fn in_body_start_item<S: TreeSink>(
     Ok(ProcessResult::Done)
 }
 
-// The element of this name that stands at this place is closed.
+// Closes the element of this name, which is at this place.
 fn close_item<S: TreeSink>(
     sink: &mut S,
     state: &mut State<S::Handle>,

@@ -1,5 +1,5 @@
-//! Elements that keep formatting elements apart, by a marker (HTML standard, section 13.2.6.4.7, tags "applet",
-//! "marquee" and "object").
+//! Elements that separate formatting elements by a marker (HTML standard, section 13.2.6.4.7, tags "applet", "marquee"
+//! and "object").
 ghost use Rattle.std.specs.Prelude.{◌<◌, ◌∷◌, ◌≡◌, [], false, length, true};
 ghost use Rattle.h5_tables.specs.TagSets.{is_html_named, is_implied, is_one_of};
 ghost use Rattle.h5_rules.specs.stack.Scope.{cut_through};
@@ -40,7 +40,7 @@ pub(crate) fn in_body_start_marked<S: TreeSink>(
     Ok(ProcessResult::Done)
 }
 
-// The element of this name that stands at this place is closed, and what was listed in it leaves the list.
+// Closes the element of this name, which is at this place, and clears the list up to its marker.
 fn close_marked<S: TreeSink>(
     sink: &mut S,
     state: &mut State<S::Handle>,

@@ -1,4 +1,4 @@
-//! What the start tags of elements in forms do last.
+//! The last steps of several start tags.
 ghost use Rattle.std.specs.Prelude.{◌≡◌, OnOk};
 ghost use Rattle.h5_token.specs.TokenText.{tag_text};
 ghost use Rattle.h5_rules.specs.Changes.{set_frameset_not_ok};
@@ -12,8 +12,8 @@ use h5_state::{State, set_frameset_not_ok};
 use h5_token::Tag;
 use std::alloc::AllocError;
 
-/// An element for a tag is inserted, after formatting elements that were closed were made anew. After an Err those that
-/// were made stay.
+/// Inserts an element for a tag, after active formatting elements are reconstructed. Fails with `AllocError` if an
+/// allocation fails; the elements made until then stay.
 pub(crate) fn open_element<S: TreeSink>(
     sink: &mut S,
     state: &mut State<S::Handle>,
@@ -30,7 +30,7 @@ pub(crate) fn open_element<S: TreeSink>(
     insert_element(sink, state, tag.name, attrs, tag.had_duplicate_attributes)
 }
 
-/// The same, after which no frameset may come.
+/// As `open_element`; the frameset-ok flag is set to "not ok".
 pub(crate) fn open_control<S: TreeSink>(
     sink: &mut S,
     state: &mut State<S::Handle>,

@@ -15,8 +15,7 @@ use h5_tables::ProcessResult;
 use h5_token::states::RawKind;
 use h5_token::{Tag, TokenSinkResult};
 
-/// A start tag `plaintext`: all that follows is text. It answers an `AllocError` where memory is refused, as each of
-/// these does.
+/// A start tag `plaintext`: all that follows is text.
 pub fn in_body_start_plaintext<S: TreeSink>(
     sink: &mut S,
     state: &mut State<S::Handle>,
@@ -33,7 +32,7 @@ pub fn in_body_start_plaintext<S: TreeSink>(
     Ok(ProcessResult::Answer)
 }
 
-/// A start tag `textarea`: a newline that comes first in it is dropped.
+/// A start tag `textarea`: a newline at the start of its text is dropped.
 pub fn in_body_start_textarea<S: TreeSink>(
     sink: &mut S,
     state: &mut State<S::Handle>,
@@ -47,7 +46,7 @@ pub fn in_body_start_textarea<S: TreeSink>(
     parse_raw_data(sink, state, tag, RawKind::Rcdata)
 }
 
-/// A start tag `xmp`: a `p` that is in button scope is closed before it.
+/// A start tag `xmp`: a `p` in button scope is closed first.
 pub fn in_body_start_xmp<S: TreeSink>(sink: &mut S, state: &mut State<S::Handle>, tag: Tag) -> Turn
     requires { IsSound S.TreeSink sink.old state.old }
     ensures { TakesTag S.TreeSink in_body_start_xmp tag sink.old state.old sink.new state.new result }
@@ -87,7 +86,7 @@ pub fn in_body_start_noembed<S: TreeSink>(
     parse_raw_data(sink, state, tag, RawKind::Rawtext)
 }
 
-/// A start tag `noscript`: where scripts run its content is text.
+/// A start tag `noscript`: if scripting is enabled, its content is text.
 #[tactic(auto, unfolding(h5_rules::specs::modes::InBody::in_body_start_noscript))]
 pub fn in_body_start_noscript<S: TreeSink>(
     sink: &mut S,

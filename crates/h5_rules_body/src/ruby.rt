@@ -17,7 +17,7 @@ use h5_state::{
 use h5_tables::ProcessResult;
 use h5_token::Tag;
 
-// A part of a `ruby` isn't expected in another element.
+// A part of a `ruby` is a parse error unless the current node is a `ruby`.
 fn check_in_ruby<S: TreeSink>(sink: &mut S, state: &State<S::Handle>, tag: &Tag)
     requires { IsSound S.TreeSink sink.old state.now }
     ensures told { TellsErrors S.TreeSink sink.old sink.new state.now }
@@ -29,7 +29,7 @@ fn check_in_ruby<S: TreeSink>(sink: &mut S, state: &State<S::Handle>, tag: &Tag)
     }
 }
 
-// The same, but for an `rtc`.
+// A part of a `ruby` is a parse error unless the current node is a `ruby` or an `rtc`.
 fn check_in_ruby_or_rtc<S: TreeSink>(sink: &mut S, state: &State<S::Handle>, tag: &Tag)
     requires { IsSound S.TreeSink sink.old state.now }
     ensures told { TellsErrors S.TreeSink sink.old sink.new state.now }
@@ -41,7 +41,7 @@ fn check_in_ruby_or_rtc<S: TreeSink>(sink: &mut S, state: &State<S::Handle>, tag
     }
 }
 
-// A start tag `rb` or `rtc`: with a `ruby` in scope implied ends are closed before.
+// A start tag `rb` or `rtc`: if a `ruby` is in scope, implied end tags are generated first.
 pub(crate) fn in_body_start_ruby_base<S: TreeSink>(
     sink: &mut S,
     state: &mut State<S::Handle>,
@@ -59,7 +59,7 @@ pub(crate) fn in_body_start_ruby_base<S: TreeSink>(
     Ok(ProcessResult::Done)
 }
 
-// A start tag `rp` or `rt`: with a `ruby` in scope implied ends but `rtc` are closed before.
+// A start tag `rp` or `rt`: if a `ruby` is in scope, implied end tags except for `rtc` are generated first.
 pub(crate) fn in_body_start_ruby_text<S: TreeSink>(
     sink: &mut S,
     state: &mut State<S::Handle>,

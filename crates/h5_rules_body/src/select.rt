@@ -1,4 +1,4 @@
-//! `select`, and what stands in it (HTML standard, section 13.2.6.4.7).
+//! `select` and its content (HTML standard, section 13.2.6.4.7).
 ghost use Rattle.std.specs.Prelude.{◌<◌, ◌||◌, ◌≡◌, MatchOption, OnOk, codes, false, option_map, true};
 ghost use Rattle.h5_interface.specs.Forest.{IsElement};
 ghost use Rattle.h5_rules.specs.modes.InBody.{copies_option, has_option_in_scope, in_body_end_option, in_body_start_optgroup, in_body_start_option, in_body_start_select, named_in_scope};
@@ -16,14 +16,14 @@ use h5_interface::TreeSink;
 use h5_names::{KnownName, LocalName};
 use h5_state::{
     State, Turn, find_before_special, generate_implied_end_except, in_scope_named, is_current_html,
-    is_select_context, pop, pop_until_named, tell_error, unexpected_tag,
+    is_select_context, pop, pop_until_named, report_error, unexpected_tag,
 };
 use h5_tables::{ProcessResult, TreeError};
 use h5_token::Tag;
 use std::alloc::AllocError;
 
-/// A start tag `select`: one that is in scope is closed, and no other is opened; it is ignored where the context is one.
-/// It answers an `AllocError` where memory is refused.
+/// A start tag `select`: one in scope is closed, and no other is opened. The tag is ignored if the context is a
+/// `select`.
 #[tactic(auto, unfolding(h5_rules::specs::modes::InBody::in_body_start_select))]
 pub fn in_body_start_select<S: TreeSink>(
     sink: &mut S,
@@ -51,7 +51,7 @@ pub fn in_body_start_select<S: TreeSink>(
     }
 }
 
-/// Whether an HTML `option` or `optgroup` is in scope.
+/// Returns true if an HTML `option` or `optgroup` is in scope.
 pub(crate) fn is_option_in_scope<S: TreeSink>(sink: &S, state: &State<S::Handle>) -> bool
     requires { IsSound S.TreeSink sink.now state.now }
     ensures { result ≡ has_option_in_scope (names_of (world_of S.TreeSink sink.now state.now)) }
@@ -60,7 +60,7 @@ pub(crate) fn is_option_in_scope<S: TreeSink>(sink: &S, state: &State<S::Handle>
         || in_scope_named(sink, state, KnownName::Optgroup)
 }
 
-// An option isn't expected where one is open.
+// An `option` is a parse error if one is open.
 fn check_option<S: TreeSink>(sink: &mut S, state: &State<S::Handle>)
     requires { IsSound S.TreeSink sink.old state.now }
     ensures told { TellsErrors S.TreeSink sink.old sink.new state.now }
@@ -68,11 +68,11 @@ fn check_option<S: TreeSink>(sink: &mut S, state: &State<S::Handle>)
     ensures quiet { named_in_scope (codes "option") (world_of S.TreeSink sink.old state.now) ≡ false → errors_of S.TreeSink sink.new ≡ errors_of S.TreeSink sink.old }
 {
     if in_scope_named(sink, state, KnownName::Option) {
-        tell_error(sink, state, TreeError::NestedOptions);
+        report_error(sink, state, TreeError::NestedOptions);
     }
 }
 
-// A group of options isn't expected where an option or a group is open.
+// An `optgroup` is a parse error if an `option` or an `optgroup` is open.
 fn check_optgroup<S: TreeSink>(sink: &mut S, state: &State<S::Handle>)
     requires { IsSound S.TreeSink sink.old state.now }
     ensures told { TellsErrors S.TreeSink sink.old sink.new state.now }
@@ -80,12 +80,12 @@ fn check_optgroup<S: TreeSink>(sink: &mut S, state: &State<S::Handle>)
     ensures quiet { has_option_in_scope (names_of (world_of S.TreeSink sink.old state.now)) ≡ false → errors_of S.TreeSink sink.new ≡ errors_of S.TreeSink sink.old }
 {
     if is_option_in_scope(sink, state) {
-        tell_error(sink, state, TreeError::NestedOptions);
+        report_error(sink, state, TreeError::NestedOptions);
     }
 }
 
-/// A start tag `option`: in a `select` it closes what has an implied end, but a group; elsewhere an option that is the
-/// current node. It answers an `AllocError` where memory is refused.
+/// A start tag `option`: if a `select` is in scope, it closes elements with implied end tags except `optgroup`;
+/// otherwise an `option` that is the current node.
 #[tactic(auto, unfolding(h5_rules::specs::modes::InBody::in_body_start_option))]
 pub fn in_body_start_option<S: TreeSink>(
     sink: &mut S,
@@ -112,8 +112,8 @@ pub fn in_body_start_option<S: TreeSink>(
     }
 }
 
-/// A start tag `optgroup`: in a `select` it closes what has an implied end; elsewhere an option that is the current
-/// node. It answers an `AllocError` where memory is refused.
+/// A start tag `optgroup`: if a `select` is in scope, it closes elements with implied end tags; otherwise an `option`
+/// that is the current node.
 #[tactic(auto, unfolding(h5_rules::specs::modes::InBody::in_body_start_optgroup))]
 pub fn in_body_start_optgroup<S: TreeSink>(
     sink: &mut S,
@@ -139,7 +139,7 @@ pub fn in_body_start_optgroup<S: TreeSink>(
     }
 }
 
-// An option is copied into `selectedcontent` elements, if there is one, and it isn't open any more. An Err leaves all.
+// Copies an option, if there is one and it isn't open any more, into `selectedcontent` elements.
 fn copy_option<S: TreeSink>(
     sink: &mut S,
     state: &State<S::Handle>,
@@ -158,8 +158,8 @@ fn copy_option<S: TreeSink>(
     }
 }
 
-/// An end tag `option`: it closes an option before which no special element comes, and the one that is the nearest to
-/// the root, where it was closed, is copied. It answers an `AllocError` where memory is refused.
+/// An end tag `option`: it closes the newest `option`, if no special element is newer. If the one that is nearest to
+/// the root was closed, it is copied.
 #[tactic(auto, unfolding(h5_rules::specs::modes::InBody::in_body_end_option))]
 pub fn in_body_end_option<S: TreeSink>(sink: &mut S, state: &mut State<S::Handle>, tag: Tag) -> Turn
     requires { IsSound S.TreeSink sink.old state.old }
@@ -177,7 +177,7 @@ pub fn in_body_end_option<S: TreeSink>(sink: &mut S, state: &mut State<S::Handle
             Ok(ProcessResult::Done)
         }
         None => {
-            tell_error(sink, state, TreeError::SpecialElementBeforeTheOneToClose);
+            report_error(sink, state, TreeError::SpecialElementBeforeTheOneToClose);
             Ok(ProcessResult::Done)
         }
     }

@@ -1,4 +1,4 @@
--- Head content after the head: what its row comes to, once the head element has left the stack again.
+-- Head content after the head: the effect of its row, after the head element was removed from the stack again.
 use Rattle.std.proofs.Common.{◌≡◌, ◌≢◌, ◌<◌, ℕ, MatchOption, None, Option, Some, option_map, codes, true, ap, sym, ◌∙◌}
 use Rattle.h5_token.specs.Reply.{reply}
 use Rattle.h5_token.specs.TokenText.{TagText}
@@ -22,7 +22,7 @@ use Rattle.h5_rules.proofs.rows.KeptLaws.{apply_append}
 use Rattle.h5_state.specs.Turn.{turn_result}
 use Rattle.h5_state.specs.declared.state.State.{State}
 
--- where no other turn is taken, how a turn ended stays while the state keeps what is answered
+-- if no other turn is taken, how a turn ended stays while the state keeps what is answered
 ends_alike : {H : Type 0} (node : H → ℕ) (t : TurnText) (result : ProcessResult) (s z : State H) (e : Ending) (v : World) → ((x : World) → next_mode e x ≡ None) → reply node z.answer ≡ reply node s.answer → EndsAs node t (turn_result result s) e v
     → EndsAs node t (turn_result result z) e v
 ends_alike node t ended.Done s z e v none same ends = ends
@@ -30,7 +30,7 @@ ends_alike node t ended.DoneAckSelfClosing s z e v none same ends = ends
 ends_alike node t (ended.Reprocess mode) s z e v none same ends = absurd (let clash : None ≡ Some mode = sym (none v) ∙ ends.0 in cc)
 ends_alike node t ended.Answer s z e v none same ends = ends ∙ ap Answers (sym same)
 
--- the row of the head, and then the head element leaves the stack, where there is one
+-- the row of the head, and then the head element leaves the stack, if there is one
 pub followed : {H : Type 0} (choices : SinkChoices) (node : H → ℕ) (tag : TagText) (w u v : World) (a b : ℕ) (result : ProcessResult) (s z : State H) (known : Option ℕ) → is_one_of head_start_names tag.name ≡ true → reply node z.answer ≡ reply node s.answer
     → known ≡ w.head → u ≡ apply_all choices (in_head_start_tag tag (push_head w)).changes (push_head w) → EndsAs node (TagTurn tag) (turn_result result s) (in_head_start_tag tag (push_head w)).ending u
     → v ≡ apply_all choices (removes_known known) u → 0 < b → Follows choices node (with_head in_head_start_tag tag w) (TagTurn tag) w v a b (turn_result result z)
@@ -46,7 +46,7 @@ followed choices node tag w u v a b result s z known name same is done ends left
       noted = λ h. told;
     }
 
--- the head element isn't the root, where there is one
+-- the head element isn't the root, if there is one
 pub apart_if_known : {H : Type 0} (node : H → ℕ) (o : Option H) (w u : World) → option_map node o ≡ w.head → ((h : ℕ) → w.head ≡ Some h → h ≢ root u) → MatchOption o (Unit {0}) (λ h. node h ≢ root u)
 apart_if_known node None w u e apart = tt
 apart_if_known node (Some h) w u e apart = apart (node h) (sym e)

@@ -1,4 +1,4 @@
--- What "after head" tells of the open elements.
+-- What "after head" says about the open elements.
 use Rattle.h5_tables.specs.declared.modes.InsertionMode.TheVariants.{AfterHead}
 use Rattle.h5_rules.specs.fitting.NamesFit.{NamesFit}
 use Rattle.h5_rules.specs.Sound.{situation_of}

@@ -56,7 +56,7 @@ fn after_head_start_frameset<S: TreeSink>(
     Ok(ProcessResult::Done)
 }
 
-// The head element, where there is one, leaves the stack, from wherever it stands.
+// Removes the head element from the stack, wherever it is, if there is one.
 fn leave_head<S: TreeSink>(sink: &mut S, state: &mut State<S::Handle>, head: &Option<S::Handle>)
     requires sound { IsSound S.TreeSink sink.old state.old }
     requires element { MatchOption head.now (Unit {0}) (λ element. IsElement (S.sees sink.old).forest (S.node element)) }
@@ -70,8 +70,8 @@ fn leave_head<S: TreeSink>(sink: &mut S, state: &mut State<S::Handle>, head: &Op
     }
 }
 
-// A start tag that goes by the rules of the head: the head element is the current node for it, and then it leaves the
-// stack, from wherever it stands.
+// A start tag that is handled by the rules of "in head": the head element is the current node for it, and is then
+// removed from the stack, wherever it is.
 #[tactic(auto, unfolding(h5_rules::specs::modes::AfterHead::with_head))]
 fn with_head<S: TreeSink>(sink: &mut S, state: &mut State<S::Handle>, tag: Tag) -> Turn
     requires sound { IsSound S.TreeSink sink.old state.old }
@@ -89,7 +89,7 @@ fn with_head<S: TreeSink>(sink: &mut S, state: &mut State<S::Handle>, tag: Tag) 
     Ok(result)
 }
 
-// Whatever else comes: a body without attributes is inserted.
+// Anything else: a body without attributes is inserted.
 fn after_head_else<S: TreeSink>(sink: &mut S, state: &mut State<S::Handle>, token: Token) -> Turn
     requires { IsSound S.TreeSink sink.old state.old }
     ensures { TakesToken S.TreeSink after_head_else token sink.old state.old sink.new state.new result }
@@ -155,7 +155,7 @@ fn after_head_tag<S: TreeSink>(sink: &mut S, state: &mut State<S::Handle>, tag: 
     }
 }
 
-/// A turn after the head, where the root alone is open, and the head element is known.
+/// A turn in "after head": only the root is open, and the head element is known.
 pub fn step_after_head<S: TreeSink>(
     sink: &mut S,
     state: &mut State<S::Handle>,

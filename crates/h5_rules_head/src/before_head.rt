@@ -24,7 +24,7 @@ fn before_head_start_head<S: TreeSink>(sink: &mut S, state: &mut State<S::Handle
     Ok(ProcessResult::Done)
 }
 
-// Whatever else comes: a head without attributes is inserted.
+// Anything else: a head without attributes is inserted.
 fn before_head_else<S: TreeSink>(sink: &mut S, state: &mut State<S::Handle>, token: Token) -> Turn
     requires { IsSound S.TreeSink sink.old state.old }
     ensures { TakesToken S.TreeSink before_head_else token sink.old state.old sink.new state.new result }
@@ -75,7 +75,7 @@ fn before_head_tag<S: TreeSink>(sink: &mut S, state: &mut State<S::Handle>, tag:
     }
 }
 
-/// A turn before the head.
+/// A turn in "before head".
 pub fn step_before_head<S: TreeSink>(
     sink: &mut S,
     state: &mut State<S::Handle>,

@@ -13,7 +13,7 @@ use h5_state::{State, Turn, set_again, set_mode};
 use h5_tables::{InsertionMode, ProcessResult, SplitStatus, Token};
 use h5_token::{Tag, TagKind};
 
-// Whatever else comes: a root without attributes is made.
+// Anything else: a root without attributes is created.
 fn before_html_else<S: TreeSink>(sink: &mut S, state: &mut State<S::Handle>, token: Token) -> Turn
     requires { IsSound S.TreeSink sink.old state.old }
     ensures { TakesToken S.TreeSink before_html_else token sink.old state.old sink.new state.new result }
@@ -73,7 +73,7 @@ fn before_html_tag<S: TreeSink>(sink: &mut S, state: &mut State<S::Handle>, tag:
     }
 }
 
-/// A turn before the root.
+/// A turn in "before html".
 pub fn step_before_html<S: TreeSink>(
     sink: &mut S,
     state: &mut State<S::Handle>,

@@ -9,7 +9,7 @@ use h5_tables::extract_a_character_encoding_from_a_meta_element;
 use h5_token::Tag;
 use std::alloc::{AllocError, Global};
 
-// Whether the value of `http-equiv` is `content-type`, in any case of ASCII letters.
+// The value of `http-equiv` is `content-type`, in any case of ASCII letters.
 fn is_content_type(value: Option<&str>) -> bool
     ensures { result ≡ is_content_type (option_copied value.entry) }
 {
@@ -19,14 +19,14 @@ fn is_content_type(value: Option<&str>) -> bool
     }
 }
 
-// What the value of `content` names.
+// The encoding that the value of `content` names.
 fn content_encoding(value: Option<&str>) -> Option<&str>
     ensures { option_copied result ≡ content_encoding (option_copied value.entry) }
 {
     extract_a_character_encoding_from_a_meta_element(value?)
 }
 
-// The encoding that the tag names, lent from it.
+// The encoding that the tag names, borrowed from it.
 #[tactic(auto, unfolding(h5_rules::specs::NamedEncoding::named_encoding))]
 fn named_encoding(tag: &Tag) -> Option<&str>
     ensures { option_copied result ≡ named_encoding (tag_text tag.now).attrs }
@@ -42,7 +42,7 @@ fn named_encoding(tag: &Tag) -> Option<&str>
     }
 }
 
-/// A copy of the encoding that the tag names, or an `AllocError` where memory is refused.
+/// Returns a copy of the encoding that the tag names. Fails with `AllocError` if an allocation fails.
 pub(crate) fn copy_named_encoding(alloc: Global, tag: &Tag) -> Result<Option<String>, AllocError>
     ensures { IfOk result (λ encoding. option_map string_bytes encoding ≡ named_encoding (tag_text tag.now).attrs) }
 {

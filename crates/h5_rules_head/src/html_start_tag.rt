@@ -1,4 +1,4 @@
-//! A start tag `html`, in any mode behind "before html" (HTML standard, section 13.2.6.4.7).
+//! A start tag `html`, in any mode after "before html" (HTML standard, section 13.2.6.4.7).
 ghost use Rattle.h5_rules.specs.modes.Shared.{in_body_start_html};
 ghost use Rattle.h5_state.specs.Steps.{IsOpen};
 ghost use Rattle.h5_state.specs.Turn.{TakesTag};
@@ -9,8 +9,7 @@ use h5_state::{State, Turn, has_open_template, unexpected_tag};
 use h5_tables::ProcessResult;
 use h5_token::Tag;
 
-/// A start tag `html`: the root gets the attributes that it lacks, unless a template is open. It answers an
-/// `AllocError` where memory is refused.
+/// A start tag `html`: the root gets the attributes that it doesn't have, unless a template is open.
 #[cold]
 #[tactic(auto, unfolding(h5_rules::specs::modes::Shared::in_body_start_html))]
 pub fn in_body_start_html<S: TreeSink>(sink: &mut S, state: &mut State<S::Handle>, tag: Tag) -> Turn

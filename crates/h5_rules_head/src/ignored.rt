@@ -8,7 +8,7 @@ use h5_state::{State, Turn, unexpected_tag};
 use h5_tables::ProcessResult;
 use h5_token::Tag;
 
-/// A tag that is ignored: a parse error is told.
+/// Ignores a tag, with a parse error.
 pub fn ignored_tag<S: TreeSink>(sink: &mut S, state: &mut State<S::Handle>, tag: Tag) -> Turn
     requires { IsSound S.TreeSink sink.old state.old }
     ensures { TakesTag S.TreeSink ignored_tag tag sink.old state.old sink.new state.new result }

@@ -55,7 +55,7 @@ fn in_head_tag<S: TreeSink>(sink: &mut S, state: &mut State<S::Handle>, tag: Tag
     }
 }
 
-/// A turn in the head.
+/// A turn in "in head".
 pub fn step_in_head<S: TreeSink>(sink: &mut S, state: &mut State<S::Handle>, token: Token) -> Turn
     requires open { IsOpen S.TreeSink sink.old state.old }
     requires text { HasText (turn_text token) }

@@ -30,7 +30,7 @@ fn in_head_noscript_end_noscript<S: TreeSink>(
     Ok(ProcessResult::Done)
 }
 
-// Whatever else comes: the `noscript` is closed.
+// Anything else: the `noscript` is closed.
 fn in_head_noscript_else<S: TreeSink>(
     sink: &mut S,
     state: &mut State<S::Handle>,
@@ -96,7 +96,7 @@ fn in_head_noscript_tag<S: TreeSink>(sink: &mut S, state: &mut State<S::Handle>,
     }
 }
 
-/// A turn in a `noscript` in the head.
+/// A turn in "in head noscript".
 pub fn step_in_head_noscript<S: TreeSink>(
     sink: &mut S,
     state: &mut State<S::Handle>,

@@ -1,4 +1,4 @@
-//! Start tags by the rules of the head, also where other modes go by them (HTML standard, section 13.2.6.4.4).
+//! Start tags by the rules of "in head", which other modes also use (HTML standard, section 13.2.6.4.4).
 ghost use Rattle.h5_rules.specs.ByName.{by_known, of_tag};
 ghost use Rattle.h5_rules.specs.modes.InHead.{in_head_else, in_head_start, in_head_start_link, in_head_start_meta, in_head_start_noscript, in_head_start_script, in_head_start_tag};
 ghost use Rattle.h5_state.specs.Steps.{IsOpen, IsSound};
@@ -27,7 +27,7 @@ fn in_head_start_link<S: TreeSink>(sink: &mut S, state: &mut State<S::Handle>, t
     Ok(ProcessResult::DoneAckSelfClosing)
 }
 
-// A start tag `meta`: the element is empty, and an encoding that the tag names is answered.
+// A start tag `meta`: the element is empty, and the encoding that the tag names, if any, is the reply.
 fn in_head_start_meta<S: TreeSink>(sink: &mut S, state: &mut State<S::Handle>, tag: Tag) -> Turn
     requires { IsSound S.TreeSink sink.old state.old }
     ensures { TakesTag S.TreeSink in_head_start_meta tag sink.old state.old sink.new state.new result }
@@ -44,7 +44,7 @@ fn in_head_start_meta<S: TreeSink>(sink: &mut S, state: &mut State<S::Handle>, t
     }
 }
 
-// A start tag `noscript`: where scripts run its content is text.
+// A start tag `noscript`: if scripting is enabled, its content is text.
 #[tactic(auto, unfolding(h5_rules::specs::modes::InHead::in_head_start_noscript))]
 fn in_head_start_noscript<S: TreeSink>(sink: &mut S, state: &mut State<S::Handle>, tag: Tag) -> Turn
     requires { IsSound S.TreeSink sink.old state.old }
@@ -69,7 +69,7 @@ fn in_head_start_script<S: TreeSink>(sink: &mut S, state: &mut State<S::Handle>,
     Ok(ProcessResult::Answer)
 }
 
-/// Whatever else comes in the head: it is closed, and the token taken after it.
+/// Anything else: the head is closed, and the token is reprocessed.
 pub fn in_head_else<S: TreeSink>(sink: &mut S, state: &mut State<S::Handle>, token: Token) -> Turn
     requires { IsOpen S.TreeSink sink.old state.old }
     ensures { TakesToken S.TreeSink in_head_else token sink.old state.old sink.new state.new result }
@@ -105,7 +105,7 @@ fn in_head_start_by_name<S: TreeSink>(sink: &mut S, state: &mut State<S::Handle>
     }
 }
 
-/// A start tag, by the rules of the head. It answers an `AllocError` where memory is refused.
+/// A start tag, by the rules of "in head".
 #[tactic(auto, using(h5_rules::proofs::rows::KnownRuleLaws::in_head_start_known), unfolding(h5_rules::specs::modes::InHead::in_head_start_tag))]
 pub fn in_head_start_tag<S: TreeSink>(sink: &mut S, state: &mut State<S::Handle>, tag: Tag) -> Turn
     requires { IsOpen S.TreeSink sink.old state.old }

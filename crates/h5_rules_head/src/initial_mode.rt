@@ -9,8 +9,7 @@ use h5_interface::{QuirksMode, TreeSink};
 use h5_state::{State, Turn, has_srcdoc, set_again, set_quirks_mode, unexpected};
 use h5_tables::{InsertionMode, ProcessResult, SplitStatus, Token};
 
-// Whatever else comes: without a doctype the document is in quirks mode, unless it is that of an `iframe` with
-// `srcdoc`.
+// Anything else: without a doctype the document is in quirks mode, unless it is that of an `iframe` with `srcdoc`.
 #[tactic(auto, unfolding(h5_rules::specs::modes::InitialMode::initial_else))]
 fn initial_else<S: TreeSink>(sink: &mut S, state: &mut State<S::Handle>, token: Token) -> Turn
     requires { IsSound S.TreeSink sink.old state.old }
@@ -27,7 +26,7 @@ fn initial_else<S: TreeSink>(sink: &mut S, state: &mut State<S::Handle>, token: 
     }
 }
 
-/// A turn at the start.
+/// A turn in "initial".
 pub fn step_initial<S: TreeSink>(sink: &mut S, state: &mut State<S::Handle>, token: Token) -> Turn
     requires sound { IsSound S.TreeSink sink.old state.old }
     requires text { HasText (turn_text token) }

@@ -14,7 +14,8 @@ use h5_tables::{InsertionMode, ProcessResult};
 use h5_token::states::RawKind;
 use h5_token::{Tag, TokenSinkResult};
 
-/// The mode is kept, to go back to it, and left for a text; the reader is to be told of which kind that is.
+/// Saves the mode as the one to return to, and enters the mode "text"; the reply gives the kind of text to the
+/// tokenizer.
 pub fn to_raw_text_mode<S: TreeSink>(sink: &S, state: &mut State<S::Handle>, kind: RawKind)
     requires { IsSound S.TreeSink sink.now state.old }
     ensures world { world_of S.TreeSink sink.now state.new ≡ set_mode Text (save_mode (world_of S.TreeSink sink.now state.old)) }
@@ -26,7 +27,7 @@ pub fn to_raw_text_mode<S: TreeSink>(sink: &S, state: &mut State<S::Handle>, kin
     set_answer(sink, state, TokenSinkResult::RawData(kind));
 }
 
-/// A start tag of an element whose content is text of this kind. It answers an `AllocError` where memory is refused.
+/// A start tag of an element whose content is text of this kind.
 pub fn parse_raw_data<S: TreeSink>(
     sink: &mut S,
     state: &mut State<S::Handle>,

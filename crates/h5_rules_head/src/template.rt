@@ -1,4 +1,4 @@
-//! Templates, also where other modes go by the rules of the head (HTML standard, section 13.2.6.4.4, start and end tags
+//! Templates, by rules of "in head" that other modes also use (HTML standard, section 13.2.6.4.4, start and end tags
 //! whose tag name is "template", and section 13.2.6.4.16, the end of the file).
 ghost use Rattle.std.specs.Prelude.{◌≡◌, [], ◌∷◌, codes};
 ghost use Rattle.h5_rules.specs.modes.InHead.{in_head_end_template, in_head_start_template, template_eof};
@@ -13,8 +13,8 @@ use h5_insertion::{
 use h5_interface::TreeSink;
 use h5_names::{KnownName, LocalName};
 use h5_state::{
-    State, Turn, find_named, has_open_template, is_current_html, pop_until_named, set_again,
-    set_frameset_not_ok, set_mode, tell_error, unexpected_tag,
+    State, Turn, find_named, has_open_template, is_current_html, pop_until_named, report_error,
+    set_again, set_frameset_not_ok, set_mode, unexpected_tag,
 };
 use h5_tables::{InsertionMode, ProcessResult, Token, TreeError};
 use h5_token::Tag;
@@ -36,7 +36,7 @@ pub(crate) fn in_head_start_template<S: TreeSink>(
     Ok(ProcessResult::Done)
 }
 
-// The first template, from the current node on, is closed: its marker and its mode leave, and the mode is reset.
+// Closes the newest template, without notifying the sink: removes its marker and its mode, and resets the mode.
 fn close_template<S: TreeSink>(sink: &S, state: &mut State<S::Handle>)
     requires { IsSound S.TreeSink sink.now state.old }
     ensures world { world_of S.TreeSink sink.now state.new ≡ apply_all S.choices (PopUntilNamed (codes "template") ∷ ClearActiveFormattingToMarker ∷ PopTemplateMode ∷ ResetMode ∷ []) (world_of S.TreeSink sink.now state.old) }
@@ -51,7 +51,7 @@ fn close_template<S: TreeSink>(sink: &S, state: &mut State<S::Handle>)
     set_mode(sink, state, mode);
 }
 
-/// An end tag `template`: where none is open it is ignored.
+/// An end tag `template`; it is ignored if no template is open.
 #[tactic(auto, unfolding(h5_rules::specs::modes::InHead::in_head_end_template))]
 pub fn in_head_end_template<S: TreeSink>(
     sink: &mut S,
@@ -73,8 +73,8 @@ pub fn in_head_end_template<S: TreeSink>(
     Ok(ProcessResult::Done)
 }
 
-/// The end of the file, where template insertion modes are kept: a template that is open is closed, which is a parse
-/// error, and the end of the file comes again.
+/// The end of the file, while there are template insertion modes: an open template is closed, which is a parse error,
+/// and the token is reprocessed.
 #[tactic(auto, unfolding(h5_rules::specs::modes::InHead::template_eof))]
 pub fn template_eof<S: TreeSink>(sink: &mut S, state: &mut State<S::Handle>, token: Token) -> Turn
     requires { IsSound S.TreeSink sink.old state.old }
@@ -83,7 +83,7 @@ pub fn template_eof<S: TreeSink>(sink: &mut S, state: &mut State<S::Handle>, tok
     if !has_open_template(sink, state) {
         return Ok(ProcessResult::Done);
     }
-    tell_error(sink, state, TreeError::EofInTemplate);
+    report_error(sink, state, TreeError::EofInTemplate);
     close_template(sink, state);
     let mode = reset_insertion_mode(sink, state);
     set_again(sink, state, token);

@@ -9,13 +9,13 @@ use h5_insertion::append_text;
 use h5_interface::TreeSink;
 use h5_names::{KnownName, LocalName};
 use h5_state::{
-    State, Turn, current_node, is_current_html, mark_started, pop, saved_mode, set_again,
-    set_answer, set_mode, tell_error, unexpected,
+    State, Turn, current_node, is_current_html, mark_started, pop, report_error, saved_mode,
+    set_again, set_answer, set_mode, unexpected,
 };
 use h5_tables::{ProcessResult, Token, TreeError};
 use h5_token::{Tag, TagKind, TokenSinkResult};
 
-// An end tag: the text's element is closed, and where it is a script's the reader is told of the element.
+// An end tag: the text's element is closed; for a script, the reply gives the element to the tokenizer.
 #[tactic(auto, unfolding(h5_rules::specs::Changes::pop))]
 fn text_end<S: TreeSink>(sink: &mut S, state: &mut State<S::Handle>, tag: Tag) -> Turn
     requires { IsOpen S.TreeSink sink.old state.old }
@@ -33,13 +33,13 @@ fn text_end<S: TreeSink>(sink: &mut S, state: &mut State<S::Handle>, tag: Tag) -
     }
 }
 
-// The end of the input: a script that is open is marked as started, and the text's element is closed.
+// The end of the file: a script that is open is marked as started, and the text's element is closed.
 #[tactic(auto, unfolding(h5_rules::specs::Changes::pop, h5_rules::specs::Changes::mark_started))]
 fn text_eof<S: TreeSink>(sink: &mut S, state: &mut State<S::Handle>) -> Turn
     requires { IsOpen S.TreeSink sink.old state.old }
     ensures { FollowsRule S.TreeSink (text_mode EofTurn) EofTurn sink.old state.old sink.new state.new result }
 {
-    tell_error(sink, state, TreeError::EofInText);
+    report_error(sink, state, TreeError::EofInText);
     if is_current_html(sink, state, &LocalName::from_known(KnownName::Script)) {
         mark_started(sink, state);
     }
@@ -49,8 +49,7 @@ fn text_eof<S: TreeSink>(sink: &mut S, state: &mut State<S::Handle>) -> Turn
     Ok(ProcessResult::Reprocess(mode))
 }
 
-/// A turn in a text. Start tags, comments and nulls don't come there; it is a parse error if one does.
-/// It answers an `AllocError` where memory is refused.
+/// A turn in "text". Start tags, comments and nulls shouldn't reach it; each is a parse error.
 pub fn step_text_mode<S: TreeSink>(sink: &mut S, state: &mut State<S::Handle>, token: Token) -> Turn
     requires open { IsOpen S.TreeSink sink.old state.old }
     requires text { HasText (turn_text token) }

@@ -1,4 +1,4 @@
--- What a token in foreign content came to, as contracts say it.
+-- Steps of a token in foreign content, as contracts describe them.
 use Rattle.std.specs.Prelude.{◌≡◌, ◌<◌, ℕ, Bool, true, false, List, Result, IfOk}
 use Rattle.std.specs.declared.alloc.AllocError.{AllocError}
 use Rattle.h5_interface.specs.SinkChoices.{SinkChoices}
@@ -15,13 +15,13 @@ use Rattle.h5_state.specs.declared.state.State.{State}
 use Rattle.h5_rules_rest.specs.declared.step.ForeignStep.{ForeignStep as Came}
 use Rattle.h5_rules_rest.specs.declared.step.ForeignStep.TheVariants as came
 
--- the token had a row, and the turn followed it
+-- the token has a row, and the turn followed it
 pub record EndedBy {H : Type 0} (choices : SinkChoices) (node : H → ℕ) (step : ForeignStep) (t : TurnText) (old new : World) (old_errors new_errors : ℕ) (result : TurnResult H) : Type 0 where
   pub row : Row
   pub is : step ≡ HasRow row
   pub follows : Follows choices node row t old new old_errors new_errors result
 
--- it goes by the rules of the current mode, and these changes were made before, with a parse error or quietly
+-- the token is left to the rules of the current mode, after these changes, with a parse error or quietly
 pub record LeftToMode (choices : SinkChoices) (step : ForeignStep) (t : TurnText) (old new : World) (old_errors new_errors : ℕ) (again : Token) : Type 0 where
   pub changes : List Change
   pub is_quiet : Bool
@@ -35,7 +35,7 @@ abbrev pub CameTo : {H : Type 0} → SinkChoices → (H → ℕ) → ForeignStep
 CameTo choices node step t old new old_errors new_errors state (came.Ended result) = EndedBy choices node step t old new old_errors new_errors (turn_result result state)
 CameTo choices node step t old new old_errors new_errors state (came.ByMode again) = LeftToMode choices step t old new old_errors new_errors again
 
--- a token took this step, unless it was refused memory; what there is then is sound, too
+-- a token took this step, if no allocation failed; the state is sound in any case
 pub record Steps {S H O : Type 0} (law : Ghosts S H O) (step : World → ForeignStep) (t : TurnText) (old_sink : S) (old_state : State H) (new_sink : S) (new_state : State H) (result : Result Came AllocError) : Type 0 where
   pub came : IfOk result (λ r. CameTo law.choices law.node (step (world_of law old_sink old_state)) t (world_of law old_sink old_state) (world_of law new_sink new_state) (errors_of law old_sink) (errors_of law new_sink) new_state r)
   pub sound : IsSound law new_sink new_state

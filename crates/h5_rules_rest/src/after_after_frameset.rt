@@ -28,7 +28,7 @@ fn after_after_frameset_tag<S: TreeSink>(
     }
 }
 
-/// A turn after all that.
+/// A turn in "after after frameset".
 pub fn step_after_after_frameset<S: TreeSink>(
     sink: &mut S,
     state: &mut State<S::Handle>,

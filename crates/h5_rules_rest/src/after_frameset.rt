@@ -13,7 +13,7 @@ use h5_state::{State, Turn, set_mode, unexpected};
 use h5_tables::{InsertionMode, ProcessResult, SplitStatus, Token};
 use h5_token::{Tag, TagKind};
 
-/// Start tags, by their names, here and in the mode after this one.
+/// Start tags, by their names, in this mode and in "after after frameset".
 #[tactic(auto, unfolding(h5_rules::specs::modes::AfterFrameset::after_frameset_start, h5_names::specs::KnownNames::name_text))]
 pub(crate) fn after_frameset_start_tag<S: TreeSink>(
     sink: &mut S,
@@ -67,7 +67,7 @@ fn after_frameset_tag<S: TreeSink>(sink: &mut S, state: &mut State<S::Handle>, t
     }
 }
 
-/// A turn after a frameset.
+/// A turn in "after frameset".
 pub fn step_after_frameset<S: TreeSink>(
     sink: &mut S,
     state: &mut State<S::Handle>,

@@ -17,7 +17,7 @@ use h5_state::{State, open_count, unexpected_tag};
 use h5_tables::{ProcessResult, Token};
 use h5_token::Tag;
 
-// Whether an end tag of this name is expected: the current node has it, or is the root.
+// The current node has the name of the end tag, or is the root; otherwise there is a parse error.
 fn is_expected_end<S: TreeSink>(sink: &S, state: &State<S::Handle>, local: &LocalName) -> bool
     requires { IsSound S.TreeSink sink.now state.now }
     ensures { result ≡ is_expected_end local.now (names_of (world_of S.TreeSink sink.now state.now)) }
@@ -29,7 +29,7 @@ fn is_expected_end<S: TreeSink>(sink: &S, state: &State<S::Handle>, local: &Loca
     }
 }
 
-// An end tag that isn't expected is an error.
+// Reports a parse error unless the current node has the name of the end tag, or is the root.
 fn check_end_tag<S: TreeSink>(sink: &mut S, state: &State<S::Handle>, tag: &Tag)
     requires { IsSound S.TreeSink sink.old state.now }
     ensures told { TellsErrors S.TreeSink sink.old sink.new state.now }
@@ -41,7 +41,7 @@ fn check_end_tag<S: TreeSink>(sink: &mut S, state: &State<S::Handle>, tag: &Tag)
     }
 }
 
-// Any other end tag: an element of its name is closed, unless one of HTML, or the root, comes first.
+// Any other end tag: the newest open element of its name is closed, unless an element of HTML or the root is newer.
 fn foreign_end_other<S: TreeSink>(
     sink: &mut S,
     state: &mut State<S::Handle>,

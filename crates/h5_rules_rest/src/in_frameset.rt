@@ -12,7 +12,7 @@ use h5_insertion::{
 use h5_interface::TreeSink;
 use h5_names::KnownName;
 use h5_rules_head::{ignored_tag, in_body_start_html, in_head_start_tag};
-use h5_state::{State, Turn, is_fragment, pop, set_mode, tell_error, unexpected, unexpected_tag};
+use h5_state::{State, Turn, is_fragment, pop, report_error, set_mode, unexpected, unexpected_tag};
 use h5_tables::{InsertionMode, ProcessResult, SplitStatus, Token, TreeError};
 use h5_token::{Tag, TagKind};
 
@@ -44,7 +44,7 @@ fn in_frameset_start_frame<S: TreeSink>(
     Ok(ProcessResult::DoneAckSelfClosing)
 }
 
-// An end tag `frameset`: behind the outermost one, in a document, the mode is left.
+// An end tag `frameset`: after the outermost one, in a document, the mode is left.
 #[tactic(auto, unfolding(h5_rules::specs::modes::InFrameset::in_frameset_end_frameset))]
 fn in_frameset_end_frameset<S: TreeSink>(
     sink: &mut S,
@@ -104,18 +104,18 @@ fn in_frameset_tag<S: TreeSink>(sink: &mut S, state: &mut State<S::Handle>, tag:
     }
 }
 
-// The end of the file: where a frameset is open, this is a parse error.
+// The end of the file; it is a parse error if a frameset is open.
 fn in_frameset_eof<S: TreeSink>(sink: &mut S, state: &mut State<S::Handle>) -> Turn
     requires { IsSound S.TreeSink sink.old state.old }
     ensures { TakesToken S.TreeSink in_frameset Token.Eof sink.old state.old sink.new state.new result }
 {
     if !is_root_alone(sink, state) {
-        tell_error(sink, state, TreeError::EofInFrameset);
+        report_error(sink, state, TreeError::EofInFrameset);
     }
     Ok(ProcessResult::Done)
 }
 
-/// A turn in a frameset.
+/// A turn in "in frameset".
 pub fn step_in_frameset<S: TreeSink>(
     sink: &mut S,
     state: &mut State<S::Handle>,

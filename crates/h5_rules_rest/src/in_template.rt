@@ -15,7 +15,7 @@ use h5_state::{State, Turn, set_again, unexpected};
 use h5_tables::{InsertionMode, ProcessResult, Token};
 use h5_token::{Tag, TagKind};
 
-// The template insertion mode gives way to another, by which the token goes.
+// Replaces the template insertion mode by another, in which the token is reprocessed.
 fn in_template_as<S: TreeSink>(
     sink: &mut S,
     state: &mut State<S::Handle>,
@@ -84,7 +84,7 @@ fn in_template_tag<S: TreeSink>(sink: &mut S, state: &mut State<S::Handle>, tag:
     }
 }
 
-/// A turn in a template.
+/// A turn in "in template".
 pub fn step_in_template<S: TreeSink>(
     sink: &mut S,
     state: &mut State<S::Handle>,

@@ -1,16 +1,15 @@
-//! The rules of the modes that stand apart from a page's body and its tables: templates and framesets (HTML standard, sections
-//! 13.2.6.4.16, 13.2.6.4.18, 13.2.6.4.19 and 13.2.6.4.21), and the rules for tokens in foreign content (section 13.2.6.5).
+//! The rules of the modes of templates and framesets (HTML standard, sections 13.2.6.4.16, 13.2.6.4.18, 13.2.6.4.19 and
+//! 13.2.6.4.21), and the rules for tokens in foreign content (section 13.2.6.5).
 //!
 //! Each mode has a file with its name: `in_template`, `in_frameset`, `after_frameset` and `after_after_frameset`. The
-//! tags `template` themselves are in `h5_rules_head`. Of foreign content, `step` has the turn of a token: what becomes of it,
-//! or that it goes by the rules of the insertion mode. `start_tags` has start tags, with the names that SVG adjusts, and
-//! `end_tags` end tags. `names` tells which tags leave foreign content. Whether a token is for foreign content is asked in
-//! `h5_insertion`.
+//! tags `template` themselves are in `h5_rules_head`. Of foreign content, `step` has the turn of a token: its result,
+//! or that the token is left to the rules of the insertion mode. `start_tags` and `end_tags` have the tags, and `names`
+//! the names of the tags that leave foreign content. The test for foreign content is in `h5_insertion`.
 //!
-//! It stands on `h5_rules_head` and `h5_rules_body`, by whose rules tokens go, and on `h5_insertion`; the builder stands
-//! on it. The contract of each step is the rule of its mode. The rules are in `h5_rules`: begin with
-//! `specs/modes/InFrameset.antt` there and `src/in_frameset.rt`, then `specs/modes/ForeignContent.antt` there,
-//! `specs/ForeignSteps.antt`, what a token came to, and `src/step.rt`.
+//! The crate depends on `h5_rules_head`, `h5_rules_body` and `h5_insertion`. The contract of each step is the rule of
+//! its mode, followed unless an allocation fails; then the step returns `AllocError`, and the state is sound. Begin
+//! with `specs/modes/InFrameset.antt` of `h5_rules` and `src/in_frameset.rt`, then read
+//! `specs/modes/ForeignContent.antt` of `h5_rules`, `specs/ForeignSteps.antt` and `src/step.rt`.
 #![tactic(auto)]
 
 mod after_after_frameset;

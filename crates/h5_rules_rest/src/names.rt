@@ -10,7 +10,7 @@ ghost use Rattle.h5_rules.specs.modes.ForeignContent.{breaks_out, foreign_breako
 use h5_names::{Attribute, KnownName, LocalName};
 use h5_token::Tag;
 
-// Whether a start tag of a name that HTML knows so leaves foreign content, whatever its attributes.
+// A start tag of this known name leaves foreign content, regardless of its attributes.
 #[tactic(auto, unfolding(h5_rules::specs::modes::ForeignContent::foreign_breakout_names, h5_names::specs::KnownNames::name_text))]
 fn is_known_breakout(known: KnownName) -> bool
     ensures { result ≡ is_one_of foreign_breakout_names (name_text known) }
@@ -64,14 +64,14 @@ fn is_known_breakout(known: KnownName) -> bool
     }
 }
 
-// Whether a start tag of this name leaves foreign content, whatever its attributes.
+// A start tag of this name leaves foreign content, regardless of its attributes.
 fn is_breakout(name: &LocalName) -> bool
     ensures { result ≡ is_one_of foreign_breakout_names name.now }
 {
     is_known_breakout(name.known())
 }
 
-// Whether an end tag of this name does.
+// An end tag of this name leaves foreign content.
 #[tactic(auto, unfolding(h5_rules::specs::modes::ForeignContent::foreign_breakout_end_names))]
 pub(crate) fn is_breakout_end(name: &LocalName) -> bool
     ensures { result ≡ is_one_of foreign_breakout_end_names name.now }
@@ -79,7 +79,7 @@ pub(crate) fn is_breakout_end(name: &LocalName) -> bool
     name.is(KnownName::Br) || name.is(KnownName::P)
 }
 
-// Whether an attribute of a `font` makes it leave foreign content.
+// A `font` with this attribute leaves foreign content.
 #[tactic(auto, unfolding(h5_rules::specs::modes::ForeignContent::font_attribute_names))]
 fn is_font_attribute(attribute: &Attribute) -> bool
     ensures { result ≡ is_font_attribute (attribute_text attribute.now) }
@@ -101,7 +101,7 @@ fn has_font_attribute(attrs: &[Attribute]) -> bool
     any_is_font_attribute(attrs)
 }
 
-// Whether a start tag leaves foreign content.
+// A start tag leaves foreign content.
 #[tactic(auto, unfolding(h5_rules::specs::modes::ForeignContent::breaks_out))]
 pub(crate) fn breaks_out(tag: &Tag) -> bool
     ensures { result ≡ breaks_out (tag_text tag.now) }

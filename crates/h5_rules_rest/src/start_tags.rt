@@ -18,7 +18,7 @@ use h5_tables::{Token, adjust_svg_tag_name};
 use h5_token::Tag;
 use std::alloc::AllocError;
 
-// A tag that leaves foreign content: it goes by the rules of the mode then.
+// A tag that leaves foreign content, and is then left to the rules of the mode.
 pub(crate) fn unexpected_in_foreign_content<S: TreeSink>(
     sink: &mut S,
     state: &mut State<S::Handle>,
@@ -47,7 +47,7 @@ fn adjusted_namespace<S: TreeSink>(
     }
 }
 
-// A tag with the name that its element has in a namespace.
+// The tag with the name that its element has in a namespace.
 #[tactic(auto, unfolding(h5_rules::specs::insertion::Foreign::adjusted_local, h5_tables::specs::TagSets::svg_namespace))]
 fn with_adjusted_name(namespace: &Namespace, tag: Tag) -> Tag
     ensures { tag_text result ≡ record (tag_text tag) { name = adjusted_local namespace.now tag.name } }

@@ -17,16 +17,16 @@ use h5_tables::{ProcessResult, SplitStatus, Token};
 use h5_token::{Tag, TagKind};
 use std::alloc::AllocError;
 
-/// What a token in foreign content comes to, unless memory was refused.
+/// The result of a token in foreign content, unless an allocation failed.
 #[derive(Drop)]
 pub enum ForeignStep {
-    /// The turn ended so.
+    /// The turn ended.
     Ended(ProcessResult),
-    /// The token, which is the one that came, goes by the rules of the current insertion mode, in the same turn.
+    /// The token, unchanged, is left to the rules of the current insertion mode, in the same turn.
     ByMode(Token),
 }
 
-// A text: it is appended, and the frameset flag goes off where it isn't blank.
+// A text is inserted, and the frameset-ok flag is set to "not ok" if the text isn't all whitespace.
 fn foreign_text<S: TreeSink>(
     sink: &mut S,
     state: &mut State<S::Handle>,
@@ -43,7 +43,7 @@ fn foreign_text<S: TreeSink>(
     Ok(ProcessResult::Done)
 }
 
-// A null, for which U+FFFD stands.
+// A null, which U+FFFD replaces.
 fn foreign_null<S: TreeSink>(sink: &mut S, state: &mut State<S::Handle>) -> Turn
     requires { IsSound S.TreeSink sink.old state.old }
     ensures { FollowsRule S.TreeSink (λ w. errs (AppendText replacement_text ∷ []) IsDone) NullTurn sink.old state.old sink.new state.new result }
@@ -68,8 +68,7 @@ fn foreign_tag<S: TreeSink>(
     }
 }
 
-/// A turn of a token in foreign content. After an Err elements that were open still are, but for those that the token
-/// leaves.
+/// A turn of a token in foreign content. Fails with `AllocError` if an allocation fails; the state is then sound.
 pub fn step_foreign<S: TreeSink>(
     sink: &mut S,
     state: &mut State<S::Handle>,

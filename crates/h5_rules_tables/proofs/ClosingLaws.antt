@@ -1,4 +1,4 @@
--- Captions and cells are no implied ends, so they stay open where implied ends are popped.
+-- Captions and cells have no implied end tags, so they stay open when implied end tags are generated.
 use Rattle.std.proofs.Common.{◌≡◌, ℕ, Bool, true, false, List, [], ◌∷◌, codes, refl}
 use Rattle.h5_names.specs.declared.qualified.QualName.{QualName}
 use Rattle.h5_tables.specs.TagSets.{cell_names, implied_names, is_cell, is_html_named, is_implied, is_one_of}

@@ -17,7 +17,7 @@ use Rattle.h5_rules.proofs.modes.FosterLaws.{foster_follows}
 use Rattle.h5_state.specs.Turn.{turn_result}
 use Rattle.h5_state.specs.declared.state.State.{State}
 
--- the flag is no part of what the body needs
+-- the body doesn't need the flag
 pub ready_foster : (w : World) → HasHtmlRoot w → HasHtmlRoot (set_foster true w)
 unfolding names_of
 ready_foster w k = record { sound = k.sound; lists = k.lists; root = k.root }
@@ -29,7 +29,7 @@ kept_result ended.DoneAckSelfClosing s z again answer = refl
 kept_result (ended.Reprocess mode) s z again answer = ap (λ x. results.Reprocess mode x) (sym again)
 kept_result ended.Answer s z again answer = ap (λ x. results.Answer x) (sym answer)
 
--- a turn by the body that wasn't refused memory is one with the flag on
+-- a turn by the rules of "in body" in which no allocation failed is one with the flag on
 pub foster_if_ok : {H : Type 0} (choices : SinkChoices) (node : H → ℕ) (t : TurnText) (w v u : World) (a b c d : ℕ) (s z : State H) (result : Result ProcessResult AllocError) → z.again ≡ s.again → z.answer ≡ s.answer
     → IfOk result (λ r. Follows choices node (in_body t (set_foster true w)) t (set_foster true w) v a b (turn_result r s)) → u ≡ set_foster false v
     → 0 < a → d ≡ b → IfOk result (λ r. Follows choices node (foster in_body t w) t w u c d (turn_result r z))

@@ -1,11 +1,11 @@
--- A text that was kept back, and is taken.
+-- Buffered text that is taken.
 use Rattle.std.proofs.Common.{◌≡◌, ℕ, List, [], ◌∷◌, refl}
 use Rattle.h5_rules.specs.Changes.{take_pending_text}
 use Rattle.h5_rules.specs.modes.InTableText.{pending_text}
 use Rattle.h5_rules.specs.Sound.{HasHtmlRoot}
 use Rattle.h5_rules.specs.World.{World, names_of}
 
--- it is no part of what the body needs
+-- the body doesn't need it
 pub ready_taken : (w : World) → HasHtmlRoot w → HasHtmlRoot (take_pending_text w)
 unfolding names_of
 ready_taken w k = record { sound = k.sound; lists = k.lists; root = k.root }

@@ -11,7 +11,8 @@ use h5_rules_body::step_in_body;
 use h5_state::{State, Turn, set_foster, unexpected};
 use h5_tables::Token;
 
-/// A token that doesn't belong into a table goes by the body, and what it puts into the table goes before it.
+/// Handles a token that doesn't belong in a table by the rules of "in body" with foster parenting on: nodes that would
+/// go into the table go before it.
 pub(crate) fn foster_parent_in_body<S: TreeSink>(
     sink: &mut S,
     state: &mut State<S::Handle>,

@@ -27,7 +27,7 @@ use h5_state::{
 use h5_tables::{InsertionMode, ProcessResult, Token};
 use h5_token::{Tag, TagKind};
 
-// The caption that stands at this place is closed.
+// Closes the caption, which is at this place.
 fn close_the_caption<S: TreeSink>(sink: &mut S, state: &mut State<S::Handle>, place: usize)
     requires sound { IsSound S.TreeSink sink.old state.old }
     requires place { place ≡ length (cut_through (is_html_named (codes "caption")) (names_of (world_of S.TreeSink sink.old state.old)) (world_of S.TreeSink sink.old state.old).stack) }
@@ -63,7 +63,7 @@ fn in_caption_end_caption<S: TreeSink>(sink: &mut S, state: &mut State<S::Handle
     }
 }
 
-// What closes the caption goes by the table then.
+// A tag that closes the caption, and is reprocessed in "in table".
 #[tactic(auto, unfolding(h5_rules::specs::modes::InCaption::close_the_caption))]
 fn in_caption_close<S: TreeSink>(sink: &mut S, state: &mut State<S::Handle>, tag: Tag) -> Turn
     requires { IsSound S.TreeSink sink.old state.old }
@@ -139,7 +139,7 @@ fn in_caption_tag<S: TreeSink>(sink: &mut S, state: &mut State<S::Handle>, tag: 
     }
 }
 
-/// A turn in a caption.
+/// A turn in "in caption".
 pub fn step_in_caption<S: TreeSink>(
     sink: &mut S,
     state: &mut State<S::Handle>,

@@ -49,7 +49,7 @@ fn in_cell_end_cell<S: TreeSink>(sink: &mut S, state: &mut State<S::Handle>, tag
     }
 }
 
-// "Close the cell": the first cell, from the current node on, is closed, and the tag goes by the row.
+// "Close the cell": the newest cell is closed, and the tag is reprocessed in "in row".
 fn close_the_cell<S: TreeSink>(sink: &mut S, state: &mut State<S::Handle>, tag: Tag) -> Turn
     requires { IsSound S.TreeSink sink.old state.old }
     ensures { TakesTag S.TreeSink (λ t. close_the_cell) tag sink.old state.old sink.new state.new result }
@@ -82,7 +82,8 @@ fn in_cell_start_structure<S: TreeSink>(
     }
 }
 
-// An end tag `table`, `tbody`, `tfoot`, `thead` or `tr`: it closes the cell where table scope has what it names.
+// An end tag `table`, `tbody`, `tfoot`, `thead` or `tr`: it closes the cell if an element of its name is in table
+// scope.
 #[tactic(auto, unfolding(h5_rules::specs::modes::InCell::in_cell_end_structure))]
 fn in_cell_end_structure<S: TreeSink>(sink: &mut S, state: &mut State<S::Handle>, tag: Tag) -> Turn
     requires { IsSound S.TreeSink sink.old state.old }
@@ -137,7 +138,7 @@ fn in_cell_start_tag<S: TreeSink>(sink: &mut S, state: &mut State<S::Handle>, ta
     }
 }
 
-/// A turn of a tag in a cell.
+/// A turn of a tag in "in cell".
 #[tactic(auto, using(h5_rules::proofs::rows::KnownRuleLaws::in_cell_start_known, h5_rules::proofs::rows::KnownRuleLaws::in_cell_end_known), unfolding(h5_rules::specs::modes::InCell::in_cell_tag))]
 pub fn in_cell_tag<S: TreeSink>(sink: &mut S, state: &mut State<S::Handle>, tag: Tag) -> Turn
     requires sound { IsSound S.TreeSink sink.old state.old }
@@ -150,7 +151,7 @@ pub fn in_cell_tag<S: TreeSink>(sink: &mut S, state: &mut State<S::Handle>, tag:
     }
 }
 
-/// A turn in a cell.
+/// A turn in "in cell".
 pub fn step_in_cell<S: TreeSink>(sink: &mut S, state: &mut State<S::Handle>, token: Token) -> Turn
     requires sound { IsSound S.TreeSink sink.old state.old }
     requires ready { HasHtmlRoot (world_of S.TreeSink sink.old state.old) }

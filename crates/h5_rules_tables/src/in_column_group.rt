@@ -51,7 +51,7 @@ fn in_column_group_end_colgroup<S: TreeSink>(
     }
 }
 
-// Anything else: the column group is closed, and the token goes by the table.
+// Anything else: the column group is closed, and the token is reprocessed in "in table".
 #[tactic(auto, unfolding(h5_rules::specs::modes::InColumnGroup::close_the_column_group))]
 fn in_column_group_else<S: TreeSink>(
     sink: &mut S,
@@ -120,7 +120,7 @@ fn in_column_group_tag<S: TreeSink>(sink: &mut S, state: &mut State<S::Handle>, 
     }
 }
 
-/// A turn in a column group.
+/// A turn in "in column group".
 pub fn step_in_column_group<S: TreeSink>(
     sink: &mut S,
     state: &mut State<S::Handle>,

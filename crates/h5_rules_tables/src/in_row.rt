@@ -48,7 +48,7 @@ fn in_row_end_row<S: TreeSink>(sink: &mut S, state: &mut State<S::Handle>, tag: 
     }
 }
 
-// What closes the row goes by the row group then.
+// A tag that closes the row, and is reprocessed in "in table body".
 #[tactic(auto, unfolding(h5_rules::specs::modes::InRow::close_the_row))]
 fn in_row_close<S: TreeSink>(sink: &mut S, state: &mut State<S::Handle>, tag: Tag) -> Turn
     requires sound { IsSound S.TreeSink sink.old state.old }
@@ -66,7 +66,7 @@ fn in_row_close<S: TreeSink>(sink: &mut S, state: &mut State<S::Handle>, tag: Ta
     }
 }
 
-// An end tag `tbody`, `tfoot` or `thead`: it closes the row where table scope has what it names.
+// An end tag `tbody`, `tfoot` or `thead`: it closes the row if an element of its name is in table scope.
 #[tactic(auto, unfolding(h5_rules::specs::modes::InRow::in_row_end_section))]
 fn in_row_end_section<S: TreeSink>(sink: &mut S, state: &mut State<S::Handle>, tag: Tag) -> Turn
     requires sound { IsSound S.TreeSink sink.old state.old }
@@ -125,7 +125,7 @@ fn in_row_end_tag<S: TreeSink>(sink: &mut S, state: &mut State<S::Handle>, tag: 
     }
 }
 
-/// A turn of a tag in a row.
+/// A turn of a tag in "in row".
 #[tactic(auto, using(h5_rules::proofs::rows::KnownRuleLaws::in_row_start_known, h5_rules::proofs::rows::KnownRuleLaws::in_row_end_known), unfolding(h5_rules::specs::modes::InRow::in_row_tag))]
 pub fn in_row_tag<S: TreeSink>(sink: &mut S, state: &mut State<S::Handle>, tag: Tag) -> Turn
     requires sound { IsSound S.TreeSink sink.old state.old }
@@ -138,7 +138,7 @@ pub fn in_row_tag<S: TreeSink>(sink: &mut S, state: &mut State<S::Handle>, tag: 
     }
 }
 
-/// A turn in a row.
+/// A turn in "in row".
 pub fn step_in_row<S: TreeSink>(sink: &mut S, state: &mut State<S::Handle>, token: Token) -> Turn
     requires sound { IsSound S.TreeSink sink.old state.old }
     requires ready { HasHtmlRoot (world_of S.TreeSink sink.old state.old) }

@@ -26,7 +26,7 @@ use h5_state::{
 use h5_tables::{InsertionMode, ProcessResult, Token};
 use h5_token::{Tag, TagKind};
 
-/// A text of the table begins: the mode is kept, and the one by which the text is taken is given.
+/// Begins a text of the table: saves the mode, and returns the one in which the text is handled.
 pub fn begin_table_text<S: TreeSink>(sink: &S, state: &mut State<S::Handle>) -> InsertionMode
     requires { IsSound S.TreeSink sink.now state.old }
     ensures mode { result ≡ InTableText }
@@ -36,7 +36,7 @@ pub fn begin_table_text<S: TreeSink>(sink: &S, state: &mut State<S::Handle>) -> 
     InsertionMode::InTableText
 }
 
-// A text, or a null: it is kept back until the next token, where the current node is a part of the table.
+// A text, or a null: if the current node is a part of the table, it is buffered until the next token.
 #[tactic(auto, unfolding(h5_rules::specs::modes::InTable::in_table_text_or_null))]
 fn process_chars_in_table<S: TreeSink>(
     sink: &mut S,
@@ -86,7 +86,7 @@ fn in_table_start_colgroup<S: TreeSink>(
     Ok(ProcessResult::Done)
 }
 
-// A start tag `col`: a column group is made for it.
+// A start tag `col`: a column group is inserted for it.
 fn in_table_start_col<S: TreeSink>(sink: &mut S, state: &mut State<S::Handle>, tag: Tag) -> Turn
     requires { IsSound S.TreeSink sink.old state.old }
     ensures { TakesTag S.TreeSink in_table_start_col tag sink.old state.old sink.new state.new result }
@@ -109,7 +109,7 @@ fn in_table_start_section<S: TreeSink>(sink: &mut S, state: &mut State<S::Handle
     Ok(ProcessResult::Done)
 }
 
-// A start tag `td`, `th` or `tr`: a row group is made for it.
+// A start tag `td`, `th` or `tr`: a row group is inserted for it.
 fn in_table_start_row_part<S: TreeSink>(
     sink: &mut S,
     state: &mut State<S::Handle>,
@@ -124,7 +124,7 @@ fn in_table_start_row_part<S: TreeSink>(
     Ok(ProcessResult::Reprocess(InsertionMode::InTableBody))
 }
 
-// A start tag `table`: the table ends, and the mode is that of what it stands in.
+// A start tag `table`: the table is closed, and the mode is reset.
 #[tactic(auto, unfolding(h5_rules::specs::modes::InTable::in_table_start_table))]
 fn in_table_start_table<S: TreeSink>(sink: &mut S, state: &mut State<S::Handle>, tag: Tag) -> Turn
     requires { IsSound S.TreeSink sink.old state.old }
@@ -143,7 +143,7 @@ fn in_table_start_table<S: TreeSink>(sink: &mut S, state: &mut State<S::Handle>,
     }
 }
 
-// A start tag `input`: one that isn't seen stays in the table.
+// A start tag `input`: a hidden one stays in the table.
 #[tactic(auto, unfolding(h5_rules::specs::modes::InTable::in_table_start_input))]
 fn in_table_start_input<S: TreeSink>(sink: &mut S, state: &mut State<S::Handle>, tag: Tag) -> Turn
     requires sound { IsSound S.TreeSink sink.old state.old }
@@ -160,7 +160,7 @@ fn in_table_start_input<S: TreeSink>(sink: &mut S, state: &mut State<S::Handle>,
     }
 }
 
-// A start tag `form`: the form element, without content.
+// A start tag `form`: the form element, which isn't pushed.
 #[tactic(auto, unfolding(h5_rules::specs::modes::InTable::in_table_start_form))]
 fn in_table_start_form<S: TreeSink>(sink: &mut S, state: &mut State<S::Handle>, tag: Tag) -> Turn
     requires { IsSound S.TreeSink sink.old state.old }
@@ -246,7 +246,7 @@ fn in_table_end_tag<S: TreeSink>(sink: &mut S, state: &mut State<S::Handle>, tag
     }
 }
 
-/// A turn of a tag in a table.
+/// A turn of a tag in "in table".
 #[tactic(auto, using(h5_rules::proofs::rows::KnownRuleLaws::in_table_start_known, h5_rules::proofs::rows::KnownRuleLaws::in_table_end_known), unfolding(h5_rules::specs::modes::InTable::in_table_tag))]
 pub fn in_table_tag<S: TreeSink>(sink: &mut S, state: &mut State<S::Handle>, tag: Tag) -> Turn
     requires sound { IsSound S.TreeSink sink.old state.old }
@@ -259,7 +259,7 @@ pub fn in_table_tag<S: TreeSink>(sink: &mut S, state: &mut State<S::Handle>, tag
     }
 }
 
-/// A turn in a table.
+/// A turn in "in table".
 pub fn step_in_table<S: TreeSink>(sink: &mut S, state: &mut State<S::Handle>, token: Token) -> Turn
     requires sound { IsSound S.TreeSink sink.old state.old }
     requires ready { HasHtmlRoot (world_of S.TreeSink sink.old state.old) }

@@ -36,7 +36,7 @@ fn in_table_body_start_row<S: TreeSink>(
     Ok(ProcessResult::Done)
 }
 
-// A start tag `td` or `th`: a row is made for it.
+// A start tag `td` or `th`: a row is inserted for it.
 fn in_table_body_start_cell<S: TreeSink>(
     sink: &mut S,
     state: &mut State<S::Handle>,
@@ -74,7 +74,7 @@ fn in_table_body_end_section<S: TreeSink>(
     }
 }
 
-/// Whether an element is a row group.
+/// A row group passes.
 #[derive(Clone, Copy)]
 struct TableSection;
 
@@ -100,7 +100,7 @@ impl NewestTest for TableSection {
     }
 }
 
-// What closes the row group goes by the table then.
+// A tag that closes the row group, and is reprocessed in "in table".
 #[tactic(auto, unfolding(h5_rules::specs::modes::InTableBody::in_table_body_close))]
 fn in_table_body_close<S: TreeSink>(sink: &mut S, state: &mut State<S::Handle>, tag: Tag) -> Turn
     requires sound { IsSound S.TreeSink sink.old state.old }
@@ -166,7 +166,7 @@ fn in_table_body_end_tag<S: TreeSink>(sink: &mut S, state: &mut State<S::Handle>
     }
 }
 
-/// A turn of a tag in a table body.
+/// A turn of a tag in "in table body".
 #[tactic(auto, using(h5_rules::proofs::rows::KnownRuleLaws::in_table_body_start_known, h5_rules::proofs::rows::KnownRuleLaws::in_table_body_end_known), unfolding(h5_rules::specs::modes::InTableBody::in_table_body_tag))]
 pub fn in_table_body_tag<S: TreeSink>(sink: &mut S, state: &mut State<S::Handle>, tag: Tag) -> Turn
     requires sound { IsSound S.TreeSink sink.old state.old }
@@ -179,7 +179,7 @@ pub fn in_table_body_tag<S: TreeSink>(sink: &mut S, state: &mut State<S::Handle>
     }
 }
 
-/// A turn in a row group.
+/// A turn in "in table body".
 pub fn step_in_table_body<S: TreeSink>(
     sink: &mut S,
     state: &mut State<S::Handle>,

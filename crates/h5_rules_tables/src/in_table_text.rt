@@ -17,7 +17,8 @@ use h5_state::{PendingText, State, Turn, saved_mode, set_again, unexpected};
 use h5_tables::{InsertionMode, ProcessResult, SplitStatus, Token};
 use std::alloc::AllocError;
 
-// The text that was kept back: blank, it goes where it came; else it goes by the body, with foster parenting on.
+// The buffered text: if it is all whitespace, it is inserted where it came; otherwise it is handled by the rules of "in
+// body", with foster parenting on.
 #[tactic(auto, unfolding(h5_rules::specs::modes::InTableText::pending_text))]
 fn insert_pending_text<S: TreeSink>(
     sink: &mut S,
@@ -39,9 +40,8 @@ fn insert_pending_text<S: TreeSink>(
     }
 }
 
-/// Anything else than a text or a null: the text that was kept back goes first, and the mode that was left is given, by which
-/// the token is to take its next turn, whatever it is. An `AllocError` where memory is refused; what was built so far is sound
-/// then.
+/// Before any token that isn't a text or a null: inserts the buffered text first, and returns the mode that was left,
+/// in which the token must be reprocessed. Fails with `AllocError` if an allocation fails; the state is then sound.
 #[tactic(auto, unfolding(h5_rules::specs::modes::InTableText::in_table_text_else))]
 pub fn leave_table_text<S: TreeSink>(
     sink: &mut S,
@@ -58,7 +58,7 @@ pub fn leave_table_text<S: TreeSink>(
     Ok(saved_mode(sink, state))
 }
 
-// Anything else: the text goes first, and the token by the mode that was left.
+// Anything else: the buffered text comes first, and then the token in the mode that was left.
 fn in_table_text_else<S: TreeSink>(sink: &mut S, state: &mut State<S::Handle>, token: Token) -> Turn
     requires sound { IsSound S.TreeSink sink.old state.old }
     requires ready { HasHtmlRoot (world_of S.TreeSink sink.old state.old) }
@@ -69,7 +69,7 @@ fn in_table_text_else<S: TreeSink>(sink: &mut S, state: &mut State<S::Handle>, t
     Ok(ProcessResult::Reprocess(mode))
 }
 
-/// A text of the table is kept back, behind those that are. An `AllocError` where memory is refused; what was kept stays then.
+/// Appends a text of the table to the buffered text. Fails with `AllocError` if an allocation fails.
 pub fn keep_table_text<S: TreeSink>(
     sink: &S,
     state: &mut State<S::Handle>,
@@ -81,7 +81,7 @@ pub fn keep_table_text<S: TreeSink>(
     append_pending_text(sink, state, text)
 }
 
-/// A turn while texts of a table are kept back.
+/// A turn in "in table text".
 pub fn step_in_table_text<S: TreeSink>(
     sink: &mut S,
     state: &mut State<S::Handle>,

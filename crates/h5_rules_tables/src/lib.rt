@@ -1,12 +1,13 @@
 //! The insertion modes of tables (HTML standard, sections 13.2.6.4.9 to 13.2.6.4.15).
 //!
 //! Each mode has a file with its name: `in_table`, `in_table_text`, `in_caption`, `in_column_group`, `in_table_body`,
-//! `in_row` and `in_cell`. `parts` has what they share: a part of a table is put into the nearest element that may hold
-//! it. `foster` has foster parenting (section 13.2.6.1).
+//! `in_row` and `in_cell`. `parts` has steps that they share: a part of a table is inserted into the newest element
+//! that may hold it. `foster` has foster parenting (section 13.2.6.1).
 //!
-//! It stands on `h5_rules_head` and `h5_rules_body`, by whose rules many tokens go, and on `h5_insertion`; the builder
-//! stands on it. The contract of each step is the rule of its mode. The rules are in `h5_rules`: begin with `specs/modes/InTable.antt` and
-//! `specs/modes/Tables.antt` there, then `src/in_table.rt`.
+//! The crate depends on `h5_rules_head` and `h5_rules_body`, whose rules handle many tokens, and on `h5_insertion`. The
+//! contract of each step is the rule of its mode, followed unless an allocation fails; then the step returns
+//! `AllocError`, and the state is sound. The rules are in `h5_rules`: begin with `specs/modes/InTable.antt` and
+//! `specs/modes/Tables.antt` there, then read `src/in_table.rt`.
 #![tactic(auto)]
 
 mod foster;

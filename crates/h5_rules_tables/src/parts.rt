@@ -1,4 +1,4 @@
-//! What the modes of tables share: their parts are put into the nearest element that may hold them.
+//! Steps that the modes of tables share: a part of a table is inserted into the newest element that may hold it.
 ghost use Rattle.std.specs.Prelude.{◌≡◌};
 ghost use Rattle.h5_rules.specs.modes.Tables.{in_table_scope};
 ghost use Rattle.h5_rules.specs.Rows.{PopUntilCurrent};
@@ -10,7 +10,7 @@ use h5_interface::TreeSink;
 use h5_state::{NewestTest, State};
 use h5_tables::ElementSet;
 
-/// Whether an element whose name passes is in table scope.
+/// Returns true if an element whose name passes is in table scope.
 pub(crate) fn has_in_table_scope<S: TreeSink, Is: NewestTest>(
     sink: &S,
     state: &State<S::Handle>,

@@ -1,4 +1,4 @@
--- The siblings that have a node's name, one by one along the links.
+-- The siblings with a node's name, one by one along the links.
 use Rattle.std.proofs.Common.{◌≡◌, ◌∙◌, ℕ, ◌+◌, Bool, true, false, ◌&&◌, List, [], ◌∷◌, ◌++◌, Option, None, Some, ap, append-nil, arith, cond, length, refl, sym}
 use Rattle.std.specs.List.{filter}
 use Rattle.std.specs.Option.{option_map_or}
@@ -17,7 +17,7 @@ both_true true true e = (refl, refl)
 both_true true false e = cc
 both_true false b e = cc
 
--- names that are alike are like the same names
+-- equal names are equal to the same names
 like_the_same : (one other : QualName) → are_alike one other ≡ true → (third : QualName) → are_alike one third ≡ are_alike other third
 like_the_same one other e third =
     let parts = both_true (is_same_text one.local other.local) (is_same_text one.ns other.ns) e in
@@ -42,7 +42,7 @@ module _ (f : Forest) (quirky : Bool) (scope : Option ℕ) where
     abbrev node : ℕ → ℕ
     node = node_in f ns
 
-    -- a sibling and those before it, and a sibling and those behind it
+    -- a sibling and those before it; a sibling and those after it
     abbrev pub up_to : Option ℕ → List ℕ
     up_to None = []
     up_to (Some q) = before f (node q) ++ node q ∷ []
@@ -59,7 +59,7 @@ module _ (f : Forest) (quirky : Bool) (scope : Option ℕ) where
     behind_are k None e = e
     behind_are k (Some r) h = h.2
 
-    -- one that has another name is passed
+    -- one with another name is passed
     pub passed_back : (k q : ℕ) (o : Option ℕ) → alike (node k) (node q) ≡ false → IsBefore f ns q o → filter (alike (node k)) (up_to (Some q)) ≡ filter (alike (node k)) (up_to o)
     passed_back k q o other h =
         filter-append (alike (node k)) (before f (node q)) (node q ∷ [])
@@ -72,7 +72,7 @@ module _ (f : Forest) (quirky : Bool) (scope : Option ℕ) where
         ap (λ b. cond b (node r ∷ filter (alike (node k)) (behind f (node r))) (filter (alike (node k)) (behind f (node r)))) other
         ∙ ap (filter (alike (node k))) (behind_are r o h)
 
-    -- one that has the same is one more than it counts itself
+    -- one with the same name counts one more than its own count
     pub found_back : (k q : ℕ) → alike (node k) (node q) ≡ true → length (filter (alike (node k)) (up_to (Some q))) ≡ length (filter (alike (node q)) (before f (node q))) + 1
     found_back k q same =
         ap length (filter-append (alike (node k)) (before f (node q)) (node q ∷ []))

@@ -7,7 +7,7 @@ use Rattle.h5_arena.specs.ArenaModel.{child_parent, child_parent_of_kind}
 use Rattle.h5_arena.specs.Kin.{ancestors, ancestors_within, tree_parent}
 use Rattle.h5_arena.proofs.ClimbLaws.{AreUnder, few_under, none_under, one_more_under}
 
--- whose child a node is, that is its parent
+-- the node whose child a node is, is its parent
 kept : (kind : Kind) (o : Option ℕ) (p : ℕ) → child_parent_of_kind kind o ≡ Some p → o ≡ Some p
 kept DocumentNode o p e = e
 kept (DoctypeNode name public_id system_id) o p e = e

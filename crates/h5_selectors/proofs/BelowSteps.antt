@@ -1,4 +1,4 @@
--- What stands below a node stands in its children and below them.
+-- Everything below a node is in its children or below them.
 use Rattle.std.proofs.Common.{◌≡◌, ◌≢◌, ◌∙◌, ℕ, ◌+◌, ◌<◌, ◌≤◌, Bool, true, false, ◌||◌, List, [], ◌∷◌, ◌++◌, Some, ap, arith, cond, eqb, length, refl, rules, sym, tests}
 use Rattle.std.specs.Prelude.{nat_lt}
 use Rattle.std.specs.List.{AllByRecursion, IsDistinct, flat_map, list_any}
@@ -10,12 +10,12 @@ use Rattle.h5_interface.specs.Ancestors.{Further, IsAncestor, Parent}
 use Rattle.h5_interface.specs.Forest.{Child, ChildNode, ChildText, Forest, IsForest, IsNode, children_of, count, nodes, parent_of}
 use Rattle.h5_interface.proofs.ChildLaws.{nodes-append}
 use Rattle.h5_interface.proofs.ForestLaws.{ancestor_is_node, child_is_node, parent_of_child}
-use Rattle.h5_arena.specs.Kin.{all_below, descendants, with_below}
+use Rattle.h5_arena.specs.Kin.{descendants_with_text, descendants, with_below}
 use Rattle.h5_selectors.specs.Rows as rows
 use Rattle.h5_selectors.specs.Rows.{AreBare}
 use Rattle.h5_selectors.specs.Ways.{below, child_elements, elements, elements_among, is_element}
 
--- what isn't in a list is no entry of it
+-- a number that isn't in a list differs from each entry
 apart : (n : ℕ) (xs : List ℕ) → ((a : ℕ) → list_any (eqb a) xs ≡ true → n ≢ a) → AllByRecursion (λ y. eqb n y ≡ false) xs
 apart n [] h = tt
 apart n (x ∷ xs) h = (differ (eqb n x) refl, apart n xs (λ a w. h a (or_right (eqb a x) _ w)))
@@ -40,7 +40,7 @@ inside f n k there = at (nat_lt n f.bound) refl
     at true e = search (rules, tests)
     at false e = absurd (there (k.bounded n (search (rules, tests))))
 
--- numbers that are no two the same, each of which is an ancestor of n
+-- pairwise different numbers, each of which is an ancestor of n
 record AreOver (f : Forest) (n : ℕ) (over : List ℕ) : Type 0 where
   pub ancestors : (a : ℕ) → list_any (eqb a) over ≡ true → IsAncestor (parent_of f) a n
   pub distinct : IsDistinct eqb over
@@ -60,7 +60,7 @@ one_more_over f n m over k h e = record {
     at a true w g = Parent (rw (eqb-true a n w) e)
     at a false w g = Further n (h.ancestors a (rw w at g)) e
 
--- a node has fewer nodes over it than there are
+-- a node has fewer ancestors than there are nodes
 few_over : (f : Forest) (n : ℕ) (over : List ℕ) → IsForest f → IsNode f n → AreOver f n over → length over < f.bound
 unfolding IsDistinct
 few_over f n over k there h =
@@ -106,7 +106,7 @@ settled f (suc levels) n over k there h le =
     (λ m up. settled f levels m (n ∷ over) k (child_is_node f m n up) (one_more_over f n m over k h up) (omega (arith, le))))
 
 -- a node that is a child, and all below it
-whole : (f : Forest) (n : ℕ) → IsForest f → IsNode f n → with_below f.bound f (ChildNode n) ≡ ChildNode n ∷ all_below f n
+whole : (f : Forest) (n : ℕ) → IsForest f → IsNode f n → with_below f.bound f (ChildNode n) ≡ ChildNode n ∷ descendants_with_text f n
 unfolding with_below
 whole f n k there = sym (settled f f.bound n [] k there (none_over f n) (omega arith))
 
@@ -120,7 +120,7 @@ below_them f n (ChildNode m ∷ cs) k are bare =
     let rest = flat_map (with_below f.bound f) cs in
     let there = child_is_node f m n (first_child f n m cs are) in
     ap (λ l. elements f (nodes (l ++ rest))) (whole f m k there)
-    ∙ ap (elements f) (nodes-append (ChildNode m ∷ all_below f m) rest)
+    ∙ ap (elements f) (nodes-append (ChildNode m ∷ descendants_with_text f m) rest)
     ∙ filter-append (is_element f) (m ∷ descendants f m) (nodes rest)
     ∙ ap (λ l. elements f (m ∷ descendants f m) ++ l) (below_them f n cs k (further_children f n m cs are) bare.1)
     ∙ at (is_element f m) refl bare.0

@@ -1,4 +1,4 @@
--- The elements among the children of a node: those before one of them, and those behind it.
+-- The elements among the children of a node: those before one of them, and those after it.
 use Rattle.std.proofs.Common.{◌≡◌, ◌∙◌, ℕ, ◌+◌, ◌<◌, ◌≤◌, Bool, true, false, List, [], ◌∷◌, Option, None, Some, ap, arith, cond, drop, get_or, length, refl, sym, take}
 use Rattle.std.specs.Prelude.{◌==◌, if◌then◌else◌, is_some}
 use Rattle.std.specs.List.{filter}
@@ -8,10 +8,10 @@ use Prim.Native.Nat.{zero, suc}
 use Rattle.h5_interface.specs.Forest.{Child, ChildNode, ChildText, CommentNode, DoctypeNode, DocumentNode, ElementNode, Forest, FragmentNode, InstructionNode, IsForest, Kind, Node, below_of, children_of, count, is_at, nodes, parent_of}
 use Rattle.h5_interface.proofs.ForestLaws.{children_few, parent_of_child}
 use Rattle.h5_arena.specs.ArenaModel.{child_parent, child_parent_of_kind, name_of_kind}
-use Rattle.h5_arena.specs.Kin.{children_around, children_before, children_behind, tree_parent}
+use Rattle.h5_arena.specs.Kin.{siblings_with_self, children_before, children_behind, tree_parent}
 use Rattle.h5_selectors.specs.Ways.{before, behind, child_elements, elements_among, is_element}
 
--- what stands among the elements stands among the children
+-- an entry of the elements is an entry of the children
 module _ (f : Forest) where
   pub counted_among : (cs : List Child) (i m : ℕ) → i < length (elements_among f cs) → get_or (elements_among f cs) i 0 ≡ m → 0 < count m (nodes cs)
   counted_among [] i m lt e = absurd (omega arith)
@@ -27,7 +27,7 @@ module _ (f : Forest) where
       at true (suc j) further l h = let more = further j (omega (arith, l)) h in omega arith
       at false j further l h = let more = further j l h in omega arith
 
-  -- what stands there once has those before it and those behind it around it
+  -- an entry that occurs once has those before it and those after it around it
   pub parted : (cs : List Child) (i m : ℕ) → is_element f m ≡ true → count m (nodes cs) ≤ 1 → i < length (elements_among f cs) → get_or (elements_among f cs) i 0 ≡ m
       → (elements_among f (children_before m cs) ≡ take i (elements_among f cs)) × (elements_among f (children_behind m cs) ≡ drop (i + 1) (elements_among f cs))
   parted [] i m el once lt e = absurd (omega arith)
@@ -91,7 +91,7 @@ child_parent_is (Some d) p el up = at d.kind el
     at (InstructionNode target text) e = up
     at FragmentNode e = cc
 
--- a child element of a node, by its place among all of them
+-- a child element of a node, by its index among all of them
 module _ (f : Forest) (p i m : ℕ) (k : IsForest f) (lt : i < length (child_elements f p)) (here : get_or (child_elements f p) i 0 ≡ m) where
   is_one : is_element f m ≡ true
   is_one = passes f (nodes (children_of f p)) i m lt here
@@ -109,7 +109,7 @@ module _ (f : Forest) (p i m : ℕ) (k : IsForest f) (lt : i < length (child_ele
   pub its_parent : tree_parent f m ≡ Some p
   its_parent = child_parent_is (f.node m) p is_one (parent_of_child f p m k (counted_among f (children_of f p) i m lt here))
 
-  abbrev around : children_around f m ≡ children_of f p
+  abbrev around : siblings_with_self f m ≡ children_of f p
   around = ap (λ o. option_map_or (children_of f) o []) its_parent
 
   pub those_before : before f m ≡ take i (child_elements f p)

@@ -1,4 +1,4 @@
--- What is asked along combinators, link by link.
+-- The conditions along combinators, link by link.
 use Rattle.std.proofs.Common.{◌≡◌, ◌∙◌, List, [], ◌∷◌, ◌++◌, ap, map, refl, sym}
 use Rattle.std.proofs.lemmas.List.{map-append}
 use Rattle.std.specs.Prelude.{Option, Some}

@@ -1,20 +1,20 @@
--- Pieces one behind another, step by step.
+-- Pieces, one after another, step by step.
 use Rattle.std.proofs.Common.{◌≡◌, ◌∙◌, ℕ, suc, zero, ◌+◌, ◌-◌, ◌<◌, ◌≤◌, Bool, true, false, List, [], ◌++◌, ap, arith, refl}
 use Rattle.std.specs.Prelude.{◌||◌, Option, None, Some, is_some, option_to_list}
 use Rattle.h5_selectors.specs.Tokens.{Reading, begins, joined, pieces_within, reading}
 
--- where there is none
+-- if there is none
 pub pieces_stop : {A : Type 0} (piece : List ℕ → Option (Reading (List A))) (n : ℕ) (text : List ℕ) → piece text ≡ None → pieces_within piece n text ≡ reading [] text
 unfolding pieces_within
 pieces_stop piece zero text h = refl
 pieces_stop piece (suc n) text h = ap (λ o. joined o (pieces_within piece n) text) h
 
--- where they were enough
+-- if the limit is reached
 pub pieces_done : {A : Type 0} (piece : List ℕ → Option (Reading (List A))) (end step : ℕ) (text : List ℕ) → end ≤ step → pieces_within piece (end - step) text ≡ reading [] text
 unfolding pieces_within
 pieces_done piece end step text le = let e : end - step ≡ 0 = omega arith in ap (λ n. pieces_within piece n text) e
 
--- where there is another
+-- if there is another
 pub pieces_more : {A : Type 0} (piece : List ℕ → Option (Reading (List A))) (end step : ℕ) (text : List ℕ) (next : Reading (List A)) → step < end → piece text ≡ Some next
     → pieces_within piece (end - step) text ≡ reading (next.value ++ (pieces_within piece (end - (step + 1)) next.rest).value) (pieces_within piece (end - (step + 1)) next.rest).rest
 unfolding pieces_within
@@ -22,7 +22,7 @@ pieces_more piece end step text next lt h =
     let e : end - step ≡ suc (end - (step + 1)) = omega arith in
     ap (λ n. pieces_within piece n text) e ∙ ap (λ o. joined o (pieces_within piece (end - (step + 1))) text) h
 
--- whether a blank was found, with one more or a comment
+-- true if whitespace was found, with one more or a comment
 pub spaced_more : (found : Bool) (blank : Option ℕ) (left : List ℕ) → ((found || is_some blank) || begins (λ _. true) left) ≡ (found || begins (λ _. true) (option_to_list blank ++ left))
 spaced_more true blank left = refl
 spaced_more false None left = refl

@@ -1,4 +1,4 @@
--- What is read as often as it stands there, step by step.
+-- Repetitions, step by step.
 use Rattle.std.proofs.Common.{◌≡◌, ◌∙◌, ℕ, suc, ◌+◌, ◌-◌, ◌<◌, ◌≤◌, true, false, if◌then◌else◌, List, [], ◌∷◌, ◌++◌, ap, arith, drop, map, subst, sym}
 use Rattle.std.proofs.lemmas.List.{map-append}
 use Rattle.std.specs.Prelude.{Option, None, Some}
@@ -12,36 +12,36 @@ use Rattle.h5_selectors.specs.declared.fault.Refusal.TheVariants.{Invalid, Memor
 use Rattle.h5_selectors.specs.declared.parser.Combinator.{Combinator}
 use Rattle.h5_selectors.specs.declared.parser.Link.{Link}
 
--- a fault of the first of two readers is one of both
+-- an error of the first of two steps is one of both
 pub lacks_first : {A B : Type 0} (refusal : Refusal) (read : Outcome A) (behind : A → Outcome B) → Lacks refusal read → Lacks refusal (read >>= behind)
 lacks_first Memory read behind h = tt
 lacks_first (TooLong left) read behind h = ap (λ o. o >>= behind) h
 lacks_first (Invalid left problem) read behind h = (h.0, ap (λ o. o >>= behind) h.1)
 
 module _ {A : Type 0} (next : NextReader A) (end step : ℕ) (all : A) (parts : ℕ) (text : List ℕ) {whole : Outcome (Taken A)} (left : repeated next (end - step) all parts text ≡ whole) where
-  -- while there may be more
+  -- while more is allowed
   one_more : step < end → (next all parts text >>= going_on (repeated next (end - (step + 1))) all) ≡ whole
   unfolding repeated
   one_more lt = let e : end - step ≡ suc (end - (step + 1)) = omega arith in sym (ap (λ n. repeated next n all parts text) e) ∙ left
 
-  -- where there are no more
+  -- if there is no more
   pub repeated_ends : {fewer : ℕ} {rest : List ℕ} → step < end → next all parts text ≡ Found (Ends fewer rest) → whole ≡ Found (taken all fewer rest)
   repeated_ends lt h = sym (one_more lt) ∙ ap (λ o. o >>= going_on (repeated next (end - (step + 1))) all) h
 
-  -- where there is one more
+  -- if there is one more
   pub repeated_goes : {more : A} {fewer : ℕ} {rest : List ℕ} → step < end → next all parts text ≡ Found (Goes more fewer rest) → repeated next (end - (step + 1)) more fewer rest ≡ whole
   repeated_goes lt h = sym (ap (λ o. o >>= going_on (repeated next (end - (step + 1))) all) h) ∙ one_more lt
 
-  -- where one more should stand there
+  -- if one more is missing
   pub repeated_lacks : (refusal : Refusal) → step < end → Lacks refusal (next all parts text) → Lacks refusal whole
   repeated_lacks refusal lt h = subst (Lacks refusal) (one_more lt) (lacks_first refusal (next all parts text) (going_on (repeated next (end - (step + 1))) all) h)
 
-  -- where that was as often as it may be
+  -- if the limit is reached
   pub repeated_done : end ≤ step → whole ≡ Found (taken all parts text)
   unfolding repeated
   repeated_done le = let e : end - step ≡ 0 = omega arith in sym left ∙ ap (λ n. repeated next n all parts text) e
 
--- what is read next behind a comma
+-- the step after a comma
 module _ {A : Type 0} (join : A → Asked → A) (item : Reader Asked) (all : A) (parts : ℕ) (text : List ℕ) {rest : List ℕ} (stepped : rest ≡ (if begins_with 44 text then drop 1 text else text)) where
   pub comma_ends : begins_with 44 text ≡ false → comma_next join item all parts text ≡ Found (Ends parts rest)
   comma_ends none = ap (λ b. if b then item parts (drop 1 text) >>= (λ one. Found (Goes (join all one.value) one.parts one.rest)) else Found (Ends parts text)) none
@@ -57,7 +57,7 @@ module _ {A : Type 0} (join : A → Asked → A) (item : Reader Asked) (all : A)
   pub comma_goes : (one : Taken Asked) → begins_with 44 text ≡ true → item parts rest ≡ Found one → comma_next join item all parts text ≡ Found (Goes (join all one.value) one.parts one.rest)
   comma_goes one comma h = behind comma ∙ ap (λ o. o >>= (λ it. Found (Goes (join all it.value) it.parts it.rest))) h
 
--- and behind a combinator, or in a compound selector
+-- the steps after a combinator, and in a compound selector
 module _ (arguments : ArgumentsReader) (parts : ℕ) where
   pub link_ends : (links : List Linked) (text : List ℕ) {rest : List ℕ} → combinator_at text ≡ None → rest ≡ behind_blanks text → link_next arguments links parts text ≡ Found (Ends parts rest)
   link_ends links text none left = ap (link_joined arguments links parts (behind_blanks text)) none ∙ ap (λ t. Found (Ends parts t)) (sym left)

@@ -19,7 +19,7 @@ use Rattle.h5_selectors.proofs.BelowSteps.{below_children}
 use Rattle.h5_selectors.proofs.ChildSteps.{none_first, one_first}
 use Rattle.h5_selectors.proofs.KinOrder.{its_parent, those_before, those_behind}
 
--- one row's links become others
+-- the links of one row are changed
 pub one_linked : (f : Forest) (ns : List ℕ) (all : List Links) (row : ℕ) (new : Links) → AreLinked f ns all → IsLinked f ns row new → AreLinked f ns (set all row new)
 one_linked f ns all row new h is k d lt = at (k == row) refl (let same = length-set all row new in omega (arith, lt))
   where
@@ -45,7 +45,7 @@ linked_more f ns all new h is k d lt =
         let none : length all - length all ≡ 0 = omega arith in
         get_or-append_right all (new ∷ []) (length all) (length all) d refl (omega arith) ∙ ap (λ i. get_or (new ∷ []) i d) none
 
--- the children that an arena tells of are those of the forest
+-- the children that an arena returns are those of the forest
 pub children_told : (a : ArenaView) (id : NodeId) (n : ℕ) (cs : List kept.Child) → id.index ≡ n → at_node (λ d. d.children) a id ≡ Some (child_views cs) → children_of (forest_seen a) n ≡ child_views cs
 children_told a id n cs same e = ap (children_of (forest_seen a)) (sym same) ∙ as_told ((forest_seen a).node id.index) ∙ ap (λ o. unwrap_or o []) e
   where
@@ -53,7 +53,7 @@ children_told a id n cs same e = ap (children_of (forest_seen a)) (sym same) ∙
     as_told None = refl
     as_told (Some d) = refl
 
--- a child is found in a row, or is no element
+-- a child is found in a row, or isn't an element
 module _ (f : Forest) (ids : List NodeId) (found : List ℕ) (cs : List kept.Child) (i : ℕ) (c : kept.Child) (total : List ℕ) (lt : i < length cs) (is : c ≡ get_or cs i c) where
   abbrev node_at : ℕ → ℕ
   node_at = node_in f (map place ids)

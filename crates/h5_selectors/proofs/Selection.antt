@@ -1,4 +1,4 @@
--- What is selected, by what the rows of a table leave.
+-- The selected elements, by the rows that a table leaves.
 use Rattle.std.proofs.Common.{◌≡◌, ◌∙◌, ℕ, ◌+◌, ◌<◌, Bool, true, false, List, [], ◌∷◌, ◌++◌, ap, append_assoc, cond, drop, get_or, length, map, refl, sym}
 use Rattle.std.specs.Prelude.{Err, IfOk, Ok, Result, not}
 use Rattle.std.specs.List.{filter}
@@ -48,7 +48,7 @@ module _ (test : ℕ → Bool) (ids : List NodeId) (at : ℕ) (d : NodeId) (with
       is_left true e = cc
       is_left false e = refl
 
--- what a query gives of the elements below a node is what is selected
+-- the results of a query for the elements below a node are the selected elements
 pub selection : (a : ArenaView) (n : ℕ) (query : Query) (list : List Formula) (found under : List ℕ)
     → query.arena.now ≡ a → optional_place query.scope ≡ scope_in a n → query.is_quirky ≡ is_quirky a.quirks
     → under ≡ below (forest_seen a) n → found ≡ filter (matches_by query list) under → found ≡ selected a n list
@@ -59,7 +59,7 @@ selection a n query list found under same scope quirky are h =
     ∙ ap (λ b. filter (matches (forest_seen a) b (optional_place query.scope) list) (below (forest_seen a) n)) quirky
     ∙ ap (λ o. filter (matches (forest_seen a) (is_quirky a.quirks) o list) (below (forest_seen a) n)) scope
 
--- those behind the first
+-- those after the first
 pub behind_first : (ids : List NodeId) (n : ℕ) (under : List ℕ) → map place ids ≡ n ∷ under → map place (drop 1 ids) ≡ under
 behind_first ids n under are = sym (drop-map place 1 ids) ∙ ap (drop 1) are
 

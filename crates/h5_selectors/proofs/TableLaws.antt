@@ -52,7 +52,7 @@ positive j lt = at (nat_lt 0 j) refl
     at true e = e
     at false e = absurd (let none : j ≤ 0 = search (rules, tests) in omega (arith, lt, none))
 
--- a way up may lead to each row, and another to each but the first
+-- a relation upwards may have any row as its target, and any other relation each row except the first
 pub to_top : (j : ℕ) → (nat_lt 0 j || true) ≡ true
 to_top j = or_right (nat_lt 0 j) true refl
 
@@ -66,7 +66,7 @@ behind_first j e = at (nat_lt 0 j) refl
 pub row_count : (rows : Rows) → length (nodes_in rows) ≡ length rows.ids.items
 row_count rows = length-map rows.ids.items place
 
--- what a test gives of some of a list of lists, one by one
+-- a test passes in some list of a list of lists exactly if it does in the joined list
 any_flat : (test : ℕ → Bool) (g : ℕ → List ℕ) (xs : List ℕ) → list_any test (flat_map g xs) ≡ list_any (λ m. list_any test (g m)) xs
 any_flat test g [] = refl
 any_flat test g (x ∷ xs) = list_any-append test (g x) (flat_map g xs) ∙ ap (λ b. list_any test (g x) || b) (any_flat test g xs)
@@ -141,7 +141,7 @@ module _ (f : Forest) (ns : List ℕ) (test : ℕ → Bool) (k : ℕ) where
         ∙ sym (list_any-append test (before f (node_in f ns q) ++ node_in f ns q ∷ []) (n ∷ []))
         ∙ ap (λ l. list_any test (l ++ n ∷ [])) (sym e)
 
-    -- behind it
+    -- after it
     pub is_later : (o : Option ℕ) → IsBehind f ns k o → ((r : ℕ) → k < r → r < length ns → get_or table r false ≡ there f test Later (node_in f ns r)) → (get_or into k false || told table o) ≡ there f test Later n
     is_later None e known = ap (λ b. b || false) here ∙ ap (λ l. test n || list_any test l) (sym e)
     is_later (Some r) (up, within, e) known = ap (λ b. b || get_or table r false) here ∙ ap (λ b. test n || b) (known r up within) ∙ ap (λ l. test n || list_any test l) (sym e)
@@ -166,7 +166,7 @@ module _ (f : Forest) (ns : List ℕ) (test : ℕ → Bool) (k : ℕ) where
       rest None e = ap (list_any (λ m. list_any test (with_below f m))) (sym e)
       rest (Some r) (up, within, e) = known r up within ∙ ap (list_any (λ m. list_any test (with_below f m))) (sym e)
 
-  -- how many pass before it, and behind it
+  -- the number of siblings that pass before it, and after it
   pub counts_before : (counts : List ℕ) (into : List Bool) (o : Option ℕ) → IsBefore f ns k o → ((q : ℕ) → 0 < q → q < k → get_or counts q 0 ≡ length (filter test (before f (node_in f ns q)))) → ((q : ℕ) → q < k → get_or into q false ≡ test (node_in f ns q))
       → counted_at counts into o ≡ length (filter test (before f n))
   counts_before counts into None e known told = ap (λ l. length (filter test l)) (sym e)
@@ -191,7 +191,7 @@ module _ (f : Forest) (ns : List ℕ) (test : ℕ → Bool) (k : ℕ) where
       ∙ sym (count_more test m (behind f m))
       ∙ ap (λ l. length (filter test l)) (sym e)
 
-  -- an element leads to its parent, and to its parent and those to which the parent leads
+  -- the parent of a node, and the parent's ancestors
   module _ (p : ℕ) (up : tree_parent f n ≡ Some p) where
     to_parent : (is_element f p && test p) ≡ list_any test (parent_element f n)
     to_parent =
@@ -212,7 +212,7 @@ module _ (f : Forest) (ns : List ℕ) (test : ℕ → Bool) (k : ℕ) where
       ∙ to_ancestors (node_in f ns b.0) b.2.parent_is h
       ∙ sym (first_asked f test n (kin.ancestors f n) ∙ ap (λ a. a || list_any test (ancestors f n)) (sym here ∙ none))
 
-  -- where each way leads, by the link that is followed
+  -- the entry for each relation, by its link
   module _ (h : IsForest f) (within : k < length ns) (links : Links) (is : IsKnown f ns k links) (table : List Bool) where
     abbrev TellsOf : Way → Type 0
     TellsOf way = (j : ℕ) → (nat_lt 0 j || leads_up way) ≡ true → j < length ns → get_or table j false ≡ there f test way (node_in f ns j)

@@ -2,11 +2,11 @@
 use Rattle.std.specs.Prelude.{ℕ, ◌+◌, ◌-◌, ◌%◌, ◌==◌, ◌&&◌, ◌||◌, Bool, false, if◌then◌else◌, nat_le}
 use Rattle.h5_selectors.specs.declared.formula.AnPlusB.{AnPlusB}
 
--- whether a number is a multiple of a size; 0 has one multiple alone
+-- true if a number is a multiple of a size; 0 has only the multiple 0
 abbrev pub is_multiple : (size number : ℕ) → Bool
 is_multiple size number = if size == 0 then number == 0 else number % size == 0
 
--- with a at or above 0: it is b, or lies a multiple of a behind it; with a below 0: it lies a multiple before b
+-- if a is not negative: the index is b plus a multiple of a; if a is negative: it is b minus a multiple of its absolute value
 abbrev pub is_index : AnPlusB → ℕ → Bool
 is_index p index =
     if p.is_under then (if p.falls || p.step == 0 then false else is_multiple p.step (index + p.offset))

@@ -1,4 +1,4 @@
--- What the parts of a selector ask of an element: types, combinators and pseudo-classes by their names (Selectors Level 4, section 17, "Grammar").
+-- The conditions of the parts of a selector: types, combinators and pseudo-classes (Selectors Level 4, section 17, "Grammar").
 use Rattle.std.specs.Prelude.{ℕ, ◌==◌, ◌&&◌, ◌||◌, Bool, false, bytes_eq, codes, drop, if◌then◌else◌, List, [], ◌∷◌, not, Option, None, Some, string_bytes, unwrap_or}
 use Rattle.std.specs.Str.{str_to_ascii_lowercase}
 use Rattle.h5_selectors.specs.Attributes.{TestText, test_text}
@@ -16,7 +16,7 @@ use Rattle.h5_selectors.specs.declared.parser.Combinator.TheVariants as combinat
 use Rattle.h5_selectors.specs.declared.parser.Function.{Function}
 use Rattle.h5_selectors.specs.declared.parser.Function.TheVariants as function
 
--- what is asked of an element, without where it lies in memory
+-- a condition on an element, independent of where it is in memory
 pub data Asked : Type 0 where
   AskAny : Asked
   AskName : (exact lower : List ℕ) → Asked
@@ -51,12 +51,12 @@ asked (And' p one q other) = AskAnd (asked one) (asked other)
 asked (Or' p one q other) = AskOr (asked one) (asked other)
 asked (Leads' way p inner) = AskLeads way (asked inner)
 
--- both; what asks nothing is left out
+-- both conditions; one that always holds is left out
 abbrev pub both : Asked → Asked → Asked
 both AskAny other = other
 both one other = AskAnd one other
 
--- `>`, `+` or `~`, and blanks behind it
+-- `>`, `+` or `~`, and whitespace after it
 abbrev pub sign_at : List ℕ → Option (Reading Combinator)
 sign_at [] = None
 sign_at (c ∷ text) =
@@ -64,7 +64,7 @@ sign_at (c ∷ text) =
     else (if c == 43 then Some (reading combinator.NextSibling (behind_blanks text))
     else (if c == 126 then Some (reading combinator.SubsequentSibling (behind_blanks text)) else None))
 
--- a blank is one where a compound selector may stand behind it
+-- whitespace is a combinator if a compound selector can follow it
 abbrev pub descendant_at : (spaced : Bool) → List ℕ → Option (Reading Combinator)
 descendant_at spaced text = if spaced && begins (λ c. not (c == 44 || c == 41)) text then Some (reading combinator.Descendant text) else None
 
@@ -75,11 +75,11 @@ sign_or (Some sign) other = Some sign
 unfoldable pub combinator_at : List ℕ → Option (Reading Combinator)
 combinator_at text = sign_or (sign_at (behind_blanks text)) (descendant_at (is_spaced text) (behind_blanks text))
 
--- in front of a relative selector; a descendant is meant where none is written
+-- the combinator of a relative selector; the descendant combinator if there is none
 unfoldable pub leading_at : List ℕ → Reading Combinator
 leading_at text = unwrap_or (sign_at (behind_blanks text)) (reading combinator.Descendant (behind_blanks text))
 
--- where a combinator leads from the element behind it, and from the one before it
+-- the relation from the element after a combinator, and the one from the element before it
 abbrev pub back : Combinator → Way
 back combinator.Descendant = Ancestor
 back combinator.Child = Parent
@@ -92,7 +92,7 @@ forth combinator.Child = ToChild
 forth combinator.NextSibling = Next
 forth combinator.SubsequentSibling = Later
 
--- a type or `*`, if one stands here
+-- a type selector or `*`, if there is one
 abbrev pub type_of : Reading (List ℕ) → Option (Reading (Option Asked))
 type_of name = do
   plain ← unqualified_at name.rest
@@ -106,7 +106,7 @@ star_of text = do
 unfoldable pub type_at : List ℕ → Option (Reading (Option Asked))
 type_at text = if is_at_name text then type_of (in_utf8 (name_at text)) else star_of text
 
--- the first child, or the last one
+-- the first or the last child
 abbrev pub first : AnPlusB
 first = indices 0 false 1 false
 
@@ -128,7 +128,7 @@ plain_of name =
     else (if bytes_eq name (codes "last-of-type") then Some (AskNthOfType first Last)
     else (if bytes_eq name (codes "only-of-type") then Some (AskAnd (AskNthOfType first First) (AskNthOfType first Last)) else None))))))))))
 
--- one with arguments
+-- a pseudo-class with arguments, by its name in lower case
 unfoldable pub function_of : List ℕ → Option Function
 function_of name =
     if bytes_eq name (codes "not") then Some function.Not

@@ -8,7 +8,7 @@ use Rattle.h5_selectors.specs.declared.formula.AttrTest.{AttrTest}
 use Rattle.h5_selectors.specs.declared.formula.Operator.{Operator}
 use Rattle.h5_selectors.specs.declared.formula.Operator.TheVariants.{Begins, Contains, Dash, Ends, Equals, Exists, Includes}
 
--- an operator, by the character in front of its `=`
+-- an operator, by the character before its `=`
 abbrev pub operator_by : ℕ → (rest : List ℕ) → Option (Reading Operator)
 operator_by c rest =
     if c == 126 then Some (reading Includes rest)
@@ -31,7 +31,7 @@ quoted_or_named_at (c ∷ text) = if c == 34 || c == 39 then string_at c text el
 unfoldable pub value_at : List ℕ → Option (Reading (List ℕ))
 value_at text = quoted_or_named_at (behind_blanks text)
 
--- `i` or `s`: whether case is ignored
+-- `i` or `s`: true to ignore case
 abbrev pub flag_of : Reading (List ℕ) → Option (Reading (Option Bool))
 flag_of name =
     if bytes_eq name.value (codes "i") || bytes_eq name.value (codes "I") then Some (reading (Some true) name.rest)
@@ -43,7 +43,7 @@ flag_at text =
     if is_at_name (behind_blanks text) then flag_of (in_utf8 (name_at (behind_blanks text)))
     else Some (reading None (behind_blanks text))
 
--- what a value is compared with, and how
+-- the comparison of a value: operator, text and flag
 pub record Comparison : Type 0 where
   pub operator : Operator
   pub text : List ℕ
@@ -52,7 +52,7 @@ pub record Comparison : Type 0 where
 abbrev pub comparison : Operator → List ℕ → Option Bool → Comparison
 comparison operator text flag = record { operator = operator; text = text; flag = flag }
 
--- nothing stands in front of `]`
+-- without a comparison, `]` follows
 unfoldable pub comparison_at : List ℕ → Option (Reading Comparison)
 comparison_at text =
     if begins_with 93 text then Some (reading (comparison Exists [] None) text)
@@ -62,7 +62,7 @@ comparison_at text =
       flag ← flag_at value.rest
       Some (reading (comparison operator.value value.value flag.value) flag.rest)
 
--- the attributes whose values HTML compares without case (HTML standard, section 4.16.2, "Case-sensitivity of selectors")
+-- the attributes whose values HTML compares ASCII case-insensitively (HTML standard, section 4.16.2, "Case-sensitivity of selectors")
 abbrev pub caseless_names : List (List ℕ)
 caseless_names =
     codes "accept" ∷ codes "accept-charset" ∷ codes "align" ∷ codes "alink" ∷ codes "axis" ∷ codes "bgcolor" ∷ codes "charset" ∷
@@ -76,7 +76,7 @@ caseless_names =
 unfoldable pub is_caseless : List ℕ → Bool
 is_caseless name = list_any (λ caseless. bytes_eq caseless name) caseless_names
 
--- a test, without where its texts lie in memory
+-- a test, independent of where its texts are in memory
 pub record TestText : Type 0 where
   pub exact : List ℕ
   pub lower : List ℕ
@@ -96,7 +96,7 @@ test_text test =
       ignores_case_in_html = test.ignores_case_in_html;
     }
 
--- case counts outside HTML, and in HTML but for those attributes, unless a flag says more
+-- without a flag, case is ignored only in HTML, for the attributes above
 abbrev pub test_by : (exact lower : List ℕ) → Comparison → TestText
 test_by exact lower compared =
     record {
@@ -111,7 +111,7 @@ test_by exact lower compared =
 abbrev pub test_of : (name : List ℕ) → Comparison → TestText
 test_of name = test_by name (str_to_ascii_lowercase name)
 
--- from behind `[` to behind `]`
+-- an attribute selector, from after `[` to after `]`
 unfoldable pub attribute_at : List ℕ → Option (Reading TestText)
 attribute_at text = do
   start ← unqualified_at (behind_blanks text)

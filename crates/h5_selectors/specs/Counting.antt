@@ -1,8 +1,8 @@
--- Reading where parts are counted: a selector may have so many at the most.
+-- Parsing with a limit on the number of parts.
 use Rattle.std.specs.Prelude.{ℕ, ◌-◌, ◌==◌, if◌then◌else◌, List, Option, None, Some}
 use Rattle.h5_selectors.specs.Tokens.{Reading}
 
--- what reading comes to: something is read; or nothing, as none stands there; or nothing, as there are more parts than there may be
+-- the outcome of parsing: found; absent; or too many parts
 pub data Outcome (A : Type 0) : Type 0 where
   Found : (found : A) → Outcome A
   Absent : Outcome A
@@ -13,12 +13,12 @@ outcome_and_then (Found found) f = f found
 outcome_and_then Absent f = Absent
 outcome_and_then TooMany f = TooMany
 
--- one after another
+-- one step after another
 infixl 10 ◌>>=◌
 abbrev pub ◌>>=◌ : {A B : Type 0} → Outcome A → (A → Outcome B) → Outcome B
 o >>= f = outcome_and_then o f
 
--- what is read, how many parts there may be behind it, and what is left there
+-- the result, the number of parts left after it, and the remaining text
 pub record Taken (A : Type 0) : Type 0 where
   pub value : A
   pub parts : ℕ
@@ -27,19 +27,19 @@ pub record Taken (A : Type 0) : Type 0 where
 abbrev pub taken : {A : Type 0} → A → ℕ → List ℕ → Taken A
 taken value parts rest = record { value = value; parts = parts; rest = rest }
 
--- what stands there or not, whatever the parts
+-- an outcome without parts: found or absent
 abbrev pub present : {A : Type 0} → Option A → Outcome A
 present None = Absent
 present (Some found) = Found found
 
--- what is read there without a part, seen as something else
+-- a result without parts, in another form
 abbrev pub partless : {A B : Type 0} → (A → B) → ℕ → Option (Reading A) → Outcome (Taken B)
 partless view parts read = present read >>= (λ one. Found (taken (view one.value) parts one.rest))
 
--- what is read there, seen as something else
+-- a result in another form
 abbrev pub seen_as : {A B : Type 0} → (A → B) → Outcome (Taken A) → Outcome (Taken B)
 seen_as view read = read >>= (λ one. Found (taken (view one.value) one.parts one.rest))
 
--- one more part, and what is read of it
+-- a part, if any is left
 abbrev pub part : {A : Type 0} → (ℕ → Outcome A) → ℕ → Outcome A
 part behind parts = if parts == 0 then TooMany else behind (parts - 1)

@@ -1,5 +1,5 @@
--- The text of selectors (Selectors Level 4, section 17, "Grammar"). What is read stands at the front of a text, and has no more parts than there may be;
--- where it doesn't, nothing is read.
+-- The grammar of selectors (Selectors Level 4, section 17, "Grammar"). Each definition parses the start of a text; the outcome is absent if
+-- the text doesn't match, and too many if there are more parts than allowed.
 use Rattle.std.specs.Prelude.{ℕ, ◌==◌, ◌||◌, Bool, true, false, bytes_eq, codes, drop, if◌then◌else◌, List, [], ◌∷◌, ◌++◌, length, Option, None, Some}
 use Prim.Native.Nat.{zero, suc}
 use Rattle.std.specs.Str.{str_to_ascii_lowercase}
@@ -14,15 +14,15 @@ use Rattle.h5_selectors.specs.declared.parser.Function.{Function}
 use Rattle.h5_selectors.specs.declared.parser.Link.{Link}
 use Rattle.h5_selectors.specs.declared.parser.Function.TheVariants as function
 
--- a reader of something that has parts: behind it there may be fewer
+-- a parser of something that has parts: it takes the number of parts allowed, and returns the number left
 abbrev pub Reader : Type 0 → Type 0
 Reader A = (parts : ℕ) → List ℕ → Outcome (Taken A)
 
--- what stands between the brackets of a pseudo-class
+-- a parser of the arguments of a pseudo-class
 abbrev pub ArgumentsReader : Type 0
 ArgumentsReader = Function → Reader Asked
 
--- a combinator, and what is asked behind it
+-- a combinator, and the condition of the compound selector after it
 pub record Linked : Type 0 where
   pub combinator : Combinator
   pub compound : Asked
@@ -33,27 +33,27 @@ linked combinator compound = record { combinator = combinator; compound = compou
 abbrev pub link_asked : Link → Linked
 link_asked link = linked link.combinator (asked link.compound)
 
--- with what else is asked of the element, if anything is
+-- a condition, and another one if there is one
 abbrev pub both_if : Asked → Option Asked → Asked
 both_if one None = one
 both_if one (Some other) = both one other
 
--- with what was asked before, if anything was
+-- the condition before, if there is one, and the next
 abbrev pub asked_too : Option Asked → Asked → Asked
 asked_too None next = next
 asked_too (Some before) next = both before next
 
--- a selector asks of the last element, and from there backwards
+-- the condition of a selector: on its last element, and from there backwards
 abbrev pub backwards : Asked → List Linked → Asked
 backwards first [] = first
 backwards first (link ∷ links) = backwards (both link.compound (AskLeads (back link.combinator) first)) links
 
--- a relative selector asks from the first element on
+-- the condition of a relative selector: from the first element on
 abbrev pub forwards : List Linked → Option Asked → Option Asked
 forwards [] further = further
 forwards (link ∷ links) further = Some (AskLeads (forth link.combinator) (both_if link.compound (forwards links further)))
 
--- what is read next: nothing, or one more, with what was there before
+-- a step of a repetition: the end, or one more, joined with the result so far
 pub data Next (A : Type 0) : Type 0 where
   Ends : (parts : ℕ) → (rest : List ℕ) → Next A
   Goes : (all : A) → (parts : ℕ) → (rest : List ℕ) → Next A
@@ -62,16 +62,16 @@ abbrev pub going_on : {A : Type 0} → (A → Reader A) → A → Next A → Out
 going_on behind all (Ends parts rest) = Found (taken all parts rest)
 going_on behind all (Goes next parts rest) = behind next parts rest
 
--- what is read next behind what was there before
+-- a parser of a step, given the result so far
 abbrev pub NextReader : Type 0 → Type 0
 NextReader A = A → (parts : ℕ) → List ℕ → Outcome (Next A)
 
--- as many as stand there; there are no more than characters
+-- a repetition, as often as possible: there are no more steps than characters
 unfoldable pub repeated : {A : Type 0} → NextReader A → ℕ → A → Reader A
 repeated next zero all parts text = Found (taken all parts text)
 repeated next (suc n) all parts text = next all parts text >>= going_on (repeated next n) all
 
--- one more behind a comma, joined to those before
+-- a further item after a comma, joined with the result so far
 abbrev pub comma_next : {A : Type 0} → (join : A → Asked → A) → (item : Reader Asked) → NextReader A
 comma_next join item all parts text =
     if begins_with 44 text then item parts (drop 1 text) >>= (λ one. Found (Goes (join all one.value) one.parts one.rest)) else Found (Ends parts text)
@@ -80,7 +80,7 @@ abbrev pub commas_at : {A : Type 0} → (join : A → Asked → A) → (item : R
 commas_at join item all parts text = repeated (comma_next join item) (length text) all parts text
 
 module _ (arguments : ArgumentsReader) where
-  -- a pseudo-class, from behind its `:`
+  -- a pseudo-class, from after its `:`
   unfoldable pub function_at : (name : List ℕ) → Reader Asked
   function_at name parts text = do
     which ← present (function_of name)
@@ -96,7 +96,7 @@ module _ (arguments : ArgumentsReader) where
   unfoldable pub pseudo_class_at : Reader Asked
   pseudo_class_at parts text = present (named_at text) >>= pseudo_class_by parts
 
-  -- an id, a class, an attribute or a pseudo-class, by the character in front of it, if one stands here; it is a part
+  -- an id, a class, an attribute or a pseudo-class, by its first character, if there is one; it is a part
   abbrev pub begins_simple : ℕ → Bool
   begins_simple c = c == 35 || (c == 46 || (c == 91 || c == 58))
 
@@ -111,7 +111,7 @@ module _ (arguments : ArgumentsReader) where
   simple_at parts [] = Found (taken None parts [])
   simple_at parts (c ∷ text) = if begins_simple c then part (simple_of c text) parts else Found (taken None parts (c ∷ text))
 
-  -- one more, maybe behind comments
+  -- one more, maybe after comments
   abbrev pub simple_joined : Option Asked → Taken (Option Asked) → Outcome (Next (Option Asked))
   simple_joined all one =
       elim one.value [
@@ -125,7 +125,7 @@ module _ (arguments : ArgumentsReader) where
   abbrev pub simples_at : Option Asked → Reader (Option Asked)
   simples_at all parts text = repeated simple_next (length text) all parts text
 
-  -- all that is asked of one element: its type, or something else, or both; that is a part, too
+  -- a compound selector: a type, other simple selectors, or both; it is a part as well
   abbrev pub found_of : Taken (Option Asked) → Outcome (Taken Asked)
   found_of read = present read.value >>= (λ found. Found (taken found read.parts read.rest))
 
@@ -138,7 +138,7 @@ module _ (arguments : ArgumentsReader) where
   unfoldable pub compound_at : Reader Asked
   compound_at parts text = part (compound_of text) parts
 
-  -- one more combinator, and a compound selector behind it
+  -- a further combinator, and a compound selector after it
   abbrev pub link_joined : List Linked → (parts : ℕ) → List ℕ → Option (Reading Combinator) → Outcome (Next (List Linked))
   link_joined links parts rest None = Found (Ends parts rest)
   link_joined links parts rest (Some sign) = compound_at parts sign.rest >>= (λ one. Found (Goes (links ++ linked sign.value one.value ∷ []) one.parts one.rest))
@@ -149,21 +149,21 @@ module _ (arguments : ArgumentsReader) where
   abbrev pub links_at : Reader (List Linked)
   links_at parts text = repeated link_next (length text) [] parts text
 
-  -- a selector without a comma
+  -- a complex selector
   unfoldable pub complex_at : Reader Asked
   complex_at parts text = do
     first ← compound_at parts (behind_blanks text)
     links ← links_at first.parts first.rest
     Found (taken (backwards first.value links.value) links.parts links.rest)
 
-  -- a selector of what an element leads to
+  -- a relative selector
   unfoldable pub relative_at : Reader Asked
   relative_at parts text = do
     first ← compound_at parts (leading_at text).rest
     links ← links_at first.parts first.rest
     Found (taken (AskLeads (forth (leading_at text).value) (both_if first.value (forwards links.value None))) links.parts links.rest)
 
-  -- one of several, with commas between them
+  -- one selector of a list; a list, separated by commas
   abbrev pub selector_at : (is_relative : Bool) → Reader Asked
   selector_at is_relative parts text = if is_relative then relative_at parts text else complex_at parts text
 
@@ -172,12 +172,12 @@ module _ (arguments : ArgumentsReader) where
     first ← selector_at is_relative parts text
     commas_at AskOr (selector_at is_relative) first.value first.parts first.rest
 
-  -- there may be none
+  -- a list of selectors, which may be empty
   unfoldable pub list_or_none_at : Reader Asked
   list_or_none_at parts text =
       if begins_with 41 (behind_blanks text) then Found (taken (AskNot AskAny) parts (behind_blanks text)) else list_at false parts (behind_blanks text)
 
-  -- behind `an+b`: `of` and selectors, or nothing
+  -- after `an+b`: `of` and selectors, or nothing
   abbrev pub of_by : (parts : ℕ) → Reading (List ℕ) → Outcome (Taken Asked)
   of_by parts name = if bytes_eq name.value (codes "of") then list_at false parts name.rest else Absent
 
@@ -190,7 +190,7 @@ module _ (arguments : ArgumentsReader) where
     of ← of_at parts indices.rest
     Found (taken (AskNth indices.value side of.value) of.parts of.rest)
 
--- what a function takes, by what is read in selectors that are nested, and in those of `:has()`, which isn't nested in itself
+-- the arguments of each pseudo-class, given the parsers of nested selectors and of those in `:has()`, which can't be nested
 unfoldable pub arguments_by : (nested in_has : ArgumentsReader) → (is_in_has : Bool) → ArgumentsReader
 arguments_by nested in_has is_in_has function.Not parts text = seen_as AskNot (list_at nested false parts text)
 arguments_by nested in_has is_in_has function.Is parts text = list_or_none_at nested parts text
@@ -198,16 +198,16 @@ arguments_by nested in_has is_in_has function.Has parts text = if is_in_has then
 arguments_by nested in_has is_in_has (function.NthChild side) parts text = nth_child_at nested side parts text
 arguments_by nested in_has is_in_has (function.NthOfType side) parts text = partless (λ indices. AskNthOfType indices side) parts (indices_at text)
 
--- each nested selector has parts, so none is nested deeper than there may be parts
+-- each nested selector has a part, so none is nested deeper than the number of parts
 unfoldable pub arguments_within : (depth : ℕ) → (is_in_has : Bool) → ArgumentsReader
 arguments_within zero is_in_has which parts text = TooMany
 arguments_within (suc depth) is_in_has which parts text = arguments_by (arguments_within depth is_in_has) (arguments_within depth true) is_in_has which parts text
 
--- so many parts a selector may have, those of the selectors in it too
+-- the greatest number of parts of a selector, including nested selectors
 abbrev pub most_parts : ℕ
 most_parts = 1000
 
--- the selectors of a whole text; each has parts of its own
+-- the selectors of a whole text; each has its own number of parts
 abbrev pub top_at : Reader Asked
 top_at parts text = complex_at (arguments_within most_parts false) most_parts text
 

@@ -1,4 +1,4 @@
--- Which elements a selector matches (Selectors Level 4; HTML standard, section 4.16.2, "Case-sensitivity of selectors").
+-- The elements that a selector matches (Selectors Level 4; HTML standard, section 4.16.2, "Case-sensitivity of selectors").
 use Rattle.std.specs.Prelude.{ℕ, ◌+◌, ◌==◌, ◌&&◌, ◌||◌, Bool, true, false, if◌then◌else◌, not, is_some, length, List, Option, codes, string_bytes}
 use Rattle.std.specs.List.{filter, list_any}
 use Rattle.std.specs.Option.{option_map_or}
@@ -17,7 +17,7 @@ use Rattle.h5_selectors.specs.declared.formula.Written.{Written}
 abbrev pub is_html : QualName → Bool
 is_html name = is_same_text name.ns html_text
 
--- the name that an element of HTML has to have, or another
+-- the name to compare with: for HTML elements, or for others
 abbrev pub name_for : Written → (in_html : Bool) → List ℕ
 name_for written in_html = if in_html then written.lower else written.exact
 
@@ -34,13 +34,13 @@ has_value test in_html attrs =
 abbrev pub are_alike : QualName → QualName → Bool
 are_alike one other = is_same_text one.local other.local && is_same_text one.ns other.ns
 
--- a link of HTML: an `a` or an `area` with an `href` (HTML standard, section 4.16.3, ":link")
+-- an HTML link: an `a` or an `area` with an `href` (HTML standard, section 4.16.3, ":link")
 abbrev pub is_link : QualName → List AttributeText → Bool
 is_link name attrs = is_html name && ((is_same_text name.local (codes "a") || is_same_text name.local (codes "area")) && is_some (value_of (codes "href") attrs))
 
--- in a forest, where texts of ids and classes have case or haven't (quirks mode), below an element or a node that is none
+-- in a forest, with ids and classes compared ASCII case-insensitively in quirks mode, and with a scope element or none
 module _ (f : Forest) (quirky : Bool) (scope : Option ℕ) where
-  -- a question about the name of an element
+  -- a test of an element's name
   abbrev pub asks_name : (QualName → Bool) → ℕ → Bool
   asks_name test n = option_map_or test (name_of f n) false
 
@@ -56,7 +56,7 @@ module _ (f : Forest) (quirky : Bool) (scope : Option ℕ) where
   abbrev pub is_alike : ℕ → ℕ → Bool
   is_alike n m = asks_name (λ name. asks_name (are_alike name) m) n
 
-  -- whether this holds of an element
+  -- true if the condition holds for an element
   abbrev pub holds : Formula → ℕ → Bool
   holds Any n = true
   holds (Name written) n = asks_name (is_named written) n
@@ -74,6 +74,6 @@ module _ (f : Forest) (quirky : Bool) (scope : Option ℕ) where
   holds (Or' p one q other) n = holds one n || holds other n
   holds (Leads' way p inner) n = list_any (holds inner) (led way f n)
 
-  -- whether one of a list of selectors matches
+  -- true if one of a list of selectors matches
   abbrev pub matches : List Formula → ℕ → Bool
   matches list n = list_any (λ selector. holds selector n) list

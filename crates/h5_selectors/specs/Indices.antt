@@ -4,11 +4,11 @@ use Rattle.std.specs.Char.{is_digit, to_ascii_lowercase}
 use Rattle.h5_selectors.specs.Tokens.{Reading, begins, begins_with, behind_blanks, is_at_name, name_at, number_at, reading}
 use Rattle.h5_selectors.specs.declared.formula.AnPlusB.{AnPlusB}
 
--- a and b by their sizes, and whether they are below zero
+-- the absolute values of a and b, and flags for negative ones
 abbrev pub indices : (step : ℕ) → (falls : Bool) → (offset : ℕ) → (is_under : Bool) → AnPlusB
 indices step falls offset is_under = record { step = step; falls = falls; offset = offset; is_under = is_under }
 
--- b without a sign: digits with no name behind them
+-- b without a sign: digits that no name follows
 abbrev pub offset_of : (step : ℕ) → (falls is_under : Bool) → Reading (Option ℕ) → Option (Reading AnPlusB)
 offset_of step falls is_under digits =
     elim digits.value [
@@ -19,7 +19,7 @@ offset_of step falls is_under digits =
 unfoldable pub signless_at : (step : ℕ) → (falls is_under : Bool) → List ℕ → Option (Reading AnPlusB)
 signless_at step falls is_under text = offset_of step falls is_under (number_at text)
 
--- behind `an`: a sign and digits, maybe with blanks around the sign, or nothing
+-- after `an`: a sign and digits, maybe with whitespace around the sign, or nothing
 unfoldable pub offset_at : (step : ℕ) → (falls : Bool) → List ℕ → Option (Reading AnPlusB)
 offset_at step falls text =
     let here = behind_blanks text in
@@ -34,7 +34,7 @@ whole_of digits = if begins (λ _. true) digits.rest then None else digits.value
 unfoldable pub whole_number : List ℕ → Option ℕ
 whole_number text = whole_of (number_at text)
 
--- `n-` and digits in one name, or apart
+-- `n-` and digits, in one name or separate
 abbrev pub minus_by : (step : ℕ) → (falls : Bool) → (digits : List ℕ) → (rest : List ℕ) → Option (Reading AnPlusB)
 minus_by step falls [] rest = signless_at step falls true (behind_blanks rest)
 minus_by step falls (c ∷ digits) rest = option_map (λ offset. reading (indices step falls offset true) rest) (whole_number (c ∷ digits))
@@ -43,7 +43,7 @@ abbrev pub behind_n : (step : ℕ) → (falls : Bool) → (name : List ℕ) → 
 behind_n step falls [] rest = offset_at step falls rest
 behind_n step falls (c ∷ digits) rest = if c == 45 then minus_by step falls digits rest else None
 
--- a name behind the size of a, in lower case: `n`, `n-`, or `n-` and digits
+-- a name in lower case after the absolute value of a: `n`, `n-`, or `n-` and digits
 unfoldable pub unit_at : (step : ℕ) → (falls : Bool) → (name : List ℕ) → (rest : List ℕ) → Option (Reading AnPlusB)
 unit_at step falls [] rest = None
 unit_at step falls (n ∷ name) rest = if n == 110 then behind_n step falls name rest else None
@@ -51,7 +51,7 @@ unit_at step falls (n ∷ name) rest = if n == 110 then behind_n step falls name
 abbrev pub lower_name_at : List ℕ → Reading (List ℕ)
 lower_name_at text = reading (map to_ascii_lowercase (name_at text).value) (name_at text).rest
 
--- a name without a number: a is 1, or -1 behind `-`
+-- a name without a number: a is 1, or -1 after `-`
 abbrev pub dashed_unit_at : (name : List ℕ) → (rest : List ℕ) → Option (Reading AnPlusB)
 dashed_unit_at name rest = if begins_with 45 name then unit_at 1 true (drop 1 name) rest else unit_at 1 false name rest
 
@@ -65,7 +65,7 @@ named_by is_signed name =
 unfoldable pub named_indices_at : (is_signed : Bool) → List ℕ → Option (Reading AnPlusB)
 named_indices_at is_signed text = if is_at_name text then named_by is_signed (lower_name_at text) else None
 
--- a number: it is b where no name stands behind it, and else a
+-- a number: it is b if no name follows it, and a if one does
 abbrev pub numbered_at : (falls : Bool) → (number : ℕ) → (rest : List ℕ) → Option (Reading AnPlusB)
 numbered_at falls number rest =
     if is_at_name rest then unit_at number falls (lower_name_at rest).value (lower_name_at rest).rest
@@ -78,7 +78,7 @@ unsigned_at is_signed falls text =
       | Some number ↦ numbered_at falls number (number_at text).rest
     ]
 
--- a sign, where one stands here: `+`, or `-` in front of a digit, since before a letter it belongs to a name
+-- a sign, if there is one: `+`, or `-` before a digit, since before a letter it belongs to a name
 abbrev pub is_minus : List ℕ → Bool
 is_minus text = begins_with 45 text && begins (λ c. is_digit c 10) (drop 1 text)
 

@@ -1,4 +1,4 @@
--- What an element is asked in, as the definitions take it.
+-- The context of a test, in the terms of the definitions.
 use Rattle.std.specs.Prelude.{ℕ, Bool, List, Option}
 use Rattle.h5_interface.specs.Forest.{Forest}
 use Rattle.h5_arena.specs.ArenaModel.{forest_seen, optional_place}

@@ -1,4 +1,4 @@
--- Tables: what is asked of the node of each row.
+-- Tables: for each row, the result of a test on its node.
 use Rattle.std.specs.Prelude.{◌≡◌, ◌<◌, ℕ, ◌+◌, ◌&&◌, ◌||◌, Bool, true, false, List, [], ◌∷◌, ◌++◌, Option, None, Some, cond, get_or, length, nat_lt}
 use Rattle.std.specs.List.{filter, list_any}
 use Rattle.h5_interface.specs.Forest.{Forest}
@@ -18,20 +18,20 @@ use Rattle.h5_selectors.specs.declared.holds.Query.{Query}
 use Rattle.h5_selectors.specs.declared.rows.Links.{Links}
 use Rattle.h5_selectors.specs.declared.rows.Rows.{Rows}
 
--- a table says of each row whether a test passes on its node
+-- a table has the result of a test on each row's node
 abbrev pub Tells : (test : ℕ → Bool) → Rows → (table : List Bool) → Type 0
 Tells test rows table = (k : ℕ) → k < length rows.ids.items → get_or table k false ≡ test (node_of rows k)
 
--- and of those of a set alone
+-- a table has the result of a test for the rows of a set, and false for others
 abbrev pub Narrows : (test : ℕ → Bool) → Rows → (set table : List Bool) → Type 0
 Narrows test rows set table = (k : ℕ) → k < length rows.ids.items → get_or table k false ≡ (get_or set k false && test (node_of rows k))
 
--- what a table says of a row that is linked
+-- the entry of a linked row
 abbrev pub told : List Bool → Option ℕ → Bool
 told table None = false
 told table (Some row) = get_or table row false
 
--- the link that is followed to where an element leads
+-- the link to the row that is looked up for a relation
 abbrev pub link_to : Way → Links → Option ℕ
 link_to Parent links = links.parent
 link_to Ancestor links = links.parent
@@ -42,19 +42,19 @@ link_to Later links = links.next
 link_to Child links = links.first
 link_to Below links = links.first
 
--- whether a way may lead to the first row
+-- true if a relation may have the first row as its target
 abbrev pub leads_up : Way → Bool
 leads_up Parent = true
 leads_up Ancestor = true
 leads_up way = false
 
--- whether it may lead from the first row to where there are no rows
+-- true if the first row can have elements outside the rows in a relation
 abbrev pub leads_out : Way → Bool
 leads_out Child = false
 leads_out Below = false
 leads_out way = true
 
--- what has to be known there: whether a test passes on that node, or on one further along
+-- the entry to look up for a relation: true if a test passes for that node, or for one further along
 module _ (f : Forest) (test : ℕ → Bool) where
   abbrev pub there : Way → ℕ → Bool
   there Parent n = is_element f n && test n
@@ -66,23 +66,23 @@ module _ (f : Forest) (test : ℕ → Bool) where
   there Child n = list_any test (n ∷ behind f n)
   there Below n = list_any (λ m. list_any test (with_below f m)) (n ∷ behind f n)
 
-  -- a table that tells that of each row to which the way may lead
+  -- a table with this entry for each row that may be the target of the relation
   abbrev pub TellsAhead : Way → Rows → (table : List Bool) → Type 0
   TellsAhead way rows table = (k : ℕ) → (nat_lt 0 k || leads_up way) ≡ true → k < length rows.ids.items → get_or table k false ≡ there way (node_of rows k)
 
-  -- how many siblings pass, before or behind the nodes of all rows but the first
+  -- the number of siblings that pass, before or after the nodes of all rows except the first
   abbrev pub Counts : Side → Rows → (counts : List ℕ) → Type 0
   Counts side rows counts = (k : ℕ) → 0 < k → k < length rows.ids.items → get_or counts k 0 ≡ length (filter test (counted side f (node_of rows k)))
 
--- whether two nodes have one name
+-- true if two nodes have equal names
 abbrev pub alike_by : Query → ℕ → ℕ → Bool
 alike_by query = is_alike (seen_by query) (quirky_by query) (scope_by query)
 
--- how many siblings have a node's name, before or behind it
+-- the number of siblings with a node's name, before or after it
 abbrev pub count_alike : Query → Side → ℕ → ℕ
 count_alike query side n = length (filter (alike_by query n) (counted side (seen_by query) n))
 
--- the nearest sibling before the node of a row, or behind it, that has its name: there is one fewer before that, or behind it
+-- the nearest sibling with the name of a row's node, before or after it: its count is less by 1
 abbrev pub IsAlikeBefore : Query → Rows → (row : ℕ) → Option ℕ → Type 0
 IsAlikeBefore query rows k None = count_alike query First (node_of rows k) ≡ 0
 IsAlikeBefore query rows k (Some q) = (0 < q) × (q < k) × (count_alike query First (node_of rows k) ≡ count_alike query First (node_of rows q) + 1)
@@ -91,16 +91,16 @@ abbrev pub IsAlikeBehind : Query → Rows → (row : ℕ) → Option ℕ → Typ
 IsAlikeBehind query rows k None = count_alike query Last (node_of rows k) ≡ 0
 IsAlikeBehind query rows k (Some r) = (k < r) × (r < length rows.ids.items) × (count_alike query Last (node_of rows k) ≡ count_alike query Last (node_of rows r) + 1)
 
--- counts of that for all rows but the first
+-- these counts for all rows except the first
 abbrev pub CountsAlike : Query → Side → Rows → (counts : List ℕ) → Type 0
 CountsAlike query side rows counts = (k : ℕ) → 0 < k → k < length rows.ids.items → get_or counts k 0 ≡ count_alike query side (node_of rows k)
 
--- how many, with a row that is linked
+-- the count of a linked row, plus 1 if that row is in a set
 abbrev pub counted_at : List ℕ → List Bool → Option ℕ → ℕ
 counted_at counts set None = 0
 counted_at counts set (Some row) = get_or counts row 0 + cond (get_or set row false) 1 0
 
--- whether an index among siblings is one of these
+-- true if an index among siblings is one of these
 abbrev pub is_nth_by : Query → AnPlusB → Side → Formula → ℕ → Bool
 is_nth_by query indices side of n = holds_by query of n && is_index indices (length (filter (holds_by query of) (counted side (seen_by query) n)) + 1)
 

@@ -1,11 +1,12 @@
--- The tokens of a selector's text, read character by character (CSS Syntax Level 3, section 4, "Tokenization"). What is read stands at the front of a text.
+-- The tokens of a selector, parsed character by character (CSS Syntax Level 3, section 4, "Tokenization"). Each definition parses the start
+-- of a text.
 use Rattle.std.specs.Prelude.{ℕ, ◌+◌, ◌*◌, ◌-◌, ◌^◌, ◌==◌, ◌&&◌, ◌||◌, Bool, true, false, if◌then◌else◌, List, [], ◌∷◌, ◌++◌, Option, None, Some, drop, length, min, nat_le, not, unwrap_or}
 use Prim.Native.Nat.{zero, suc}
 use Rattle.std.specs.Char.{digit_value, is_digit}
 use lib.Utf8.{scalar}
 use Rattle.std.specs.Str.{encode_utf8_all}
 
--- what is read, and what is left behind it
+-- a result, and the text after it
 pub record Reading (A : Type 0) : Type 0 where
   pub value : A
   pub rest : List ℕ
@@ -19,7 +20,7 @@ backslash = 92
 abbrev pub replacement : ℕ
 replacement = 0xfffd
 
--- whether the first character passes a test
+-- true if the first character passes a test
 abbrev pub begins : (ℕ → Bool) → List ℕ → Bool
 begins test [] = false
 begins test (c ∷ text) = test c
@@ -27,12 +28,12 @@ begins test (c ∷ text) = test c
 abbrev pub begins_with : ℕ → List ℕ → Bool
 begins_with wanted = begins (λ c. c == wanted)
 
--- a piece and what is read behind it; where there is none nothing is read
+-- a piece and the result after it; nothing without a piece
 abbrev pub joined : {A : Type 0} → Option (Reading (List A)) → (List ℕ → Reading (List A)) → List ℕ → Reading (List A)
 joined None behind text = reading [] text
 joined (Some piece) behind text = reading (piece.value ++ (behind piece.rest).value) (behind piece.rest).rest
 
--- pieces one behind another, as many as stand there; there are no more than characters
+-- pieces, as many as there are: no more than characters
 unfoldable pub pieces_within : {A : Type 0} → (List ℕ → Option (Reading (List A))) → ℕ → List ℕ → Reading (List A)
 pieces_within piece zero text = reading [] text
 pieces_within piece (suc n) text = joined (piece text) (pieces_within piece n) text
@@ -40,7 +41,7 @@ pieces_within piece (suc n) text = joined (piece text) (pieces_within piece n) t
 abbrev pub pieces : {A : Type 0} → (List ℕ → Option (Reading (List A))) → List ℕ → Reading (List A)
 pieces piece text = pieces_within piece (length text) text
 
--- section 4.2, "Definitions", where CR and FF are newlines yet (section 3.3)
+-- section 4.2, "Definitions"; CR and FF are also newlines here, since the input isn't preprocessed (section 3.3)
 abbrev pub is_newline : ℕ → Bool
 is_newline c = c == 10 || (c == 13 || c == 12)
 
@@ -50,7 +51,7 @@ is_blank c = (c == 32 || c == 9) || is_newline c
 abbrev pub is_letter : ℕ → Bool
 is_letter c = (nat_le 97 c && nat_le c 122) || (nat_le 65 c && nat_le c 90)
 
--- a NUL stands for U+FFFD
+-- a NUL is read as U+FFFD
 abbrev pub begins_name : ℕ → Bool
 begins_name c = (is_letter c || (c == 95 || c == 0)) || nat_le 128 c
 
@@ -60,7 +61,7 @@ is_in_name c = begins_name c || (is_digit c 10 || c == 45)
 abbrev pub cleaned : ℕ → ℕ
 cleaned c = if c == 0 then replacement else c
 
--- from behind `/*` to behind the first `*/`, or to the end (section 4.3.2, "Consume comments")
+-- from after `/*` to after the first `*/`, or to the end (section 4.3.2, "Consume comments")
 abbrev pub behind_comment : List ℕ → List ℕ
 behind_comment [] = []
 behind_comment (c ∷ text) = if c == 42 && begins_with 47 text then drop 1 text else behind_comment text
@@ -68,23 +69,23 @@ behind_comment (c ∷ text) = if c == 42 && begins_with 47 text then drop 1 text
 abbrev pub is_comment : List ℕ → Bool
 is_comment text = begins_with 47 text && begins_with 42 (drop 1 text)
 
--- a comment, which is nothing
+-- a comment, which has no characters
 abbrev pub comment_at : List ℕ → Option (Reading (List ℕ))
 comment_at text = if is_comment text then Some (reading [] (behind_comment (drop 2 text))) else None
 
--- a blank or a comment
+-- whitespace or a comment
 abbrev pub blank_at : List ℕ → Option (Reading (List ℕ))
 blank_at [] = None
 blank_at (c ∷ text) = if is_blank c then Some (reading (c ∷ []) text) else comment_at (c ∷ text)
 
--- what comments leave; the blanks among comments and blanks, and what these leave
+-- the text after comments; the whitespace among comments and whitespace, and the text after these
 unfoldable pub behind_comments : List ℕ → List ℕ
 behind_comments text = (pieces comment_at text).rest
 
 unfoldable pub blanks : List ℕ → Reading (List ℕ)
 blanks text = pieces blank_at text
 
--- whether a blank stands here, maybe behind comments
+-- true if there is whitespace, maybe after comments
 abbrev pub is_spaced : List ℕ → Bool
 is_spaced text = begins (λ _. true) (blanks text).value
 
@@ -95,23 +96,23 @@ abbrev pub digit_at : (radix : ℕ) → List ℕ → Option (Reading (List ℕ))
 digit_at radix [] = None
 digit_at radix (c ∷ text) = if is_digit c radix then Some (reading (digit_value c ∷ []) text) else None
 
--- a number with a digit behind it; one past the largest is the largest
+-- a number with another digit, at most the greatest number
 abbrev pub appended : (radix : ℕ) → Option ℕ → ℕ → ℕ
 appended radix number digit = min (unwrap_or number 0 * radix + digit) (2 ^ 32 - 1)
 
--- the number that digits write behind another, if there is any
+-- a number with these digits appended, if there are any
 abbrev pub with_digits : (radix : ℕ) → Option ℕ → List ℕ → Option ℕ
 with_digits radix number [] = number
 with_digits radix number (digit ∷ digits) = with_digits radix (Some (appended radix number digit)) digits
 
--- at most so many digits
+-- at most this number of digits
 unfoldable pub number_within : (radix most : ℕ) → List ℕ → Reading (Option ℕ)
 number_within radix most text = reading (with_digits radix None (pieces_within (digit_at radix) most text).value) (pieces_within (digit_at radix) most text).rest
 
 abbrev pub number_at : List ℕ → Reading (Option ℕ)
 number_at text = number_within 10 (length text) text
 
--- one blank, if one stands here; CR and LF are one
+-- the text after one whitespace, if there is one; CR LF is one
 abbrev pub behind_blank : List ℕ → List ℕ
 behind_blank text =
     if begins_with 13 text && begins_with 10 (drop 1 text) then drop 2 text
@@ -120,7 +121,7 @@ behind_blank text =
 abbrev pub char_of : ℕ → ℕ
 char_of number = if number == 0 then replacement else (if scalar number then number else replacement)
 
--- an escape, from behind its `\` (section 4.3.7, "Consume an escaped code point"); where a number isn't there, the character stands for itself
+-- an escape, from after its `\` (section 4.3.7, "Consume an escaped code point"); without a number, the character means itself
 abbrev pub escape_of : Reading (Option ℕ) → List ℕ → Reading ℕ
 escape_of number [] = reading replacement []
 escape_of number (c ∷ text) =
@@ -152,11 +153,11 @@ name_piece_at (c ∷ text) =
 unfoldable pub name_at : List ℕ → Reading (List ℕ)
 name_at text = pieces name_piece_at text
 
--- a newline; CR and LF are one
+-- the text after a newline; CR LF is one
 abbrev pub behind_newline : List ℕ → List ℕ
 behind_newline text = if begins_with 13 text && begins_with 10 (drop 1 text) then drop 2 text else drop 1 text
 
--- section 4.3.5, "Consume a string token": an escaped newline is nothing; an escape; a character
+-- section 4.3.5, "Consume a string token": an escaped newline has no character; an escape; a character
 abbrev pub string_escape_at : List ℕ → Option (Reading (List ℕ))
 string_escape_at [] = None
 string_escape_at (c ∷ text) =
@@ -169,28 +170,28 @@ string_piece_at quote (c ∷ text) =
     if c == backslash then string_escape_at text
     else (if c == quote || is_newline c then None else Some (reading (cleaned c ∷ []) text))
 
--- in UTF-8, as texts are kept
+-- in UTF-8, as texts are stored
 abbrev pub in_utf8 : Reading (List ℕ) → Reading (List ℕ)
 in_utf8 read = reading (encode_utf8_all read.value) read.rest
 
--- from behind its quote to behind the other; none where the other isn't there
+-- from after a quote to after the other; nothing if the other is missing
 unfoldable pub string_at : (quote : ℕ) → List ℕ → Option (Reading (List ℕ))
 string_at quote text =
     let body = pieces (string_piece_at quote) text in
     if begins_with quote body.rest then Some (reading (encode_utf8_all body.value) (drop 1 body.rest)) else None
 
--- a name, if one stands here
+-- a name, if there is one
 unfoldable pub named_at : List ℕ → Option (Reading (List ℕ))
 named_at text = if is_at_name text then Some (in_utf8 (name_at text)) else None
 
--- a closing bracket, maybe behind blanks
+-- a closing bracket, maybe after whitespace
 unfoldable pub closed_at : (bracket : ℕ) → List ℕ → Option (Reading (Unit {0}))
 closed_at bracket text = if begins_with bracket (behind_blanks text) then Some (reading tt (drop 1 (behind_blanks text))) else None
 
--- a namespace in front of a name, or behind `*`
+-- a namespace prefix before a name or after `*`
 abbrev pub has_namespace : List ℕ → Bool
 has_namespace text = (begins_with 124 text && not (begins_with 61 (drop 1 text))) || (begins_with 42 text && begins_with 124 (drop 1 text))
 
--- none is known
+-- no namespace prefix
 unfoldable pub unqualified_at : List ℕ → Option (Reading (Unit {0}))
 unqualified_at text = if has_namespace text then None else Some (reading tt text)

@@ -1,11 +1,11 @@
--- How the value of an attribute is compared with a text (Selectors Level 4, section 6, "Attribute selectors").
+-- Comparisons of attribute values with a text (Selectors Level 4, section 6, "Attribute selectors").
 use Rattle.std.specs.Prelude.{ℕ, ◌-◌, ◌==◌, ◌&&◌, ◌||◌, Bool, true, false, bytes_eq, drop, if◌then◌else◌, length, List, [], ◌∷◌, ◌++◌, nat_le, not, take}
 use Rattle.std.specs.Str.{str_to_ascii_lowercase}
 use Rattle.std.specs.List.{list_any}
 use Rattle.h5_selectors.specs.declared.formula.Operator.{Operator}
 use Rattle.h5_selectors.specs.declared.formula.Operator.TheVariants.{Begins, Contains, Dash, Ends, Equals, Exists, Includes}
 
--- a text as it is compared: without case, or as it is
+-- a text for comparison: in ASCII lower case, or unchanged
 abbrev pub folded : Bool → List ℕ → List ℕ
 folded true text = str_to_ascii_lowercase text
 folded false text = text
@@ -16,7 +16,7 @@ are_same ignores_case one other = bytes_eq (folded ignores_case one) (folded ign
 abbrev pub is_nothing : List ℕ → Bool
 is_nothing text = length text == 0
 
--- whether a text stands at the front of a value, at its end, or anywhere in it
+-- true if a value begins with a text, ends with it, or contains it
 abbrev pub begins : Bool → (text value : List ℕ) → Bool
 begins i text value = nat_le (length text) (length value) && are_same i text (take (length text) value)
 
@@ -31,7 +31,8 @@ contains i text (v ∷ value) = begins i text (v ∷ value) || contains i text v
 abbrev pub is_blank : ℕ → Bool
 is_blank c = c == 9 || (c == 10 || (c == 12 || (c == 13 || c == 32)))
 
--- the words of a value, between blanks; where two blanks meet one is empty. `word` stands right before the value
+-- the words of a value, separated by whitespace; between two adjacent whitespace characters there is an empty word. `word` is the beginning
+-- of the first word
 abbrev pub words_behind : (word value : List ℕ) → List (List ℕ)
 words_behind word [] = word ∷ []
 words_behind word (c ∷ value) = if is_blank c then word ∷ words_behind [] value else words_behind (word ++ c ∷ []) value
@@ -39,11 +40,11 @@ words_behind word (c ∷ value) = if is_blank c then word ∷ words_behind [] va
 abbrev pub includes : Bool → (text value : List ℕ) → Bool
 includes i text value = not (is_nothing text) && list_any (are_same i text) (words_behind [] value)
 
--- whether it is the text, or begins with it and `-`
+-- true if a value is the text, or begins with it and `-`
 abbrev pub is_dashed : Bool → (text value : List ℕ) → Bool
 is_dashed i text value = begins i text value && (length value == length text || list_any (λ c. c == 45) (take 1 (drop (length text) value)))
 
--- whether a value stands so to a text
+-- true if a value passes a comparison with a text
 abbrev pub compares : Operator → (ignores_case : Bool) → (text value : List ℕ) → Bool
 compares Exists i text value = true
 compares Equals i text value = are_same i text value

@@ -1,4 +1,4 @@
--- Where an element leads to in a forest (DOM standard, section 1.1, "Trees"). Of nodes that are no elements nothing is asked.
+-- Relations between the elements of a forest (DOM standard, section 1.1, "Trees"). Nodes that aren't elements are ignored.
 use Rattle.std.specs.Prelude.{ℕ, Bool, true, false, if◌then◌else◌, List, [], ◌∷◌, Option, None, Some, is_some}
 use Rattle.std.specs.List.{filter}
 use Rattle.std.specs.Option.{option_and_then, option_to_list}
@@ -6,7 +6,7 @@ use Rattle.h5_names.specs.declared.qualified.QualName.{QualName}
 use Rattle.h5_interface.specs.Forest.{Child, ChildNode, ChildText, DocumentNode, Forest, Kind, children_of, kind_of, nodes}
 use Rattle.h5_arena.specs.ArenaModel.{name_of_kind}
 use Rattle.h5_arena.specs.Kin as kin
-use Rattle.h5_arena.specs.Kin.{children_around, children_before, children_behind, descendants, tree_parent}
+use Rattle.h5_arena.specs.Kin.{siblings_with_self, children_before, children_behind, descendants, tree_parent}
 use Rattle.h5_selectors.specs.declared.formula.Side.{Side}
 use Rattle.h5_selectors.specs.declared.formula.Side.TheVariants.{First, Last}
 use Rattle.h5_selectors.specs.declared.formula.Way.{Way}
@@ -29,7 +29,7 @@ elements_among f children = elements f (nodes children)
 abbrev pub child_elements : Forest → ℕ → List ℕ
 child_elements f n = elements_among f (children_of f n)
 
--- the parent, where it is an element
+-- the parent, if it is an element
 abbrev pub parent_element : Forest → ℕ → List ℕ
 parent_element f n = elements f (option_to_list (tree_parent f n))
 
@@ -40,12 +40,12 @@ ancestors f n = elements f (kin.ancestors f n)
 abbrev pub below : Forest → ℕ → List ℕ
 below f n = elements f (descendants f n)
 
--- the sibling elements before and behind a node
+-- the sibling elements before a node, and those after it
 abbrev pub before : Forest → ℕ → List ℕ
-before f n = elements_among f (children_before n (children_around f n))
+before f n = elements_among f (children_before n (siblings_with_self f n))
 
 abbrev pub behind : Forest → ℕ → List ℕ
-behind f n = elements_among f (children_behind n (children_around f n))
+behind f n = elements_among f (children_behind n (siblings_with_self f n))
 
 abbrev pub first_of : List ℕ → List ℕ
 first_of [] = []
@@ -56,7 +56,7 @@ last_of [] = []
 last_of (x ∷ []) = x ∷ []
 last_of (x ∷ y ∷ ys) = last_of (y ∷ ys)
 
--- the elements to which an element leads
+-- the elements in a relation to an element
 abbrev pub led : Way → Forest → ℕ → List ℕ
 led Parent f n = parent_element f n
 led Ancestor f n = ancestors f n
@@ -67,12 +67,12 @@ led Below f n = below f n
 led Next f n = first_of (behind f n)
 led Later f n = behind f n
 
--- the siblings that are counted for a place
+-- the siblings that are counted for an index
 abbrev pub counted : Side → Forest → ℕ → List ℕ
 counted First f n = before f n
 counted Last f n = behind f n
 
--- whether the parent is a document
+-- true if the parent is a document
 abbrev pub is_document : Option Kind → Bool
 is_document None = false
 is_document (Some DocumentNode) = true
@@ -81,7 +81,7 @@ is_document (Some kind) = false
 abbrev pub is_root : Forest → ℕ → Bool
 is_root f n = is_document (option_and_then (kind_of f) (tree_parent f n))
 
--- neither elements nor texts are among children
+-- there are neither elements nor texts among children
 abbrev pub is_bare : Forest → List Child → Bool
 is_bare f [] = true
 is_bare f (ChildText text ∷ cs) = false

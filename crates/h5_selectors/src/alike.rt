@@ -1,4 +1,4 @@
-//! How many siblings of each row have the name of its node.
+//! Counts the siblings of each row that have the same name.
 ghost use Rattle.std.specs.Prelude.{◌≡◌, ◌<◌, ℕ, IfOk, get_or, length, vec_len};
 ghost use Rattle.h5_selectors.specs.Rows.{AreRows};
 ghost use Rattle.h5_selectors.specs.Tables.{CountsAlike, IsAlikeBefore, IsAlikeBehind, one_more};
@@ -10,7 +10,7 @@ use super::tables::{count_of, zeros};
 use crate::Side;
 use std::alloc::AllocError;
 
-// The nearest sibling before a row that has its name.
+// The nearest row of a sibling before, with the same name.
 fn alike_before(query: &Query<'_>, rows: &Rows, at: usize) -> Option<usize>
     requires rows { AreRows query.now rows.now }
     requires some { 0 < at }
@@ -28,7 +28,7 @@ fn alike_before(query: &Query<'_>, rows: &Rows, at: usize) -> Option<usize>
     None
 }
 
-// The nearest one behind it.
+// The nearest row of a sibling after, with the same name.
 fn alike_behind(query: &Query<'_>, rows: &Rows, at: usize) -> Option<usize>
     requires rows { AreRows query.now rows.now }
     requires some { 0 < at }
@@ -46,7 +46,7 @@ fn alike_behind(query: &Query<'_>, rows: &Rows, at: usize) -> Option<usize>
     None
 }
 
-// One more than are counted for a row, or none.
+// The count of a row plus 1; 0 without a row.
 fn one_more(counts: &[usize], link: Option<usize>) -> usize
     requires { (k : ℕ) → get_or counts.now k 0 < 18446744073709551615 }
     ensures { result ≡ one_more counts.now link }
@@ -57,7 +57,7 @@ fn one_more(counts: &[usize], link: Option<usize>) -> usize
     }
 }
 
-// Of each row, how many siblings before it have its name.
+// For each row, the number of siblings before with the same name.
 fn before(query: &Query<'_>, rows: &Rows) -> Result<Vec<usize>, AllocError>
     requires { AreRows query.now rows.now }
     ensures count { IfOk result (λ counts. vec_len counts ≡ length rows.now.ids.items) }
@@ -71,7 +71,7 @@ fn before(query: &Query<'_>, rows: &Rows) -> Result<Vec<usize>, AllocError>
     Ok(counts)
 }
 
-// And behind it.
+// For each row, the number of siblings after with the same name.
 fn behind(query: &Query<'_>, rows: &Rows) -> Result<Vec<usize>, AllocError>
     requires { AreRows query.now rows.now }
     ensures count { IfOk result (λ counts. vec_len counts ≡ length rows.now.ids.items) }
@@ -86,7 +86,7 @@ fn behind(query: &Query<'_>, rows: &Rows) -> Result<Vec<usize>, AllocError>
     Ok(counts)
 }
 
-/// Of each row but the first, how many siblings on this side of it have its name.
+/// For each row except the first, the number of siblings on this side with the same name.
 pub(crate) fn counts_alike(
     query: &Query<'_>,
     rows: &Rows,

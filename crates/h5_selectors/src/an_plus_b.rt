@@ -1,10 +1,10 @@
-//! Indices `an+b`.
+//! Tests of indices `an+b`.
 ghost use Rattle.std.specs.Prelude.{◌≡◌, ◌+◌};
 ghost use Rattle.h5_selectors.specs.AnPlusB.{is_index, is_multiple};
 
 use super::formula::AnPlusB;
 
-// Whether a number is a multiple of a size.
+// Returns true if a number is a multiple of a size.
 fn is_multiple(size: u32, number: u128) -> bool
     ensures { result ≡ is_multiple size number }
 {
@@ -15,7 +15,7 @@ fn is_multiple(size: u32, number: u128) -> bool
 }
 
 impl AnPlusB {
-    /// Whether the index behind so many others is one of them.
+    /// Returns true if the index after `count` others is one of these indices.
     pub fn has_behind(self, count: usize) -> bool
         ensures { result ≡ is_index self (count + 1) }
     {

@@ -1,17 +1,17 @@
-//! The text of an attribute selector (Selectors Level 4, section 6, "Attribute selectors").
+//! Parses attribute selectors (Selectors Level 4, section 6, "Attribute selectors").
 ghost use Rattle.std.specs.Prelude.{◌≡◌, IfOk, option_map, string_bytes};
 ghost use Rattle.std.specs.Str.{str_to_ascii_lowercase};
 ghost use Rattle.h5_selectors.specs.Attributes.{attribute_at, comparison, comparison_at, flag_at, is_caseless, operator_at, test_by, test_text, value_at};
 ghost use Rattle.h5_selectors.specs.Reads.{Reads};
 ghost use Rattle.h5_selectors.specs.Tokens.{reading};
 
-use super::fault::{Problem, Refusal};
+use super::fault::{Refusal, SelectorProblem};
 use super::formula::{AttrTest, Operator, Written};
 use super::scan::Scan;
 use h5_names::LocalName;
 use std::alloc::{AllocError, Global};
 
-// The attributes whose values HTML compares without case (HTML standard, section 4.16.2).
+// The attributes whose values HTML compares ASCII case-insensitively (HTML standard, section 4.16.2).
 static CASELESS: [&str; 46] = [
     "accept",
     "accept-charset",
@@ -61,7 +61,7 @@ static CASELESS: [&str; 46] = [
     "vlink",
 ];
 
-// Whether HTML compares the values of this attribute without case.
+// Returns true if HTML compares the values of this attribute ASCII case-insensitively.
 #[tactic(auto, unfolding(crate::specs::Attributes::is_caseless))]
 fn is_caseless(name: &str) -> bool
     ensures { result ≡ is_caseless name.now }
@@ -69,7 +69,7 @@ fn is_caseless(name: &str) -> bool
     CASELESS.contains(&name)
 }
 
-/// A name as it is written, and in lower case.
+/// A name in its spelling, and in ASCII lower case.
 pub(crate) fn written(alloc: Global, text: &str) -> Result<Written, AllocError>
     ensures { IfOk result (λ written. (written.exact ≡ text.now) × (written.lower ≡ str_to_ascii_lowercase text.now)) }
 {
@@ -80,7 +80,7 @@ pub(crate) fn written(alloc: Global, text: &str) -> Result<Written, AllocError>
     })
 }
 
-// An operator at the front of a text, and what is left behind it.
+// An operator at the start of a text, and the text after it.
 #[tactic(auto, unfolding(crate::specs::Attributes::operator_at))]
 fn operator_at(text: &[char]) -> Option<(Operator, &[char])>
     ensures { option_map (λ found. reading found.0 found.1.now) result ≡ operator_at text.now }
@@ -96,7 +96,7 @@ fn operator_at(text: &[char]) -> Option<(Operator, &[char])>
     }
 }
 
-// How the value of an attribute is compared: an operator, a text, and whether a flag says that case is ignored.
+// A comparison of an attribute's value: the operator, the text, and the flag for case, if there is one.
 #[derive(Drop)]
 struct Comparison {
     operator: Operator,
@@ -113,9 +113,9 @@ impl<'a> Scan<'a> {
             return Ok(operator);
         }
         if self.rest.is_empty() {
-            return Err(self.refusal(Problem::Unclosed));
+            return Err(self.refusal(SelectorProblem::Unclosed));
         }
-        Err(self.refusal(Problem::Operator))
+        Err(self.refusal(SelectorProblem::Operator))
     }
 
     // A string or a name.
@@ -129,18 +129,18 @@ impl<'a> Scan<'a> {
                 self.skip();
                 return match self.string(alloc, quote)? {
                     Some(text) => Ok(text),
-                    None => Err(self.refusal(Problem::Unclosed)),
+                    None => Err(self.refusal(SelectorProblem::Unclosed)),
                 };
             }
         }
         if !self.is_at_name() {
-            return Err(self.refusal(Problem::Value));
+            return Err(self.refusal(SelectorProblem::Value));
         }
         let name = self.name_rest(alloc)?;
         Ok(name)
     }
 
-    // The flag behind a value: whether case is to be ignored, if that is said.
+    // The flag after a value, if there is one: true to ignore case.
     #[tactic(auto, unfolding(crate::specs::Attributes::flag_at))]
     fn flag(&mut self, alloc: Global) -> Result<Option<bool>, Refusal>
         ensures { Reads (λ flag. flag) result self.new.rest.now (flag_at self.old.rest.now) }
@@ -154,11 +154,11 @@ impl<'a> Scan<'a> {
         match name.as_str() {
             "i" | "I" => Ok(Some(true)),
             "s" | "S" => Ok(Some(false)),
-            _ => Err(here.refusal(Problem::Flag)),
+            _ => Err(here.refusal(SelectorProblem::Flag)),
         }
     }
 
-    // How a value is compared. It isn't where `]` stands.
+    // The comparison of a value. Without one, `]` follows.
     #[tactic(auto, unfolding(crate::specs::Attributes::comparison_at))]
     fn comparison(&mut self, alloc: Global) -> Result<Comparison, Refusal>
         ensures { Reads (λ c. comparison c.operator (string_bytes c.text) c.flag) result self.new.rest.now (comparison_at self.old.rest.now) }
@@ -180,7 +180,7 @@ impl<'a> Scan<'a> {
         })
     }
 
-    /// The test of an attribute, from behind `[` to behind `]`.
+    /// An attribute selector, from after `[` to after `]`.
     #[tactic(auto, unfolding(crate::specs::Attributes::attribute_at))]
     pub(crate) fn attribute(&mut self, alloc: Global) -> Result<AttrTest, Refusal>
         ensures { Reads test_text result self.new.rest.now (attribute_at self.old.rest.now) }
@@ -197,7 +197,7 @@ impl<'a> Scan<'a> {
     }
 }
 
-// The test of a name.
+// The test of an attribute with this name.
 fn test_of(name: Written, compared: Comparison) -> AttrTest
     ensures { test_text result ≡ test_by name.exact name.lower (comparison compared.operator (string_bytes compared.text) compared.flag) }
 {

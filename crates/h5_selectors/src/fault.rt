@@ -1,73 +1,78 @@
-//! Why a text is no selector.
+//! Errors of parsing a selector.
 ghost use Rattle.std.specs.Prelude.{◌≡◌, ℕ};
 ghost use Rattle.h5_selectors.specs.Fault.{IsWithin};
-ghost use Rattle.h5_selectors.specs.declared.fault.SelectorFault.TheVariants.{Invalid};
+ghost use Rattle.h5_selectors.specs.declared.fault.SelectorError.TheVariants.{Invalid};
 
 use std::alloc::{AllocError, AllocFailed};
 use thiserror::Error;
 
-/// What is wrong with a text.
+/// The problem of a text.
 #[derive(Clone, Copy, Debug, PartialEq, Eq, Error)]
-pub enum Problem {
-    /// No selector stands here.
-    #[error("a selector should stand here")]
+pub enum SelectorProblem {
+    /// A selector is missing.
+    #[error("expected a selector")]
     Selector,
-    /// No name stands here.
-    #[error("a name should stand here")]
+    /// A name is missing.
+    #[error("expected a name")]
     Name,
-    /// Behind the name of an attribute neither an operator nor `]` stands.
-    #[error("an operator or ']' should stand here")]
+    /// An operator or `]` is missing after the name of an attribute.
+    #[error("expected an operator or ']'")]
     Operator,
-    /// Behind an operator neither a string nor a name stands.
-    #[error("a string or a name should stand here")]
+    /// A string or a name is missing after an operator.
+    #[error("expected a string or a name")]
     Value,
-    /// Behind the value of an attribute neither `i`, `s` nor `]` stands.
-    #[error("'i', 's' or ']' should stand here")]
+    /// `i`, `s` or `]` is missing after the value of an attribute.
+    #[error("expected 'i', 's' or ']'")]
     Flag,
-    /// A string or a bracket isn't closed, or a newline stands in a string.
-    #[error("not closed")]
+    /// A string or a bracket isn't closed, or a string contains a newline.
+    #[error("unclosed string or bracket")]
     Unclosed,
-    /// A pseudo-class that isn't known.
-    #[error("no pseudo-class that is known")]
+    /// An unknown pseudo-class.
+    #[error("unknown pseudo-class")]
     PseudoClass,
-    /// A pseudo-element. None is an element of a tree.
-    #[error("a pseudo-element is no element")]
+    /// A pseudo-element, which isn't an element of a tree.
+    #[error("pseudo-elements are not supported")]
     PseudoElement,
-    /// A namespace. None can be declared.
-    #[error("namespaces are not known")]
+    /// A namespace prefix; no prefix can be declared.
+    #[error("namespaces are not supported")]
     Namespace,
-    /// Neither `an+b`, `odd` nor `even` stands here.
-    #[error("'an+b', 'odd' or 'even' should stand here")]
+    /// `an+b`, `odd` or `even` is missing.
+    #[error("expected 'an+b', 'odd' or 'even'")]
     AnPlusB,
     /// `:has()` inside `:has()`.
-    #[error("':has()' inside ':has()'")]
+    #[error("':has()' can't be nested")]
     NestedHas,
-    /// Something that may not stand behind a selector.
-    #[error("this may not stand behind a selector")]
+    /// Text after the selector that isn't part of it.
+    #[error("unexpected text after the selector")]
     Rest,
-    /// A selector has more parts than the 1,000 that it may have.
-    #[error("too many parts")]
+    /// A selector has more than 1,000 parts.
+    #[error("more than 1,000 parts")]
     TooLong,
 }
 
-/// Why there is no selector.
+/// The error of parsing a selector.
 #[derive(Clone, Copy, Debug, PartialEq, Eq, Error)]
-pub enum SelectorFault {
-    /// The text is none: what is wrong, and behind how many characters of the text.
-    #[error("behind {at} characters: {problem}")]
-    Invalid { at: usize, problem: Problem },
-    /// Memory was refused.
+pub enum SelectorError {
+    /// The text isn't a selector: what is wrong, and at which offset in characters, from 0.
+    #[error("at offset {at}: {problem}")]
+    Invalid { at: usize, problem: SelectorProblem },
+    /// An allocation failed.
     #[error("out of memory")]
     Memory,
 }
 
-/// Why reading stopped.
+/// The reason that parsing stopped.
 #[derive(Clone, Copy)]
 pub(crate) enum Refusal {
-    /// What is wrong, and how many characters are left there.
-    Invalid { left: usize, problem: Problem },
-    /// There are too many parts.
-    TooLong { left: usize },
+    /// The problem, and the number of characters left.
+    Invalid {
+        left: usize,
+        problem: SelectorProblem,
+    },
+    /// A selector has too many parts.
+    TooLong {
+        left: usize,
+    },
     Memory,
 }
 
@@ -91,12 +96,12 @@ impl<T: Drop> From<AllocFailed<T>> for Refusal {
     }
 }
 
-// What is wrong where so many characters of a text are left.
-fn invalid(length: usize, left: usize, problem: Problem) -> SelectorFault
+// The error at the place where this many characters of a text are left.
+fn invalid(length: usize, left: usize, problem: SelectorProblem) -> SelectorError
     ensures place { IsWithin length result }
     ensures problem { (at : ℕ) × (result ≡ Invalid at problem) }
 {
-    SelectorFault::Invalid {
+    SelectorError::Invalid {
         at: length.saturating_sub(left),
         problem,
     }
@@ -109,15 +114,15 @@ impl Refusal {
     ghost use Rattle.h5_selectors.specs.Fault.{IsWithin, Tells};
     ghost use Rattle.h5_selectors.specs.Reads.{Lacks};
 
-    /// The fault, of a text of so many characters.
-    pub(crate) fn in_text(self, length: usize) -> SelectorFault
+    /// The error in a text with this number of characters.
+    pub(crate) fn in_text(self, length: usize) -> SelectorError
         ensures place { IsWithin length result }
         ensures tells { (read : Outcome (List Asked)) → Lacks self read → Tells result read }
     {
         match self {
             Refusal::Invalid { left, problem } => invalid(length, left, problem),
-            Refusal::TooLong { left } => invalid(length, left, Problem::TooLong),
-            Refusal::Memory => SelectorFault::Memory,
+            Refusal::TooLong { left } => invalid(length, left, SelectorProblem::TooLong),
+            Refusal::Memory => SelectorError::Memory,
         }
     }
 }

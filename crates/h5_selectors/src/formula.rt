@@ -1,33 +1,33 @@
-//! What a selector asks of an element.
+//! Conditions on elements, which are the meaning of selectors.
 use h5_names::LocalName;
 
-/// A name as it is written, which elements outside HTML have, and in ASCII lower case, which those of HTML have.
+/// A name in its spelling, for elements outside HTML, and in ASCII lower case, for HTML elements.
 #[derive(Drop)]
 pub struct Written {
     pub exact: LocalName,
     pub lower: LocalName,
 }
 
-/// How a value is compared with a text.
+/// A comparison of a value with a text.
 #[derive(Clone, Copy, PartialEq, Eq)]
 pub enum Operator {
-    /// `[name]`: it is there.
+    /// `[name]`: the attribute exists.
     Exists,
-    /// `=`: it is the text.
+    /// `=`: the value is the text.
     Equals,
-    /// `~=`: one of its words is the text.
+    /// `~=`: one of the value's words is the text.
     Includes,
-    /// `|=`: it is the text, or begins with it and `-`.
+    /// `|=`: the value is the text, or begins with it and `-`.
     Dash,
-    /// `^=`: it begins with the text.
+    /// `^=`: the value begins with the text.
     Begins,
-    /// `$=`: it ends with it.
+    /// `$=`: the value ends with the text.
     Ends,
-    /// `*=`: the text stands in it.
+    /// `*=`: the value contains the text.
     Contains,
 }
 
-/// A test of an attribute. Whether letters of ASCII are compared without case depends on whether the element is one of HTML.
+/// A test of an attribute. There are separate flags for HTML elements and for others: if true, ASCII case is ignored.
 #[derive(Drop)]
 pub struct AttrTest {
     pub name: Written,
@@ -37,35 +37,35 @@ pub struct AttrTest {
     pub ignores_case_in_html: bool,
 }
 
-/// Where an element leads to.
+/// A relation of an element to other elements.
 #[derive(Clone, Copy)]
 pub enum Way {
-    /// To its parent.
+    /// Its parent.
     Parent,
-    /// To its ancestors.
+    /// Its ancestors.
     Ancestor,
-    /// To the sibling right before it.
+    /// Its previous sibling.
     Previous,
-    /// To all siblings before it.
+    /// All siblings before it.
     Earlier,
-    /// To its children.
+    /// Its children.
     Child,
-    /// To its descendants.
+    /// Its descendants.
     Below,
-    /// To the sibling right behind it.
+    /// Its next sibling.
     Next,
-    /// To all siblings behind it.
+    /// All siblings after it.
     Later,
 }
 
-/// From which end siblings are counted.
+/// The end from which siblings are counted.
 #[derive(Clone, Copy)]
 pub enum Side {
     First,
     Last,
 }
 
-/// The indices `an+b`: the sizes of a and b, and whether they are below zero.
+/// The indices `an+b`: the absolute values of a and b, and flags for negative ones.
 #[derive(Clone, Copy)]
 pub struct AnPlusB {
     pub step: u32,
@@ -74,31 +74,31 @@ pub struct AnPlusB {
     pub is_under: bool,
 }
 
-/// What is asked of an element.
+/// A condition on an element.
 #[derive(Drop)]
 pub enum Formula {
-    /// Nothing.
+    /// Always holds.
     Any,
-    /// Its name is this.
+    /// It has this name.
     Name(Written),
     Id(String),
     Class(String),
     Attr(AttrTest),
     /// It is the root of a document.
     Root,
-    /// It is the element below which is selected.
+    /// It is the scope element of the query.
     Scope,
-    /// It has neither elements nor texts.
+    /// It has neither elements nor texts as children.
     Empty,
     /// It is a link.
     Link,
-    /// Its index among those siblings that have its name is one of these.
+    /// Its index among the siblings with its name is one of these.
     NthOfType(AnPlusB, Side),
-    /// This holds of it, and its index among those siblings of which it holds, too, is one of these.
+    /// The inner condition holds for it, and its index among the siblings for which it also holds is one of these.
     Nth(AnPlusB, Side, Box<Formula>),
     Not(Box<Formula>),
     And(Box<Formula>, Box<Formula>),
     Or(Box<Formula>, Box<Formula>),
-    /// This holds of some element to which it leads.
+    /// The inner condition holds for some element in this relation to it.
     Leads(Way, Box<Formula>),
 }

@@ -1,4 +1,4 @@
-//! What is asked of an element, asked of one.
+//! Tests of conditions on one element.
 ghost use Rattle.std.specs.Prelude.{◌≡◌, ◌+◌, ◌&&◌, ◌≤◌, ◌<◌, All, IfOk, cond, length, map};
 ghost use Rattle.std.specs.List.{filter, list_any};
 ghost use Rattle.h5_arena.specs.ArenaModel.{IsHeld, optional_place, place};
@@ -18,7 +18,7 @@ use h5_interface::QuirksMode;
 use h5_names::{KnownName, LocalName, Namespace, QualName};
 use std::alloc::{AllocError, Global};
 
-/// In what an element is asked: the arena, its mode, and the element below which is selected.
+/// The context of a test: the arena, its quirks mode, and the scope element.
 #[derive(Clone, Copy)]
 pub(crate) struct Query<'a> {
     pub(crate) arena: &'a Arena,
@@ -49,14 +49,14 @@ impl<'a> Query<'a> {
     }
 }
 
-/// Whether a name is one of HTML's elements.
+/// Returns true for a name in the HTML namespace.
 pub(crate) fn is_html(name: &QualName) -> bool
     ensures { result ≡ h.is_html name.now }
 {
     name.ns == Namespace::html()
 }
 
-// The name that an element of HTML, or another, has to have.
+// The name to compare with: for HTML elements, or for others.
 fn name_for(written: &Written, in_html: bool) -> &LocalName
     ensures { result.now ≡ h.name_for written.now in_html }
 {
@@ -73,7 +73,7 @@ fn is_named(written: &Written, name: &QualName) -> bool
     name.local == *name_for(written, is_html(name))
 }
 
-// Whether an element has this name.
+// Returns true if an element has this name.
 pub(crate) fn has_name(query: &Query<'_>, id: NodeId, written: &Written) -> bool
     requires { IsHeld query.now.arena.now id }
     ensures { result ≡ h.asks_name (seen_by query.now) (quirky_by query.now) (scope_by query.now) (h.is_named written.now) id.index }
@@ -84,7 +84,7 @@ pub(crate) fn has_name(query: &Query<'_>, id: NodeId, written: &Written) -> bool
     }
 }
 
-// Whether an element has an attribute as it is asked for.
+// Returns true if an element passes the test of an attribute.
 pub(crate) fn has_attr(query: &Query<'_>, id: NodeId, test: &AttrTest) -> bool
     requires { IsHeld query.now.arena.now id }
     ensures { result ≡ holds_by query.now (Formula.Attr test.now) id.index }
@@ -104,7 +104,7 @@ pub(crate) fn has_attr(query: &Query<'_>, id: NodeId, test: &AttrTest) -> bool
     }
 }
 
-// Whether two texts are the same, in quirks mode without case.
+// Returns true if two texts are equal, ASCII case-insensitively if `ignores_case` is set.
 fn are_same(one: &str, other: &str, ignores_case: bool) -> bool
     ensures { result ≡ are_same ignores_case one.now other.now }
 {
@@ -157,7 +157,7 @@ pub(crate) fn is_scope(query: &Query<'_>, id: NodeId) -> bool
     }
 }
 
-/// One more, where it counts.
+/// Adds 1 if `counts` is set.
 pub(crate) fn more(count: usize, counts: bool) -> usize
     requires { count < 18446744073709551615 }
     ensures { result ≡ count + cond counts 1 0 }
@@ -165,7 +165,7 @@ pub(crate) fn more(count: usize, counts: bool) -> usize
     if counts { count + 1 } else { count }
 }
 
-// How many elements of a list have the name of an element.
+// The number of elements of a list with the name of an element.
 #[tactic(auto, using(crate::proofs::ChildSteps::count_more))]
 fn count_alike(query: &Query<'_>, id: NodeId, list: &[NodeId]) -> usize
     requires held { IsHeld query.now.arena.now id }
@@ -179,7 +179,7 @@ fn count_alike(query: &Query<'_>, id: NodeId, list: &[NodeId]) -> usize
     count
 }
 
-/// Whether two elements have one name.
+/// Returns true if two elements have equal names.
 pub(crate) fn is_alike(query: &Query<'_>, id: NodeId, other: NodeId) -> bool
     requires held { IsHeld query.now.arena.now id }
     requires other_held { IsHeld query.now.arena.now other }
@@ -191,7 +191,7 @@ pub(crate) fn is_alike(query: &Query<'_>, id: NodeId, other: NodeId) -> bool
     }
 }
 
-/// Whether the index of an element among those siblings that have its name is one of these.
+/// Returns true if the index of an element among the siblings with its name is one of these.
 pub(crate) fn is_nth_of_type(
     query: &Query<'_>,
     id: NodeId,
@@ -205,7 +205,7 @@ pub(crate) fn is_nth_of_type(
     Ok(indices.has_behind(count_alike(query, id, list.as_slice())))
 }
 
-/// Whether this holds of an element.
+/// Returns true if the condition holds for an element.
 #[cycle(holds)]
 pub(crate) fn holds(formula: &Formula, query: &Query<'_>, id: NodeId) -> Result<bool, AllocError>
     requires { IsHeld query.now.arena.now id }
@@ -240,7 +240,7 @@ pub(crate) fn holds(formula: &Formula, query: &Query<'_>, id: NodeId) -> Result<
     }
 }
 
-/// Whether this holds of an element, and of so many of its siblings.
+/// Returns true if the condition holds for an element, and its index among the siblings for which it also holds is one of these.
 #[cycle(holds)]
 pub(crate) fn is_nth(
     of: &Formula,
@@ -261,7 +261,7 @@ pub(crate) fn is_nth(
     Ok(indices.has_behind(count))
 }
 
-// How many elements of a list this holds of.
+// The number of elements of a list for which the condition holds.
 #[tactic(auto, using(crate::proofs::ChildSteps::count_more))]
 #[cycle(holds)]
 fn count_holding(formula: &Formula, query: &Query<'_>, list: &[NodeId]) -> Result<usize, AllocError>
@@ -275,7 +275,7 @@ fn count_holding(formula: &Formula, query: &Query<'_>, list: &[NodeId]) -> Resul
     Ok(count)
 }
 
-// Whether this holds of some element of a list.
+// Returns true if the condition holds for some element of a list.
 #[cycle(holds)]
 fn holds_of_some(formula: &Formula, query: &Query<'_>, list: &[NodeId]) -> Result<bool, AllocError>
     requires { All (IsHeld query.now.arena.now) list.now }
@@ -289,7 +289,7 @@ fn holds_of_some(formula: &Formula, query: &Query<'_>, list: &[NodeId]) -> Resul
     Ok(false)
 }
 
-// Whether this holds of some ancestor that is an element.
+// Returns true if the condition holds for some ancestor that is an element.
 #[cycle(holds)]
 fn holds_above(formula: &Formula, query: &Query<'_>, id: NodeId) -> Result<bool, AllocError>
     requires { IsHeld query.now.arena.now id }
@@ -308,7 +308,7 @@ fn holds_above(formula: &Formula, query: &Query<'_>, id: NodeId) -> Result<bool,
     Ok(false)
 }
 
-// Whether this holds of the parent, where that is an element.
+// Returns true if the parent is an element for which the condition holds.
 #[cycle(holds)]
 fn holds_of_parent(formula: &Formula, query: &Query<'_>, id: NodeId) -> Result<bool, AllocError>
     requires { IsHeld query.now.arena.now id }
@@ -320,7 +320,7 @@ fn holds_of_parent(formula: &Formula, query: &Query<'_>, id: NodeId) -> Result<b
     }
 }
 
-/// Whether this holds of some element to which an element leads.
+/// Returns true if the condition holds for some element in this relation to an element.
 #[cycle(holds)]
 pub(crate) fn holds_along(
     formula: &Formula,

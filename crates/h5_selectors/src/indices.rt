@@ -1,15 +1,15 @@
-//! The text of `an+b` (CSS Syntax Level 3, section 6, "The An+B microsyntax").
+//! Parses `an+b` (CSS Syntax Level 3, section 6, "The An+B microsyntax").
 ghost use Rattle.std.specs.Prelude.{◌≡◌, bytes_eq, codes, false};
 ghost use Rattle.h5_selectors.specs.Indices.{indices, indices_at, is_minus, named_by, named_indices_at, numbered_at, offset_at, signless_at, unit_at, unsigned_at, whole_number};
 ghost use Rattle.h5_selectors.specs.Reads.{Reads};
 ghost use Rattle.h5_selectors.specs.Tokens.{reading};
 
-use super::fault::{Problem, Refusal};
+use super::fault::{Refusal, SelectorProblem};
 use super::formula::AnPlusB;
 use super::scan::Scan;
 use std::alloc::Global;
 
-// The index that is this number, or, where it is below zero, none.
+// The index that is this number; no index if the number is negative.
 fn one_index(offset: u32, is_under: bool) -> AnPlusB
     ensures { result ≡ indices 0 false offset is_under }
 {
@@ -21,7 +21,7 @@ fn one_index(offset: u32, is_under: bool) -> AnPlusB
     }
 }
 
-// Every second index, behind an offset.
+// Every second index, from an offset on.
 fn every_second(offset: u32) -> AnPlusB
     ensures { result ≡ indices 2 false offset false }
 {
@@ -33,7 +33,7 @@ fn every_second(offset: u32) -> AnPlusB
     }
 }
 
-// The number of which these are the digits.
+// The number with these digits.
 #[tactic(auto, unfolding(crate::specs::Indices::whole_number))]
 fn whole_number(digits: &[char]) -> Option<u32>
     ensures { result ≡ whole_number digits.now }
@@ -65,7 +65,7 @@ fn is_minus(text: &[char]) -> bool
 }
 
 impl<'a> Scan<'a> {
-    // The offset behind its sign.
+    // The offset after its sign.
     #[tactic(auto, unfolding(crate::specs::Indices::signless_at))]
     fn offset_behind(&mut self, step: u32, falls: bool, is_under: bool) -> Result<AnPlusB, Refusal>
         ensures { Reads (λ indices. indices) result self.new.rest.now (signless_at step falls is_under self.old.rest.now) }
@@ -77,11 +77,11 @@ impl<'a> Scan<'a> {
                 offset,
                 is_under,
             }),
-            _ => Err(self.refusal(Problem::AnPlusB)),
+            _ => Err(self.refusal(SelectorProblem::AnPlusB)),
         }
     }
 
-    // What may stand behind `an`: nothing, or a sign and a number.
+    // The part after `an`: nothing, or a sign and a number.
     #[tactic(auto, unfolding(crate::specs::Indices::offset_at))]
     fn offset(&mut self, step: u32, falls: bool) -> Result<AnPlusB, Refusal>
         ensures { Reads (λ indices. indices) result self.new.rest.now (offset_at step falls self.old.rest.now) }
@@ -105,7 +105,7 @@ impl<'a> Scan<'a> {
         })
     }
 
-    // What the name behind a number or a sign says, in lower case: `n`, `n-`, or `n-` and digits.
+    // The part after a number or a sign, which begins with this name in lower case: `n`, `n-`, or `n-` and digits.
     #[tactic(auto, unfolding(crate::specs::Indices::unit_at))]
     fn behind_step(&mut self, unit: &[char], step: u32, falls: bool) -> Result<AnPlusB, Refusal>
         ensures { Reads (λ indices. indices) result self.new.rest.now (unit_at step falls unit.now self.old.rest.now) }
@@ -123,13 +123,13 @@ impl<'a> Scan<'a> {
                     offset,
                     is_under: true,
                 }),
-                None => Err(self.refusal(Problem::AnPlusB)),
+                None => Err(self.refusal(SelectorProblem::AnPlusB)),
             },
-            _ => Err(self.refusal(Problem::AnPlusB)),
+            _ => Err(self.refusal(SelectorProblem::AnPlusB)),
         }
     }
 
-    // What a name in lower case says behind a sign, or without one.
+    // The indices of a name in lower case, after a sign or without one.
     #[tactic(auto, unfolding(crate::specs::Indices::named_by))]
     fn by_name(&mut self, name: &[char], is_signed: bool) -> Result<AnPlusB, Refusal>
         ensures { Reads (λ indices. indices) result self.new.rest.now (named_by is_signed (reading name.now self.old.rest.now)) }
@@ -149,19 +149,19 @@ impl<'a> Scan<'a> {
         }
     }
 
-    // What a name without a number says.
+    // The indices of a name without a number.
     #[tactic(auto, unfolding(crate::specs::Indices::named_indices_at))]
     fn named_indices(&mut self, alloc: Global, is_signed: bool) -> Result<AnPlusB, Refusal>
         ensures { Reads (λ indices. indices) result self.new.rest.now (named_indices_at is_signed self.old.rest.now) }
     {
         if !self.is_at_name() {
-            return Err(self.refusal(Problem::AnPlusB));
+            return Err(self.refusal(SelectorProblem::AnPlusB));
         }
         let name = self.lower_name(alloc)?;
         self.by_name(name.as_slice(), is_signed)
     }
 
-    // What a number says, and a name behind it.
+    // The indices of a number, and of a name after it, if there is one.
     fn numbered(&mut self, alloc: Global, number: u32, falls: bool) -> Result<AnPlusB, Refusal>
         ensures { Reads (λ indices. indices) result self.new.rest.now (numbered_at falls number self.old.rest.now) }
     {
@@ -172,7 +172,7 @@ impl<'a> Scan<'a> {
         self.behind_step(unit.as_slice(), number, falls)
     }
 
-    // What stands behind a sign, or without one.
+    // The indices after a sign, or without one.
     #[tactic(auto, unfolding(crate::specs::Indices::unsigned_at))]
     fn unsigned(&mut self, alloc: Global, is_signed: bool, falls: bool) -> Result<AnPlusB, Refusal>
         ensures { Reads (λ indices. indices) result self.new.rest.now (unsigned_at is_signed falls self.old.rest.now) }

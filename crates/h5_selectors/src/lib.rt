@@ -1,14 +1,16 @@
-//! CSS selectors over the nodes of an arena (Selectors Level 4, without namespaces, pseudo-elements and what a user does).
+//! CSS selectors over the nodes of an arena (Selectors Level 4, without namespaces, pseudo-elements and user actions).
 //!
-//! A selector's text is read as a `Formula` about one element: `formula` has what it may ask, `an_plus_b` indices. `scan` reads
-//! names, strings and numbers; `attributes`, `indices` and `parser` make the formula. `specs/Tokens.antt`, `Attributes.antt`,
-//! `Indices.antt`, `Asking.antt` and `Grammar.antt` say, reader by reader, what stands at the front of a text and what it asks. It is
-//! proved that each is read so, and that a fault is told where nothing is read, or where there are too many parts
-//! (`specs/Counting.antt`).
+//! A selector is parsed to a `Formula`, a condition on one element: `formula` has the conditions, `an_plus_b` indices. `scan` reads names,
+//! strings and numbers; `attributes`, `indices` and `parser` parse selectors. Their definitions are in `specs/Tokens.antt`,
+//! `Attributes.antt`, `Indices.antt`, `Asking.antt`, `Grammar.antt` and `Counting.antt`: each function at the start of a text. It is proved
+//! that a parsed selector has the condition of its text, and that parsing fails only if the text isn't a list of selectors or a selector
+//! has too many parts, or if an allocation fails.
 //!
-//! `ways` has where one element leads to, and `values` the tests of attributes. `holds` asks a formula of one element. `rows` has a
-//! node and the elements below it, `alike` counts siblings of one name among them, and `tables` asks a formula of all of them, a pass
-//! for each of its parts. `selector` has the calls. Begin with `specs/Grammar.antt`, then `specs/Holds.antt` and
+//! `ways` has the relations between elements, and `values` the tests of attribute values. `holds` tests a condition on one element. `rows`
+//! has a node and the elements below it, `alike` counts siblings with equal names, and `tables` tests a condition on all rows, with one
+//! pass for each part. `selector` has the public calls, `fault` the errors.
+//!
+//! This crate depends on h5_names, h5_interface and h5_arena. Begin with `specs/Grammar.antt`; then read `specs/Holds.antt` and
 //! `specs/Selected.antt`.
 #![tactic(auto)]
 
@@ -27,7 +29,7 @@ mod tables;
 mod values;
 mod ways;
 
-pub use fault::{Problem, SelectorFault};
+pub use fault::{SelectorError, SelectorProblem};
 pub use formula::{AnPlusB, AttrTest, Formula, Operator, Side, Way, Written};
 pub use parser::parse;
 pub use selector::Selector;

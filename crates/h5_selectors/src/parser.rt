@@ -1,5 +1,4 @@
-//! The text of a selector (Selectors Level 4, sections 4.1 and 17). Each combinator becomes a way: read backwards, or, inside `:has()`,
-//! forwards.
+//! Parses selectors (Selectors Level 4, sections 4.1 and 17). Each combinator becomes a relation: backwards or, inside `:has()`, forwards.
 ghost use Rattle.std.specs.Prelude.{◌≡◌, ◌-◌, ◌==◌, [], ◌∷◌, IfErr, IfNone, IfOk, MatchOption, MatchResult, None, OnOk, Some, bytes_eq, codes, false, length, map, option_map, string_bytes, true};
 ghost use Rattle.std.specs.Str.{chars};
 ghost use Rattle.h5_selectors.specs.Asking.{AskAnd, AskLeads, AskNot, AskNth, AskNthOfType, AskOr, asked, back, both, combinator_at, end_child, first, forth, function_of, leading_at, plain_of, sign_at, type_at};
@@ -12,12 +11,12 @@ ghost use Rattle.h5_selectors.specs.declared.fault.Refusal.TheVariants.{TooLong}
 ghost use Rattle.h5_selectors.specs.declared.formula.Side.TheVariants.{First, Last};
 
 use super::attributes::written;
-use super::fault::{Problem, Refusal, SelectorFault};
+use super::fault::{Refusal, SelectorError, SelectorProblem};
 use super::formula::{AnPlusB, Formula, Side, Way};
 use super::scan::Scan;
 use std::alloc::{AllocError, Global};
 
-// How many parts a selector may have, those of the selectors in it too: a compound selector is one, and so is each id, class, attribute
+// The greatest number of parts of a selector, including nested selectors: a compound selector is one, and so is each id, class, attribute
 // and pseudo-class in it.
 const MOST_PARTS: u32 = 1000;
 
@@ -68,14 +67,14 @@ fn nth(alloc: Global, indices: AnPlusB, side: Side, of: Formula) -> Result<Formu
     Ok(Formula::Nth(indices, side, boxed(alloc, of)?))
 }
 
-// The first child, or the last one.
+// The first or the last child.
 fn first_child(alloc: Global, side: Side) -> Result<Formula, AllocError>
     ensures { IfOk result (λ made. asked made ≡ end_child side) }
 {
     nth(alloc, FIRST, side, Formula::Any)
 }
 
-// What stands between two compound selectors.
+// A combinator between two compound selectors.
 #[derive(Clone, Copy)]
 enum Combinator {
     Descendant,
@@ -109,7 +108,7 @@ impl Combinator {
 }
 
 impl<'a> Scan<'a> {
-    // A type or `*`, if one stands here.
+    // A type selector or `*`, if there is one.
     #[tactic(auto, unfolding(crate::specs::Asking::type_at))]
     fn type_or_any(&mut self, alloc: Global) -> Result<Option<Formula>, Refusal>
         ensures { Reads (option_map asked) result self.new.rest.now (type_at self.old.rest.now) }
@@ -126,7 +125,7 @@ impl<'a> Scan<'a> {
         Ok(None)
     }
 
-    // `>`, `+` or `~`, and the blanks behind it, if one stands here.
+    // `>`, `+` or `~`, with the whitespace after it, if there is one.
     fn sign(&mut self) -> Option<Combinator>
         ensures sign { MatchOption result (sign_at self.old.rest.now ≡ None) (λ c. sign_at self.old.rest.now ≡ Some (reading c self.new.rest.now)) }
         ensures none { IfNone result (self.new.rest.now ≡ self.old.rest.now) }
@@ -142,7 +141,7 @@ impl<'a> Scan<'a> {
         Some(found)
     }
 
-    // A combinator, if one stands here.
+    // A combinator, if there is one.
     #[tactic(auto, unfolding(crate::specs::Asking::combinator_at))]
     fn combinator(&mut self) -> Option<Combinator>
         ensures found { MatchOption result (combinator_at self.old.rest.now ≡ None) (λ c. combinator_at self.old.rest.now ≡ Some (reading c self.new.rest.now)) }
@@ -159,7 +158,7 @@ impl<'a> Scan<'a> {
         }
     }
 
-    // A combinator in front of a selector. It is a descendant's where none is written.
+    // A combinator before a selector; the descendant combinator if there is none.
     #[tactic(auto, unfolding(crate::specs::Asking::leading_at))]
     fn leading_combinator(&mut self) -> Combinator
         ensures found { result ≡ (leading_at self.old.rest.now).value }
@@ -172,19 +171,19 @@ impl<'a> Scan<'a> {
         }
     }
 
-    // The name of a pseudo-class, which begins there.
+    // The name of a pseudo-class, which begins at `begin`.
     #[tactic(auto, unfolding(crate::specs::Tokens::named_at))]
     fn pseudo_name(&mut self, alloc: Global, begin: Scan<'a>) -> Result<String, Refusal>
         ensures { Reads string_bytes result self.new.rest.now (named_at self.old.rest.now) }
     {
         if self.peek() == Some(':') {
-            return Err(begin.refusal(Problem::PseudoElement));
+            return Err(begin.refusal(SelectorProblem::PseudoElement));
         }
         self.name(alloc)
     }
 }
 
-// A pseudo-class without arguments, by its name in lower case.
+// The condition of a pseudo-class without arguments, by its name in lower case.
 #[tactic(auto, unfolding(crate::specs::Asking::plain_of))]
 fn plain(alloc: Global, name: &str, begin: Scan<'_>) -> Result<Formula, Refusal>
     ensures { MatchResult result (λ made. plain_of name.now ≡ Some (asked made)) (λ refusal. Fails refusal (plain_of name.now)) }
@@ -201,9 +200,9 @@ fn plain(alloc: Global, name: &str, begin: Scan<'_>) -> Result<Formula, Refusal>
         "last-of-type" => Ok(Formula::NthOfType(FIRST, Side::Last)),
         "only-of-type" => Ok(only_of_type(alloc)?),
         "before" | "after" | "first-line" | "first-letter" => {
-            Err(begin.refusal(Problem::PseudoElement))
+            Err(begin.refusal(SelectorProblem::PseudoElement))
         }
-        _ => Err(begin.refusal(Problem::PseudoClass)),
+        _ => Err(begin.refusal(SelectorProblem::PseudoClass)),
     }
 }
 
@@ -227,7 +226,7 @@ fn only_of_type(alloc: Global) -> Result<Formula, AllocError>
     )
 }
 
-// A pseudo-class that has arguments.
+// A pseudo-class with arguments.
 #[derive(Clone, Copy)]
 enum Function {
     Not,
@@ -237,7 +236,7 @@ enum Function {
     NthOfType(Side),
 }
 
-// By its name in lower case.
+// The pseudo-class with this name in lower case.
 #[tactic(auto, unfolding(crate::specs::Asking::function_of))]
 fn function_of(name: &str) -> Option<Function>
     ensures { result ≡ function_of name.now }
@@ -254,14 +253,14 @@ fn function_of(name: &str) -> Option<Function>
     }
 }
 
-// Whether a name is the one behind which selectors stand, in what `:nth-child()` takes.
+// Returns true for the name before the selectors in `:nth-child()`.
 fn is_of(name: &[char]) -> bool
     ensures { result ≡ bytes_eq name.now (codes "of") }
 {
     matches!(name, ['o', 'f'])
 }
 
-// With what was asked of the same element before, if anything was.
+// The condition, and the one before it, if there is one.
 fn asked_too(alloc: Global, before: Option<Formula>, next: Formula) -> Result<Formula, AllocError>
     ensures { IfOk result (λ made. asked made ≡ asked_too (option_map asked before) (asked next)) }
 {
@@ -271,7 +270,7 @@ fn asked_too(alloc: Global, before: Option<Formula>, next: Formula) -> Result<Fo
     }
 }
 
-// With what else is asked of the same element, if anything is.
+// The condition, and the other one, if there is one.
 fn both_if(alloc: Global, one: Formula, other: Option<Formula>) -> Result<Formula, AllocError>
     ensures { IfOk result (λ made. asked made ≡ both_if (asked one) (option_map asked other)) }
 {
@@ -281,14 +280,14 @@ fn both_if(alloc: Global, one: Formula, other: Option<Formula>) -> Result<Formul
     }
 }
 
-// A combinator, and what is asked behind it.
+// A combinator, and the condition of the compound selector after it.
 #[derive(Drop)]
 struct Link {
     combinator: Combinator,
     compound: Formula,
 }
 
-// What a selector asks of its last element, and from there backwards.
+// The condition of a selector: on its last element, and from there backwards.
 fn backwards(alloc: Global, first: Formula, links: Vec<Link>) -> Result<Formula, AllocError>
     ensures { IfOk result (λ made. asked made ≡ backwards (asked first) (map link_asked links.items)) }
 {
@@ -300,7 +299,7 @@ fn backwards(alloc: Global, first: Formula, links: Vec<Link>) -> Result<Formula,
     Ok(all)
 }
 
-// What is asked along combinators, from the first element on.
+// The condition of combinators from an element on.
 fn forwards(alloc: Global, links: Vec<Link>) -> Result<Option<Formula>, AllocError>
     ensures { IfOk result (λ made. option_map asked made ≡ forwards (map link_asked links.items) None) }
 {
@@ -313,7 +312,7 @@ fn forwards(alloc: Global, links: Vec<Link>) -> Result<Option<Formula>, AllocErr
     Ok(further)
 }
 
-// Where a selector stands.
+// The place of a selector.
 #[derive(Clone, Copy)]
 struct Nesting {
     // How deep selectors may still be nested in it.
@@ -321,7 +320,7 @@ struct Nesting {
     is_in_has: bool,
 }
 
-// What is being read, and how many parts may still be.
+// A parser, with the number of parts that are left.
 #[derive(Drop)]
 struct Parser<'a> {
     scan: Scan<'a>,
@@ -343,7 +342,7 @@ impl<'a> Parser<'a> {
         Ok(())
     }
 
-    // What stands between the brackets of a pseudo-class, which begins there.
+    // The arguments of a pseudo-class, which begins at `begin`.
     #[cycle(parse)]
     #[tactic(auto, unfolding(crate::specs::Grammar::arguments_within, crate::specs::Grammar::arguments_by))]
     fn arguments(
@@ -367,7 +366,7 @@ impl<'a> Parser<'a> {
                 Ok(negated(self.alloc, list)?)
             }
             Function::Is => self.list_or_none(inner),
-            Function::Has if nesting.is_in_has => Err(begin.refusal(Problem::NestedHas)),
+            Function::Has if nesting.is_in_has => Err(begin.refusal(SelectorProblem::NestedHas)),
             Function::Has => self.list(
                 true,
                 Nesting {
@@ -382,7 +381,7 @@ impl<'a> Parser<'a> {
         }
     }
 
-    // What `:nth-child()` asks, or `:nth-last-child()`.
+    // The condition of `:nth-child()` or `:nth-last-child()`.
     #[cycle(parse)]
     #[tactic(auto, unfolding(crate::specs::Grammar::nth_child_at))]
     fn nth_child(&mut self, side: Side, nesting: Nesting) -> Result<Formula, Refusal>
@@ -393,7 +392,7 @@ impl<'a> Parser<'a> {
         Ok(nth(self.alloc, indices, side, of)?)
     }
 
-    // What is asked of those that are counted.
+    // The condition on the siblings that are counted.
     #[cycle(parse)]
     #[tactic(auto, unfolding(crate::specs::Grammar::of_at))]
     fn of(&mut self, nesting: Nesting) -> Result<Formula, Refusal>
@@ -406,12 +405,12 @@ impl<'a> Parser<'a> {
         let here = self.scan;
         let name = self.scan.lower_name(self.alloc)?;
         if !is_of(name.as_slice()) {
-            return Err(here.refusal(Problem::AnPlusB));
+            return Err(here.refusal(SelectorProblem::AnPlusB));
         }
         self.list(false, nesting)
     }
 
-    // A pseudo-class with arguments, by its name in lower case, from behind its `(` to its `)`.
+    // A pseudo-class with arguments, by its name in lower case, from after its `(` to after its `)`.
     #[cycle(parse)]
     #[tactic(auto, unfolding(crate::specs::Grammar::function_at))]
     fn function(
@@ -423,14 +422,14 @@ impl<'a> Parser<'a> {
         ensures { Takes asked result self.new.parts self.new.scan.rest.now (function_at (arguments_within nesting.room nesting.is_in_has) name.now self.old.parts self.old.scan.rest.now) }
     {
         let Some(function) = function_of(name) else {
-            return Err(begin.refusal(Problem::PseudoClass));
+            return Err(begin.refusal(SelectorProblem::PseudoClass));
         };
         let formula = self.arguments(function, begin, nesting)?;
         self.scan.close(')')?;
         Ok(formula)
     }
 
-    // A pseudo-class, from behind its `:`.
+    // A pseudo-class, from after its `:`.
     #[cycle(parse)]
     #[tactic(auto, unfolding(crate::specs::Grammar::pseudo_class_at))]
     fn pseudo_class(&mut self, begin: Scan<'a>, nesting: Nesting) -> Result<Formula, Refusal>
@@ -444,7 +443,7 @@ impl<'a> Parser<'a> {
         plain(self.alloc, lower.as_str(), begin)
     }
 
-    // An id, a class, an attribute or a pseudo-class, if one stands here.
+    // An id, a class, an attribute or a pseudo-class, if there is one.
     #[cycle(parse)]
     #[tactic(auto, unfolding(crate::specs::Grammar::simple_at))]
     fn simple(&mut self, nesting: Nesting) -> Result<Option<Formula>, Refusal>
@@ -468,7 +467,7 @@ impl<'a> Parser<'a> {
         Ok(Some(formula))
     }
 
-    // All of them that stand here, with what was asked before.
+    // All ids, classes, attributes and pseudo-classes that follow, with the condition before them.
     #[cycle(parse)]
     fn simples(
         &mut self,
@@ -489,7 +488,7 @@ impl<'a> Parser<'a> {
         Ok(all)
     }
 
-    // All that is asked of one element.
+    // A compound selector.
     #[cycle(parse)]
     #[tactic(auto, unfolding(crate::specs::Grammar::compound_at))]
     fn compound(&mut self, nesting: Nesting) -> Result<Formula, Refusal>
@@ -499,11 +498,11 @@ impl<'a> Parser<'a> {
         let begun = self.scan.type_or_any(self.alloc)?;
         match self.simples(begun, nesting)? {
             Some(all) => Ok(all),
-            None => Err(self.scan.refusal(Problem::Selector)),
+            None => Err(self.scan.refusal(SelectorProblem::Selector)),
         }
     }
 
-    // Combinators, each with a compound selector behind it.
+    // Combinators, each followed by a compound selector.
     #[cycle(parse)]
     fn links(&mut self, nesting: Nesting) -> Result<Vec<Link>, Refusal>
         ensures { Takes (λ links. map link_asked links.items) result self.new.parts self.new.scan.rest.now (links_at (arguments_within nesting.room nesting.is_in_has) self.old.parts self.old.scan.rest.now) }
@@ -522,7 +521,7 @@ impl<'a> Parser<'a> {
         Ok(links)
     }
 
-    // A selector without a comma.
+    // A complex selector.
     #[cycle(parse)]
     #[tactic(auto, unfolding(crate::specs::Grammar::complex_at))]
     fn complex(&mut self, nesting: Nesting) -> Result<Formula, Refusal>
@@ -534,7 +533,7 @@ impl<'a> Parser<'a> {
         Ok(backwards(self.alloc, first, links)?)
     }
 
-    // A selector of what an element leads to.
+    // A relative selector.
     #[cycle(parse)]
     #[tactic(auto, unfolding(crate::specs::Grammar::relative_at))]
     fn relative(&mut self, nesting: Nesting) -> Result<Formula, Refusal>
@@ -548,7 +547,7 @@ impl<'a> Parser<'a> {
         Ok(along(self.alloc, leading.forth(), all)?)
     }
 
-    // One of several, with commas between them.
+    // One selector of a list.
     #[cycle(parse)]
     fn selector(&mut self, is_relative: bool, nesting: Nesting) -> Result<Formula, Refusal>
         ensures { Takes asked result self.new.parts self.new.scan.rest.now (selector_at (arguments_within nesting.room nesting.is_in_has) is_relative self.old.parts self.old.scan.rest.now) }
@@ -559,7 +558,7 @@ impl<'a> Parser<'a> {
         self.complex(nesting)
     }
 
-    // Those behind the first, each behind a comma.
+    // The selectors after the first, each after a comma.
     #[cycle(parse)]
     fn others(
         &mut self,
@@ -581,7 +580,7 @@ impl<'a> Parser<'a> {
         Ok(all)
     }
 
-    // Selectors with commas between them.
+    // A list of selectors, separated by commas.
     #[cycle(parse)]
     #[tactic(auto, unfolding(crate::specs::Grammar::list_at))]
     fn list(&mut self, is_relative: bool, nesting: Nesting) -> Result<Formula, Refusal>
@@ -591,7 +590,7 @@ impl<'a> Parser<'a> {
         self.others(first, is_relative, nesting)
     }
 
-    // There may be none.
+    // A list of selectors, which may be empty.
     #[cycle(parse)]
     #[tactic(auto, unfolding(crate::specs::Grammar::list_or_none_at))]
     fn list_or_none(&mut self, nesting: Nesting) -> Result<Formula, Refusal>
@@ -605,13 +604,13 @@ impl<'a> Parser<'a> {
     }
 }
 
-// Where no selector is nested.
+// The place of a selector that isn't nested.
 const TOP: Nesting = Nesting {
     room: MOST_PARTS,
     is_in_has: false,
 };
 
-// Those behind the first, each behind a comma. Each has parts of its own.
+// The selectors after the first, each after a comma. Each has its own number of parts.
 fn more_selectors(parser: &mut Parser<'_>, first: Formula) -> Result<Vec<Formula>, Refusal>
     ensures { Takes (λ list. map asked list.items) result parser.new.parts parser.new.scan.rest.now
         (commas_at joined_last top_at (asked first ∷ []) parser.old.parts parser.old.scan.rest.now) }
@@ -641,7 +640,7 @@ fn selectors(alloc: Global, characters: &[char]) -> Result<Vec<Formula>, Refusal
     let first = parser.complex(TOP)?;
     let list = more_selectors(&mut parser, first)?;
     if !parser.scan.rest.is_empty() {
-        return Err(parser.scan.refusal(Problem::Rest));
+        return Err(parser.scan.refusal(SelectorProblem::Rest));
     }
     Ok(list)
 }
@@ -653,15 +652,15 @@ fn characters_of(alloc: Global, text: &str) -> Result<Vec<char>, AllocError>
     text.chars().collect(alloc)
 }
 
-/// What the selectors of a list ask, by its text (Selectors Level 4, section 17, "Grammar"). `Invalid` tells what is wrong, and behind how many
-/// characters; it is `TooLong` where one of the selectors has more than 1,000 parts. Where memory is refused, it is `Memory`.
-pub fn parse(alloc: Global, text: &str) -> Result<Vec<Formula>, SelectorFault>
+/// Parses a list of selectors (Selectors Level 4, section 17, "Grammar"). Fails with `Invalid` if the text isn't one; the problem is
+/// `TooLong` exactly if a selector has more than 1,000 parts before anything else is wrong. Fails with `Memory` if an allocation fails.
+pub fn parse(alloc: Global, text: &str) -> Result<Vec<Formula>, SelectorError>
     ensures selectors { IfOk result (λ list. selectors_of (chars text.now) ≡ Found (map asked list.items)) }
     ensures place { IfErr result (IsWithin (length (chars text.now))) }
     ensures fault { IfErr result (λ fault. Tells fault (selectors_of (chars text.now))) }
 {
     let Ok(characters) = characters_of(alloc, text) else {
-        return Err(SelectorFault::Memory);
+        return Err(SelectorError::Memory);
     };
     match selectors(alloc, characters.as_slice()) {
         Ok(list) => Ok(list),

@@ -1,4 +1,4 @@
-//! A node and the elements below it, each in a row, with the rows of those around it.
+//! Rows: a node and the elements below it, each linked to the rows around it.
 ghost use Rattle.std.specs.Prelude.{◌≡◌, ◌≢◌, ◌<◌, List, None, ℕ, ◌∷◌, All, IfOk, IfSome, OnOk, Option, Some, get_or, length, map, true, vec_len};
 ghost use Rattle.h5_interface.specs.Forest.{Forest, IsForest};
 ghost use Rattle.h5_arena.specs.ArenaModel.{IsChildHeld, IsHeld, child_views, forest_seen, place};
@@ -12,17 +12,17 @@ use super::ways::{element_of, elements_below, is_element};
 use h5_arena::{Arena, Child, NodeId};
 use std::alloc::{AllocError, Global};
 
-/// The rows around that of an element.
+/// The links of an element's row.
 #[derive(Clone, Copy)]
 pub(crate) struct Links {
     pub(crate) parent: Option<usize>,
-    // The siblings right before it and right behind it, where the parent is known.
+    // The previous and the next sibling, if the parent is known.
     pub(crate) previous: Option<usize>,
     pub(crate) next: Option<usize>,
-    // The first child, where the children are known.
+    // The first child, if the children are known.
     pub(crate) first: Option<usize>,
     pub(crate) knows_children: bool,
-    // The first row behind those below it.
+    // The first row after those of the subtree.
     end: usize,
 }
 
@@ -34,7 +34,7 @@ pub(crate) struct Rows {
 }
 
 impl Rows {
-    /// How many rows there are.
+    /// The number of rows.
     pub(crate) fn len(&self) -> usize
         ensures { result ≡ length self.now.ids.items }
     {
@@ -60,7 +60,7 @@ impl Rows {
     }
 }
 
-// The links of so many rows, of which nothing is known.
+// Links of this number of rows, all unknown.
 fn unlinked(alloc: Global, count: usize) -> Result<Vec<Links>, AllocError>
     ensures count { IfOk result (λ links. vec_len links ≡ count) }
     ensures links { IfOk result (λ links. (f : Forest) (ns : List ℕ) → AreLinked f ns links.items) }
@@ -79,7 +79,7 @@ fn unlinked(alloc: Global, count: usize) -> Result<Vec<Links>, AllocError>
     Ok(links)
 }
 
-// Whether those among children that are no elements have no children.
+// Returns true only if children that aren't elements have no children.
 fn are_bare(arena: &Arena, children: &[Child]) -> bool
     requires { All (IsChildHeld arena.now) children.now }
     ensures { result ≡ true → AreBare (forest_seen arena.now) (child_views children.now) }
@@ -94,8 +94,8 @@ fn are_bare(arena: &Arena, children: &[Child]) -> bool
     true
 }
 
-// The rows of the child elements of the node in a row, and the first row behind them; nothing where they don't stand in the rows behind it,
-// each behind all that is below the one before.
+// The rows of the child elements of a row's node, and the first row after them. `None` if they aren't in the rows after it, each after the
+// subtree of the one before.
 fn child_rows(
     arena: &Arena,
     ids: &[NodeId],
@@ -126,7 +126,7 @@ fn child_rows(
     Ok(Some(row))
 }
 
-// The links of a row to its parent, and to the siblings beside it, become these.
+// Sets the links of a row to its parent and its siblings.
 fn set_beside(
     links: &mut Vec<Links>,
     row: usize,
@@ -144,7 +144,7 @@ fn set_beside(
     changed.next = next;
 }
 
-// The link of a row to its first child becomes this one, and the first row behind those below it.
+// Sets the link of a row to its first child, and the first row after its subtree.
 fn set_first(links: &mut Vec<Links>, row: usize, first: Option<usize>, end: usize)
     requires within { row < length links.old.items }
     requires end { row < end }
@@ -157,7 +157,7 @@ fn set_first(links: &mut Vec<Links>, row: usize, first: Option<usize>, end: usiz
     changed.end = end;
 }
 
-// The one before an entry of a list, and the one behind it.
+// The entry of a list before an index, and the one after it.
 fn before(list: &[usize], at: usize) -> Option<usize>
     requires { at < length list.now }
     ensures { result ≡ entry_before list.now at }
@@ -179,7 +179,7 @@ fn behind(list: &[usize], at: usize) -> Option<usize>
     }
 }
 
-// The rows of the children of a row are linked to it, and to one another.
+// Links the rows of children to their parent, and to each other.
 fn link_children(links: &mut Vec<Links>, parent: usize, children: &[usize])
     requires within { AreWithin parent (length links.old.items) children.now }
     ensures count { length links.new.items ≡ length links.old.items }
@@ -191,7 +191,7 @@ fn link_children(links: &mut Vec<Links>, parent: usize, children: &[usize])
     }
 }
 
-// The links of a row to its children, and of those to it and to one another, if they stand as its children do.
+// Links a row and the rows of its children, if these are in the order of the children.
 fn link_row(
     arena: &Arena,
     ids: &[NodeId],
@@ -218,7 +218,7 @@ fn link_row(
     Ok(())
 }
 
-// The links of rows, the last row first.
+// The links of rows. Begins with the last row.
 fn linked(alloc: Global, arena: &Arena, ids: &[NodeId]) -> Result<Vec<Links>, AllocError>
     requires forest { IsForest (forest_seen arena.now) }
     requires held { All (IsHeld arena.now) ids.now }
@@ -233,7 +233,7 @@ fn linked(alloc: Global, arena: &Arena, ids: &[NodeId]) -> Result<Vec<Links>, Al
     Ok(links)
 }
 
-// Whether all links are known, but those beside the first row.
+// Returns true only if all links are known, except those of the first row to a parent and siblings.
 fn are_known(links: &[Links]) -> bool
     ensures parents { result ≡ true → (k : ℕ) (d : Links) → 0 < k → k < length links.now → (get_or links.now k d).parent ≢ None }
     ensures children { result ≡ true → (k : ℕ) (d : Links) → k < length links.now → (get_or links.now k d).knows_children ≡ true }
@@ -259,7 +259,7 @@ fn with_below(alloc: Global, arena: &Arena, id: NodeId) -> Result<Vec<NodeId>, A
     Ok(ids)
 }
 
-/// A node and the elements below it in rows; nothing where a link isn't known.
+/// Returns a node and the elements below it as rows, or `None` if a link isn't known.
 pub(crate) fn rows_of(query: &Query<'_>, id: NodeId) -> Result<Option<Rows>, AllocError>
     requires forest { IsForest (seen_by query.now) }
     requires held { IsHeld query.now.arena.now id }

@@ -1,4 +1,4 @@
-//! Names, strings and numbers at the front of a text (CSS Syntax Level 3, section 4.3).
+//! Reads names, strings and numbers at the start of a text (CSS Syntax Level 3, section 4.3).
 ghost use Rattle.std.specs.Prelude.{◌≡◌, ◌≤◌, [], ◌∷◌, ◌++◌, ◌&&◌, if◌then◌else◌, IfNone, IfOk, MatchOption, OnOk, drop, length, map, option_to_list, slice_get, string_bytes};
 ghost use Rattle.std.specs.Char.{to_ascii_lowercase};
 ghost use Rattle.std.specs.Str.{encode_utf8_all};
@@ -7,10 +7,10 @@ ghost use Rattle.h5_selectors.specs.Reads.{Reads};
 ghost use Rattle.h5_selectors.specs.Tokens.{appended, begins_name, begins_with, behind_blank, behind_blanks, behind_comment, behind_comments, blank_at, char_of, closed_at, comment_at, cleaned, digit_at, escape_at, is_at_name, is_blank, is_in_name, is_newline, is_spaced, name_at, name_piece_at, named_at, number_at, number_within, pieces, reading, string_at, string_piece_at, unqualified_at};
 ghost use Rattle.h5_selectors.specs.declared.fault.Refusal.TheVariants.{Invalid, TooLong};
 
-use super::fault::{Problem, Refusal};
+use super::fault::{Refusal, SelectorProblem};
 use std::alloc::{AllocError, Global};
 
-/// What is left of a text.
+/// The text that is left.
 #[derive(Clone, Copy)]
 pub(crate) struct Scan<'a> {
     pub(crate) rest: &'a [char],
@@ -28,21 +28,21 @@ fn is_blank(c: char) -> bool
     matches!(c, ' ' | '\t') || is_newline(c)
 }
 
-// A character with which a name may begin.
+// Returns true for a character that can begin a name.
 fn begins_name(c: char) -> bool
     ensures { result ≡ begins_name c }
 {
     matches!(c, 'a'..='z' | 'A'..='Z' | '_' | '\0') || c >= '\u{80}'
 }
 
-// A character with which a name may go on.
+// Returns true for a character that can continue a name.
 fn is_in_name(c: char) -> bool
     ensures { result ≡ is_in_name c }
 {
     begins_name(c) || matches!(c, '0'..='9' | '-')
 }
 
-// The character of a number. It is U+FFFD where there is none.
+// The character with this number, or U+FFFD if there is none.
 fn char_of(number: u32) -> char
     ensures { result ≡ char_of number }
 {
@@ -52,14 +52,14 @@ fn char_of(number: u32) -> char
     char::from_u32(number).unwrap_or('\u{fffd}')
 }
 
-// U+FFFD stands for a NUL.
+// Replaces a NUL with U+FFFD.
 fn cleaned(c: char) -> char
     ensures { result ≡ cleaned c }
 {
     if c == '\0' { '\u{fffd}' } else { c }
 }
 
-// What stands behind a comment, from behind its `/*`. One that isn't closed goes to the end.
+// The text after a comment, from after its `/*`. A comment that isn't closed extends to the end.
 fn behind_comment(within: &[char]) -> &[char]
     ensures { result.now ≡ behind_comment within.now }
 {
@@ -71,7 +71,7 @@ fn behind_comment(within: &[char]) -> &[char]
     &[]
 }
 
-// A number with a digit behind it. One past the largest is the largest.
+// A number with another digit. The result is at most the greatest number.
 fn appended(number: Option<u32>, radix: u32, digit: u32) -> u32
     ensures { result ≡ appended radix number digit }
 {
@@ -81,7 +81,7 @@ fn appended(number: Option<u32>, radix: u32, digit: u32) -> u32
         .saturating_add(digit)
 }
 
-// Adds a character to a text, if it is one.
+// Adds a character to a text, if there is one.
 fn push_piece(text: &mut String, piece: Option<char>) -> Result<(), AllocError>
     ensures { OnOk result (string_bytes text.new ≡ string_bytes text.old ++ encode_utf8_all (option_to_list piece)) }
 {
@@ -98,7 +98,7 @@ impl<'a> Scan<'a> {
         self.rest.first().copied()
     }
 
-    /// Passes the first character.
+    /// Skips the first character.
     pub(crate) fn skip(&mut self)
         ensures { self.new.rest.now ≡ drop 1 self.old.rest.now }
     {
@@ -107,7 +107,7 @@ impl<'a> Scan<'a> {
         }
     }
 
-    /// Passes the first character if it is this one, and answers whether it is.
+    /// Skips the first character if it is this one, and returns true if it is.
     pub(crate) fn take(&mut self, wanted: char) -> bool
         ensures found { result ≡ begins_with wanted self.old.rest.now }
         ensures rest { self.new.rest.now ≡ (if begins_with wanted self.old.rest.now then drop 1 self.old.rest.now else self.old.rest.now) }
@@ -119,7 +119,7 @@ impl<'a> Scan<'a> {
         false
     }
 
-    // Passes a comment, if one stands here.
+    // Skips a comment, if there is one, and returns true if there is.
     fn skip_comment(&mut self) -> bool
         ensures found { comment_at self.old.rest.now ≡ (if result then Some (reading [] self.new.rest.now) else None) }
         ensures none { OnFalse result (self.new.rest.now ≡ self.old.rest.now) }
@@ -131,7 +131,7 @@ impl<'a> Scan<'a> {
         true
     }
 
-    // Passes a blank or a comment, if one stands here. Of a comment nothing is kept.
+    // Skips whitespace or a comment, if there is one. Returns the whitespace, or nothing for a comment.
     fn blank(&mut self) -> Option<Option<char>>
         ensures piece { MatchOption result (blank_at self.old.rest.now ≡ None) (λ c. blank_at self.old.rest.now ≡ Some (reading (option_to_list c) self.new.rest.now)) }
         ensures none { IfNone result (self.new.rest.now ≡ self.old.rest.now) }
@@ -145,7 +145,7 @@ impl<'a> Scan<'a> {
         }
     }
 
-    /// Passes comments.
+    /// Skips comments.
     #[tactic(auto, unfolding(crate::specs::Tokens::behind_comments))]
     pub(crate) fn skip_comments(&mut self)
         ensures { self.new.rest.now ≡ behind_comments self.old.rest.now }
@@ -157,7 +157,7 @@ impl<'a> Scan<'a> {
         }
     }
 
-    /// Passes blanks and comments, and answers whether a blank was among them.
+    /// Skips whitespace and comments, and returns true if there was whitespace.
     #[tactic(auto, unfolding(crate::specs::Tokens::blanks))]
     pub(crate) fn skip_blanks(&mut self) -> bool
         ensures found { result ≡ is_spaced self.old.rest.now }
@@ -173,7 +173,7 @@ impl<'a> Scan<'a> {
         found
     }
 
-    /// Whether a name stands here.
+    /// Returns true if a name follows.
     pub(crate) fn is_at_name(&self) -> bool
         ensures { result ≡ is_at_name self.now.rest.now }
     {
@@ -189,7 +189,7 @@ impl<'a> Scan<'a> {
         }
     }
 
-    // Passes a digit, if one stands here, and answers its value.
+    // Reads a digit, if there is one, and returns its value.
     fn digit(&mut self, radix: u32) -> Option<u32>
         requires { (2 ≤ radix) × (radix ≤ 36) }
         ensures digit { MatchOption result (digit_at radix self.old.rest.now ≡ None) (λ digit. digit_at radix self.old.rest.now ≡ Some (reading (digit ∷ []) self.new.rest.now)) }
@@ -200,7 +200,7 @@ impl<'a> Scan<'a> {
         Some(digit)
     }
 
-    // Up to so many digits, if any stand here. A number past the largest is the largest.
+    // Reads up to `most` digits, if there are any. The number is at most the greatest one.
     #[tactic(auto, unfolding(crate::specs::Tokens::number_within))]
     fn number(&mut self, radix: u32, most: usize) -> Option<u32>
         requires { (2 ≤ radix) × (radix ≤ 36) }
@@ -217,7 +217,7 @@ impl<'a> Scan<'a> {
         number
     }
 
-    // What an escape stands for, from behind its `\`.
+    // Reads an escape from after its `\`, and returns its character.
     #[tactic(auto, unfolding(crate::specs::Tokens::escape_at))]
     fn escaped(&mut self) -> char
         ensures value { result ≡ (escape_at self.old.rest.now).value }
@@ -234,7 +234,7 @@ impl<'a> Scan<'a> {
         char_of(number)
     }
 
-    // Passes a blank, if one stands here.
+    // Skips one whitespace, if there is one.
     fn skip_one_blank(&mut self)
         ensures { self.new.rest.now ≡ behind_blank self.old.rest.now }
     {
@@ -245,7 +245,7 @@ impl<'a> Scan<'a> {
         }
     }
 
-    // A character of a name, or an escape, if one stands here.
+    // Reads a character of a name, or an escape, if there is one.
     fn name_piece(&mut self) -> Option<char>
         ensures piece { MatchOption result (name_piece_at self.old.rest.now ≡ None) (λ c. name_piece_at self.old.rest.now ≡ Some (reading (c ∷ []) self.new.rest.now)) }
         ensures none { IfNone result (self.new.rest.now ≡ self.old.rest.now) }
@@ -264,7 +264,7 @@ impl<'a> Scan<'a> {
         }
     }
 
-    /// Reads what may stand in a name. It may be nothing.
+    /// Reads the characters of a name, if there are any.
     #[tactic(auto, unfolding(crate::specs::Tokens::name_at))]
     pub(crate) fn name_rest(&mut self, alloc: Global) -> Result<String, AllocError>
         ensures name { IfOk result (λ name. string_bytes name ≡ encode_utf8_all (name_at self.old.rest.now).value) }
@@ -280,7 +280,7 @@ impl<'a> Scan<'a> {
         Ok(name)
     }
 
-    /// Reads what may stand in a name, with the letters of ASCII in lower case. It may be nothing.
+    /// Reads the characters of a name, if there are any, in ASCII lower case.
     #[tactic(auto, unfolding(crate::specs::Tokens::name_at))]
     pub(crate) fn lower_name(&mut self, alloc: Global) -> Result<Vec<char>, AllocError>
         ensures name { IfOk result (λ name. name.items ≡ map to_ascii_lowercase (name_at self.old.rest.now).value) }
@@ -296,7 +296,7 @@ impl<'a> Scan<'a> {
         Ok(name)
     }
 
-    // A piece of a string: a character, an escape, or a newline behind a `\`, which is nothing.
+    // Reads a character or an escape of a string, or a newline after a `\`, which has no character.
     fn string_piece(&mut self, quote: char) -> Option<Option<char>>
         ensures piece { MatchOption result (string_piece_at quote self.old.rest.now ≡ None) (λ c. string_piece_at quote self.old.rest.now ≡ Some (reading (option_to_list c) self.new.rest.now)) }
         ensures none { IfNone result (self.new.rest.now ≡ self.old.rest.now) }
@@ -323,7 +323,7 @@ impl<'a> Scan<'a> {
         }
     }
 
-    // The pieces of a string.
+    // Reads the characters of a string.
     fn string_body(&mut self, alloc: Global, quote: char) -> Result<String, AllocError>
         ensures text { IfOk result (λ text. string_bytes text ≡ encode_utf8_all (pieces (string_piece_at quote) self.old.rest.now).value) }
         ensures rest { OnOk result (self.new.rest.now ≡ (pieces (string_piece_at quote) self.old.rest.now).rest) }
@@ -338,7 +338,7 @@ impl<'a> Scan<'a> {
         Ok(text)
     }
 
-    /// Reads a string behind its quote. Nothing where a newline stands in it, or it isn't closed.
+    /// Reads a string from after its quote. Returns `None` if it contains a newline or isn't closed.
     #[tactic(auto, unfolding(crate::specs::Tokens::string_at))]
     pub(crate) fn string(
         &mut self,
@@ -354,7 +354,7 @@ impl<'a> Scan<'a> {
         Ok(None)
     }
 
-    /// Reads decimal digits, if any stand here. A number past the largest is the largest.
+    /// Reads decimal digits, if there are any. The number is at most the greatest one.
     pub(crate) fn digits(&mut self) -> Option<u32>
         ensures value { result ≡ (number_at self.old.rest.now).value }
         ensures rest { self.new.rest.now ≡ (number_at self.old.rest.now).rest }
@@ -362,8 +362,8 @@ impl<'a> Scan<'a> {
         self.number(10, self.rest.len())
     }
 
-    /// That reading stops here, and why.
-    pub(crate) fn refusal(&self, problem: Problem) -> Refusal
+    /// The refusal with this problem at the current place.
+    pub(crate) fn refusal(&self, problem: SelectorProblem) -> Refusal
         ensures { result ≡ Invalid (length self.now.rest.now) problem }
     {
         Refusal::Invalid {
@@ -372,7 +372,7 @@ impl<'a> Scan<'a> {
         }
     }
 
-    /// That there are too many parts here.
+    /// The refusal of too many parts at the current place.
     pub(crate) fn too_long(&self) -> Refusal
         ensures { result ≡ TooLong (length self.now.rest.now) }
     {
@@ -381,31 +381,31 @@ impl<'a> Scan<'a> {
         }
     }
 
-    /// A name that has to stand here.
+    /// Reads a name, which must follow.
     #[tactic(auto, unfolding(crate::specs::Tokens::named_at))]
     pub(crate) fn name(&mut self, alloc: Global) -> Result<String, Refusal>
         ensures { Reads string_bytes result self.new.rest.now (named_at self.old.rest.now) }
     {
         if !self.is_at_name() {
-            return Err(self.refusal(Problem::Name));
+            return Err(self.refusal(SelectorProblem::Name));
         }
         let name = self.name_rest(alloc)?;
         Ok(name)
     }
 
-    /// That no namespace is written here, behind a name or before one.
+    /// Succeeds if no namespace prefix follows, before or after a name.
     #[tactic(auto, unfolding(crate::specs::Tokens::unqualified_at))]
     pub(crate) fn no_namespace(&self) -> Result<(), Refusal>
         ensures { Reads (λ _. tt) result self.now.rest.now (unqualified_at self.now.rest.now) }
     {
         match self.rest {
             ['|', '=', ..] => Ok(()),
-            ['|', ..] | ['*', '|', ..] => Err(self.refusal(Problem::Namespace)),
+            ['|', ..] | ['*', '|', ..] => Err(self.refusal(SelectorProblem::Namespace)),
             _ => Ok(()),
         }
     }
 
-    /// Passes a closing bracket: that of an attribute, or that of a pseudo-class.
+    /// Reads a closing bracket: of an attribute or of a pseudo-class.
     #[tactic(auto, unfolding(crate::specs::Tokens::closed_at))]
     pub(crate) fn close(&mut self, bracket: char) -> Result<(), Refusal>
         ensures { Reads (λ _. tt) result self.new.rest.now (closed_at bracket self.old.rest.now) }
@@ -415,11 +415,11 @@ impl<'a> Scan<'a> {
             return Ok(());
         }
         if self.rest.is_empty() {
-            return Err(self.refusal(Problem::Unclosed));
+            return Err(self.refusal(SelectorProblem::Unclosed));
         }
         Err(self.refusal(match bracket {
-            ']' => Problem::Flag,
-            _ => Problem::Rest,
+            ']' => SelectorProblem::Flag,
+            _ => SelectorProblem::Rest,
         }))
     }
 }

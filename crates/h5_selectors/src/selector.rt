@@ -14,16 +14,15 @@ use super::holds::{Query, holds};
 use super::rows::rows_of;
 use super::tables::unmatched;
 use super::ways::{ancestors, elements_below, is_element};
-use crate::{Formula, SelectorFault, parse};
+use crate::{Formula, SelectorError, parse};
 use h5_arena::{Arena, NodeId};
 use h5_interface::TreeSink;
 use std::alloc::{AllocError, Global};
 use std::marker::Model;
 
-/// A list of selectors, as it stands in front of the braces of a style rule.
+/// A list of selectors, as in the prelude of a style rule.
 ///
-/// Each call asks a node of the arena, as `Arena::holds` tells, and changes nothing. Its only error is an `AllocError`, where memory is
-/// refused.
+/// Each call requires a node of the arena (`Arena::holds`), and changes nothing. Its only error is `AllocError`, if an allocation fails.
 pub struct Selector {
     list: Vec<Formula>,
     alloc: Global,
@@ -51,7 +50,7 @@ impl Model for Selector {
     ghost view = { λ s. s.list.items };
 }
 
-// Whether one of the selectors matches an element.
+// Returns true if one of the selectors matches an element.
 fn matches_one(list: &[Formula], query: &Query<'_>, id: NodeId) -> Result<bool, AllocError>
     requires { IsHeld query.now.arena.now id }
     ensures { IfOk result (λ answer. answer ≡ matches_by query.now list.now id.index) }
@@ -64,7 +63,7 @@ fn matches_one(list: &[Formula], query: &Query<'_>, id: NodeId) -> Result<bool, 
     Ok(false)
 }
 
-// The nodes of the rows that aren't left over, those behind the first row.
+// The nodes of the rows after the first that aren't left over.
 fn taken(
     alloc: Global,
     arena: &Arena,
@@ -87,7 +86,7 @@ fn taken(
     Ok(found)
 }
 
-// Whether a selector asks of an element nothing but what stands in it, so that no row around it is needed.
+// Returns true if a selector depends only on the element itself, so that no other rows are needed.
 fn asks_alone(formula: &Formula) -> bool {
     match formula {
         Formula::Leads(_, _) | Formula::Nth(_, _, _) | Formula::NthOfType(_, _) => false,
@@ -99,7 +98,7 @@ fn asks_alone(formula: &Formula) -> bool {
     }
 }
 
-// Whether each of some selectors does.
+// Returns true if each of the selectors depends only on the element itself.
 fn all_ask_alone(list: &[Formula]) -> bool {
     for formula in list {
         if !asks_alone(formula) {
@@ -109,7 +108,7 @@ fn all_ask_alone(list: &[Formula]) -> bool {
     true
 }
 
-// Those of some elements that one of the selectors matches, each asked alone.
+// The elements of a list that one of the selectors matches, each tested alone.
 fn all_matching(
     list: &[Formula],
     query: &Query<'_>,
@@ -128,7 +127,7 @@ fn all_matching(
     Ok(found)
 }
 
-// The first of some elements that one of the selectors matches.
+// The first element of a list that one of the selectors matches.
 fn first_matching(
     list: &[Formula],
     query: &Query<'_>,
@@ -146,7 +145,7 @@ fn first_matching(
     Ok(None)
 }
 
-// Those of the elements below a node that one of the selectors matches, each asked alone.
+// The elements below a node that one of the selectors matches, each tested alone.
 fn all_below(list: &[Formula], query: &Query<'_>, id: NodeId) -> Result<Vec<NodeId>, AllocError>
     requires { IsHeld query.now.arena.now id }
     ensures found { IfOk result (λ found. map place found.items ≡ filter (matches_by query.now list.now) (below (seen_by query.now) id.index)) }
@@ -159,11 +158,11 @@ fn all_below(list: &[Formula], query: &Query<'_>, id: NodeId) -> Result<Vec<Node
 impl Selector {
     ghost use Rattle.h5_selectors.specs.Selected.{is_match, matching_upwards, selected};
 
-    /// The selectors of a text, in which commas stand between them (Selectors Level 4, section 17, "Grammar"). A text that is none is
-    /// `Invalid`: the fault has what is wrong, and behind how many of the text's characters. It is `TooLong` where one of the selectors has more than
-    /// 1,000 parts: a compound selector is one, and so is each id, class, attribute and pseudo-class in it.
-    /// Where memory is refused, it is `Memory`.
-    pub fn parse(alloc: Global, text: &str) -> Result<Selector, SelectorFault>
+    /// Parses a list of selectors, with the meaning that the grammar gives it (Selectors Level 4, section 17, "Grammar"). Fails with
+    /// `Invalid` if the text isn't one; the problem is `TooLong` exactly if a selector has more than 1,000 parts before anything else is
+    /// wrong, and the position, in characters, lies within the text or at its end. A compound selector is a part, and so is each id, class,
+    /// attribute and pseudo-class in it. Fails with `Memory` if an allocation fails.
+    pub fn parse(alloc: Global, text: &str) -> Result<Selector, SelectorError>
         ensures selectors { IfOk result (λ selector. selectors_of (chars text.now) ≡ Found (map asked selector)) }
         ensures place { IfErr result (IsWithin (length (chars text.now))) }
         ensures fault { IfErr result (λ fault. Tells fault (selectors_of (chars text.now))) }
@@ -174,8 +173,8 @@ impl Selector {
         })
     }
 
-    /// Whether one of the selectors matches a node. It matches elements alone. `:scope` is the element itself (DOM standard, section
-    /// 4.9, "matches").
+    /// Returns true if one of the selectors matches a node. Only elements match. `:scope` is the element itself (DOM standard, section 4.9,
+    /// "matches").
     pub fn matches(&self, arena: &Arena, id: NodeId) -> Result<bool, AllocError>
         requires { IsHeld arena.now id }
         ensures { IfOk result (λ answer. answer ≡ is_match arena.now id.index self.now) }
@@ -187,8 +186,8 @@ impl Selector {
         matches_one(self.list.as_slice(), &query, id)
     }
 
-    /// The elements below a node that one of the selectors matches, each once, in tree order. The node itself isn't among them, nor
-    /// is what the contents of a template hold. `:scope` is the node, or, where that is no element, the root (DOM standard, section
+    /// Returns the elements below a node that one of the selectors matches, each once, in tree order. The node itself isn't among them, nor
+    /// are elements in the contents of a template. `:scope` is the node or, if that isn't an element, the root (DOM standard, section
     /// 4.2.6, "querySelectorAll").
     pub fn select(&self, arena: &Arena, id: NodeId) -> Result<Vec<NodeId>, AllocError>
         requires { IsHeld arena.now id }
@@ -208,7 +207,7 @@ impl Selector {
         taken(self.alloc, arena, rows.ids.as_slice(), left.as_slice())
     }
 
-    /// The first of those that `select` gives, or nothing where it gives none.
+    /// Returns the first element that `select` returns, if any.
     pub fn select_first(&self, arena: &Arena, id: NodeId) -> Result<Option<NodeId>, AllocError>
         requires { IsHeld arena.now id }
         ensures first { IfOk result (λ found. optional_place found ≡ slice_get (selected arena.now id.index self.now) 0) }
@@ -219,8 +218,8 @@ impl Selector {
         first_matching(self.list.as_slice(), &query, below.as_slice())
     }
 
-    /// The nearest of a node and its ancestors that one of the selectors matches, or nothing where there is none. `:scope` is the
-    /// node, or, where that is no element, the root (DOM standard, section 4.9, "closest").
+    /// Returns the nearest of a node and its ancestors that one of the selectors matches, if any. `:scope` is the node or, if that isn't an
+    /// element, the root (DOM standard, section 4.9, "closest").
     pub fn closest(&self, arena: &Arena, id: NodeId) -> Result<Option<NodeId>, AllocError>
         requires { IsHeld arena.now id }
         ensures first { IfOk result (λ found. optional_place found ≡ slice_get (matching_upwards arena.now id.index self.now) 0) }

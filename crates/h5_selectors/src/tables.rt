@@ -1,5 +1,5 @@
-//! What is asked of an element, asked of a node and of all elements below it at once: a pass over their rows for each part of a
-//! selector. The table of a part has, for each row, whether the part holds of it.
+//! Tests of a condition on a node and on all elements below it: one pass over their rows for each part of a selector. The table of a part
+//! says for each row if the part holds.
 ghost use Rattle.std.specs.Prelude.{◌≡◌, ◌<◌, ◌≤◌, ◌+◌, ◌∷◌, ◌++◌, [], ◌&&◌, ◌||◌, ℕ, All, Bool, IfOk, IfSome, List, OnOk, Option, cond, false, get_or, length, nat_lt, not, true, vec_len};
 ghost use Rattle.std.specs.List.{filter, list_any};
 ghost use Rattle.h5_arena.specs.ArenaModel.{IsHeld};
@@ -18,7 +18,7 @@ use super::ways::is_element;
 use crate::{AnPlusB, Formula, Side, Way};
 use std::alloc::{AllocError, Global};
 
-// So many answers of one kind.
+// A table with this number of equal entries.
 fn answers(alloc: Global, count: usize, answer: bool) -> Result<Vec<bool>, AllocError>
     ensures count { IfOk result (λ all. vec_len all ≡ count) }
     ensures all { IfOk result (λ all. (k : ℕ) → k < count → get_or all.items k false ≡ answer) }
@@ -30,7 +30,7 @@ fn answers(alloc: Global, count: usize, answer: bool) -> Result<Vec<bool>, Alloc
     Ok(all)
 }
 
-// The rows that are in a set, and not in another one.
+// The rows that are in one set and not in another.
 fn without(alloc: Global, set: &[bool], other: &[bool]) -> Result<Vec<bool>, AllocError>
     requires { length other.now ≡ length set.now }
     ensures count { IfOk result (λ left. vec_len left ≡ length set.now) }
@@ -43,7 +43,7 @@ fn without(alloc: Global, set: &[bool], other: &[bool]) -> Result<Vec<bool>, All
     Ok(left)
 }
 
-// The rows of a set of which this holds, asked of each alone.
+// The rows of a set for which the condition holds, each tested alone.
 fn asked(
     formula: &Formula,
     query: &Query<'_>,
@@ -63,7 +63,7 @@ fn asked(
     Ok(table)
 }
 
-// The same set once more.
+// A copy of a set.
 fn copied(alloc: Global, set: &[bool]) -> Result<Vec<bool>, AllocError>
     ensures { IfOk result (λ copy. copy.items ≡ set.now) }
 {
@@ -72,7 +72,7 @@ fn copied(alloc: Global, set: &[bool]) -> Result<Vec<bool>, AllocError>
     Ok(copy)
 }
 
-// What a table says of a row that is linked.
+// The entry of a table for a linked row; false without one.
 fn told(table: &[bool], link: Option<usize>) -> bool
     ensures { result ≡ told table.now link }
 {
@@ -82,7 +82,7 @@ fn told(table: &[bool], link: Option<usize>) -> bool
     }
 }
 
-// Whether a row is in a set, or a table says so of a row that is linked.
+// Returns true if a row is in a set, or a linked row is in a table.
 fn or_told(is_in: bool, table: &[bool], link: Option<usize>) -> bool
     ensures { result ≡ (is_in || told table.now link) }
 {
@@ -103,7 +103,7 @@ fn elements_in(query: &Query<'_>, rows: &Rows, set: &[bool]) -> Result<Vec<bool>
     Ok(table)
 }
 
-// Whether an element of a row, or one above it, is in a set of elements; those above the first row are asked alone.
+// Returns true if the element of a row or one of its ancestors is in a set of elements. The ancestors of the first row are tested alone.
 fn is_above(
     inner: &Formula,
     query: &Query<'_>,
@@ -128,7 +128,7 @@ fn is_above(
     Ok(told(table, rows.links(at).parent))
 }
 
-// The same of each row.
+// For each row, true if its element or one of its ancestors is in a set of elements.
 fn above(
     inner: &Formula,
     query: &Query<'_>,
@@ -149,7 +149,7 @@ fn above(
     Ok(table)
 }
 
-// Whether each row, or a sibling before it, is in a set.
+// For each row, true if it or a sibling before it is in a set.
 fn earlier(query: &Query<'_>, rows: &Rows, set: &[bool]) -> Result<Vec<bool>, AllocError>
     requires rows { AreRows query.now rows.now }
     requires count { length set.now ≡ length rows.now.ids.items }
@@ -164,7 +164,7 @@ fn earlier(query: &Query<'_>, rows: &Rows, set: &[bool]) -> Result<Vec<bool>, Al
     Ok(table)
 }
 
-// Whether each row, or a sibling behind it, is in a set.
+// For each row, true if it or a sibling after it is in a set.
 fn later(query: &Query<'_>, rows: &Rows, set: &[bool]) -> Result<Vec<bool>, AllocError>
     requires rows { AreRows query.now rows.now }
     requires count { length set.now ≡ length rows.now.ids.items }
@@ -180,7 +180,7 @@ fn later(query: &Query<'_>, rows: &Rows, set: &[bool]) -> Result<Vec<bool>, Allo
     Ok(table)
 }
 
-// Whether each row, one below it, or a sibling behind it or one below that, is in a set.
+// For each row, true if it, a descendant, a sibling after it or a descendant of such a sibling is in a set.
 fn under(query: &Query<'_>, rows: &Rows, set: &[bool]) -> Result<Vec<bool>, AllocError>
     requires rows { AreRows query.now rows.now }
     requires count { length set.now ≡ length rows.now.ids.items }
@@ -198,7 +198,7 @@ fn under(query: &Query<'_>, rows: &Rows, set: &[bool]) -> Result<Vec<bool>, Allo
     Ok(table)
 }
 
-// What has to be known of the rows to which a way leads.
+// The table that is looked up for this relation.
 fn ahead(
     inner: &Formula,
     query: &Query<'_>,
@@ -225,7 +225,7 @@ fn ahead(
     }
 }
 
-// The link that is followed to where an element leads.
+// The link to the row that is looked up for this relation.
 fn link_to(way: Way, links: Links) -> Option<usize>
     ensures { result ≡ link_to way links }
 {
@@ -237,21 +237,22 @@ fn link_to(way: Way, links: Links) -> Option<usize>
     }
 }
 
-// Whether a way may lead from the first row to where there are no rows.
+// Returns true if the first row can have elements outside the rows in this relation.
 fn leads_out(way: Way) -> bool
     ensures { result ≡ leads_out way }
 {
     !matches!(way, Way::Child | Way::Below)
 }
 
-// Whether a row is asked alone: the first one, where the way leads out.
+// Returns true if a row has to be tested alone: the first one, if it can have elements outside the rows in this relation.
 fn is_alone(row: usize, way: Way) -> bool
     ensures { result ≡ false → leads_out way ≡ true → 0 < row }
 {
     row == 0 && leads_out(way)
 }
 
-// Whether a row leads into a set. The first row is asked alone, where it may lead to where there are no rows.
+// Returns true if an element in this relation to a row is in the set. The first row is tested alone if it can have elements outside the
+// rows.
 fn is_led(
     inner: &Formula,
     query: &Query<'_>,
@@ -271,7 +272,7 @@ fn is_led(
     Ok(told(table, link_to(way, rows.links(at))))
 }
 
-// The rows of a set that lead into another one.
+// The rows of a set that have an element in this relation in another set.
 fn leading(
     inner: &Formula,
     query: &Query<'_>,
@@ -296,14 +297,14 @@ fn leading(
     Ok(table)
 }
 
-/// How many are counted for a row; none behind the last one.
+/// The count of a row; 0 after the last one.
 pub(crate) fn count_of(counts: &[usize], row: usize) -> usize
     ensures { result ≡ get_or counts.now row 0 }
 {
     if row < counts.len() { counts[row] } else { 0 }
 }
 
-// How many are counted for a row that is linked, with that row where it is in a set.
+// The count of a linked row, plus 1 if that row is in a set.
 fn counted_at(counts: &[usize], set: &[bool], link: Option<usize>) -> usize
     requires { (k : ℕ) → get_or counts.now k 0 < 18446744073709551615 }
     ensures { result ≡ counted_at counts.now set.now link }
@@ -314,7 +315,7 @@ fn counted_at(counts: &[usize], set: &[bool], link: Option<usize>) -> usize
     }
 }
 
-// How many siblings before each row are in a set.
+// For each row, the number of siblings before it in a set.
 fn counts_before(query: &Query<'_>, rows: &Rows, set: &[bool]) -> Result<Vec<usize>, AllocError>
     requires rows { AreRows query.now rows.now }
     requires count { length set.now ≡ length rows.now.ids.items }
@@ -329,7 +330,7 @@ fn counts_before(query: &Query<'_>, rows: &Rows, set: &[bool]) -> Result<Vec<usi
     Ok(counts)
 }
 
-/// No counts yet, of so many rows.
+/// Counts of this number of rows, all 0.
 pub(crate) fn zeros(alloc: Global, count: usize) -> Result<Vec<usize>, AllocError>
     ensures count { IfOk result (λ all. vec_len all ≡ count) }
     ensures all { IfOk result (λ all. (k : ℕ) → k < count → get_or all.items k 0 ≡ 0) }
@@ -341,7 +342,7 @@ pub(crate) fn zeros(alloc: Global, count: usize) -> Result<Vec<usize>, AllocErro
     Ok(all)
 }
 
-// How many siblings behind each row are in a set.
+// For each row, the number of siblings after it in a set.
 fn counts_behind(query: &Query<'_>, rows: &Rows, set: &[bool]) -> Result<Vec<usize>, AllocError>
     requires rows { AreRows query.now rows.now }
     requires count { length set.now ≡ length rows.now.ids.items }
@@ -374,7 +375,7 @@ fn counts(
     }
 }
 
-// Whether a row is in a set, and its index among the siblings in it is one of these. The first row is asked alone.
+// Returns true if a row is in a set, and its index among the siblings in the set is one of these. The first row is tested alone.
 fn is_placed(
     of: &Formula,
     query: &Query<'_>,
@@ -399,7 +400,7 @@ fn is_placed(
     Ok(among[at] && indices.has_behind(counts[at]))
 }
 
-// The rows of a set that are in another one, and whose index among the siblings in it is one of these.
+// The rows of a set that are in another one, and whose index among the siblings in that one is one of these.
 fn placed(
     of: &Formula,
     query: &Query<'_>,
@@ -426,7 +427,7 @@ fn placed(
     Ok(table)
 }
 
-// Whether the index of a row's node among the siblings of its name is one of these. The first row is asked alone.
+// Returns true if the index of a row among the siblings with its name is one of these. The first row is tested alone.
 fn is_placed_alike(
     query: &Query<'_>,
     indices: AnPlusB,
@@ -447,7 +448,7 @@ fn is_placed_alike(
     Ok(indices.has_behind(counts[at]))
 }
 
-// The rows of a set of which that holds.
+// The rows of a set whose index among the siblings with their name is one of these.
 fn placed_alike(
     query: &Query<'_>,
     indices: AnPlusB,
@@ -469,7 +470,7 @@ fn placed_alike(
     Ok(table)
 }
 
-// The rows of a set of which this holds.
+// The rows of a set for which the condition holds.
 fn narrowed(
     formula: &Formula,
     query: &Query<'_>,
@@ -512,7 +513,7 @@ fn narrowed(
     }
 }
 
-/// The rows that none of some selectors matches.
+/// The rows that none of the selectors matches.
 pub(crate) fn unmatched(
     list: &[Formula],
     query: &Query<'_>,

@@ -1,4 +1,4 @@
-//! Where an element leads to: its parent, its siblings, and what stands below it, of all these the elements alone.
+//! Relations between elements: parent, siblings and descendants. Only elements are returned.
 ghost use Rattle.std.specs.Prelude.{◌≡◌, ◌∷◌, [], All, IfOk, IfSome, map, option_copied};
 ghost use Rattle.std.specs.Option.{option_to_list};
 ghost use Rattle.h5_arena.specs.ArenaModel.{IsChildHeld, IsHeld, child_view, child_views, forest_seen, optional_place, place};
@@ -19,7 +19,7 @@ pub(crate) fn name_of(arena: &Arena, id: NodeId) -> Option<&QualName>
     arena.name(id)
 }
 
-/// Whether a node is an element.
+/// Returns true for an element.
 pub(crate) fn is_element(arena: &Arena, id: NodeId) -> bool
     requires { IsHeld arena.now id }
     ensures { result ≡ is_element (forest_seen arena.now) id.index }
@@ -27,7 +27,7 @@ pub(crate) fn is_element(arena: &Arena, id: NodeId) -> bool
     name_of(arena, id).is_some()
 }
 
-/// Whose child a node is.
+/// The node whose child a node is.
 pub(crate) fn parent_of(arena: &Arena, id: NodeId) -> Option<NodeId>
     requires { IsHeld arena.now id }
     ensures parent { optional_place result ≡ tree_parent (forest_seen arena.now) id.index }
@@ -36,7 +36,7 @@ pub(crate) fn parent_of(arena: &Arena, id: NodeId) -> Option<NodeId>
     arena.parent(id)
 }
 
-/// The parent, where it is an element.
+/// The parent, if it is an element.
 pub(crate) fn parent_element(arena: &Arena, id: NodeId) -> Option<NodeId>
     requires { IsHeld arena.now id }
     ensures parent { option_to_list (optional_place result) ≡ parent_element (forest_seen arena.now) id.index }
@@ -48,7 +48,7 @@ pub(crate) fn parent_element(arena: &Arena, id: NodeId) -> Option<NodeId>
     }
 }
 
-/// The element that a child is.
+/// The element of a child, if it is one.
 pub(crate) fn element_of(arena: &Arena, child: &Child) -> Option<NodeId>
     requires { IsChildHeld arena.now child.now }
     ensures element { option_to_list (optional_place result) ≡ elements_among (forest_seen arena.now) (child_view child.now ∷ []) }
@@ -60,7 +60,7 @@ pub(crate) fn element_of(arena: &Arena, child: &Child) -> Option<NodeId>
     }
 }
 
-/// Whether an element is the root of a document.
+/// Returns true for the root of a document.
 pub(crate) fn is_root(arena: &Arena, id: NodeId) -> bool
     requires { IsHeld arena.now id }
     ensures { result ≡ is_root (forest_seen arena.now) id.index }
@@ -71,7 +71,7 @@ pub(crate) fn is_root(arena: &Arena, id: NodeId) -> bool
     }
 }
 
-/// Whether a node has neither elements nor texts as children.
+/// Returns true if a node has neither elements nor texts as children.
 pub(crate) fn is_empty(arena: &Arena, id: NodeId) -> bool
     requires { IsHeld arena.now id }
     ensures { result ≡ is_empty (forest_seen arena.now) id.index }
@@ -89,7 +89,7 @@ pub(crate) fn is_empty(arena: &Arena, id: NodeId) -> bool
     true
 }
 
-// Those of some nodes that are elements.
+// The elements among nodes.
 fn elements(alloc: Global, arena: &Arena, nodes: &[NodeId]) -> Result<Vec<NodeId>, AllocError>
     requires { All (IsHeld arena.now) nodes.now }
     ensures found { IfOk result (λ found. map place found.items ≡ elements (forest_seen arena.now) (map place nodes.now)) }
@@ -147,7 +147,7 @@ pub(crate) fn ancestors(alloc: Global, arena: &Arena, id: NodeId) -> Result<Vec<
     elements(alloc, arena, above.as_slice())
 }
 
-// One element, or none.
+// A list of one element, or an empty one.
 fn one_or_none(alloc: Global, id: Option<NodeId>) -> Result<Vec<NodeId>, AllocError>
     ensures { IfOk result (λ found. found.items ≡ option_to_list id) }
 {
@@ -158,7 +158,7 @@ fn one_or_none(alloc: Global, id: Option<NodeId>) -> Result<Vec<NodeId>, AllocEr
     Ok(found)
 }
 
-// The parent of a node, where it is an element.
+// The parent of a node, if it is an element.
 fn parent_list(alloc: Global, arena: &Arena, id: NodeId) -> Result<Vec<NodeId>, AllocError>
     requires { IsHeld arena.now id }
     ensures found { IfOk result (λ found. map place found.items ≡ parent_element (forest_seen arena.now) id.index) }
@@ -167,7 +167,7 @@ fn parent_list(alloc: Global, arena: &Arena, id: NodeId) -> Result<Vec<NodeId>, 
     one_or_none(alloc, parent_element(arena, id))
 }
 
-/// The siblings that are counted for a place, from the front or from the end.
+/// The siblings that are counted for an index, from the start or from the end.
 pub(crate) fn counted(
     alloc: Global,
     arena: &Arena,
@@ -180,11 +180,11 @@ pub(crate) fn counted(
 {
     match side {
         Side::First => elements_among(alloc, arena, arena.siblings_before(id)),
-        Side::Last => elements_among(alloc, arena, arena.siblings_behind(id)),
+        Side::Last => elements_among(alloc, arena, arena.siblings_after(id)),
     }
 }
 
-// The first element among children, and the last one.
+// The first and the last element among children.
 fn first_element(arena: &Arena, children: &[Child]) -> Option<NodeId>
     requires { All (IsChildHeld arena.now) children.now }
     ensures element { option_to_list (optional_place result) ≡ first_of (elements_among (forest_seen arena.now) (child_views children.now)) }
@@ -215,7 +215,7 @@ fn last_element(arena: &Arena, children: &[Child]) -> Option<NodeId>
     None
 }
 
-// The sibling right before a node, and right behind it.
+// The previous and the next sibling element of a node.
 fn previous(alloc: Global, arena: &Arena, id: NodeId) -> Result<Vec<NodeId>, AllocError>
     requires { IsHeld arena.now id }
     ensures found { IfOk result (λ found. map place found.items ≡ last_of (before (forest_seen arena.now) id.index)) }
@@ -229,10 +229,10 @@ fn next(alloc: Global, arena: &Arena, id: NodeId) -> Result<Vec<NodeId>, AllocEr
     ensures found { IfOk result (λ found. map place found.items ≡ first_of (behind (forest_seen arena.now) id.index)) }
     ensures held { IfOk result (λ found. All (IsHeld arena.now) found.items) }
 {
-    one_or_none(alloc, first_element(arena, arena.siblings_behind(id)))
+    one_or_none(alloc, first_element(arena, arena.siblings_after(id)))
 }
 
-/// The elements to which an element leads.
+/// The elements in this relation to an element.
 pub(crate) fn led(
     alloc: Global,
     arena: &Arena,
@@ -255,7 +255,7 @@ pub(crate) fn led(
     }
 }
 
-/// Whether two elements have one name.
+/// Returns true if two elements have equal names.
 pub(crate) fn are_alike(one: &QualName, other: &QualName) -> bool
     ensures { result ≡ are_alike one.now other.now }
 {

@@ -1,4 +1,4 @@
--- How the kept openers change.
+-- Changes of the stored openers.
 use Rattle.std.proofs.Common.{◌≡◌, ◌+◌, ◌-◌, ◌<◌, ◌||◌, List, [], ◌∷◌, ◌++◌, length, map, reverse, take, Some, refl, sym, ap, ◌∙◌, subst, arith, take_all}
 use Rattle.std.proofs.lemmas.List.{reverse-append, take_more}
 use Rattle.std.proofs.lemmas.Option.{get_or_from_slice_get}
@@ -28,7 +28,7 @@ last_split (y ∷ ys) x e =
     let split = sym (take_all (n + 1) (y ∷ ys) (omega arith)) ∙ take_more (y ∷ ys) n x le ∙ ap (λ z. take n (y ∷ ys) ++ z ∷ []) (get_or_from_slice_get (y ∷ ys) n x x e) in
     ap reverse split ∙ reverse-append (take n (y ∷ ys)) (x ∷ [])
 
--- the entry kept last says whether tags are left out
+-- the last entry says whether tags are omitted
 pub last_marked : (entries : List Entry) (entry : Entry) → slice_get entries (length entries - 1) ≡ Some entry → AreMarked entries → entry.is_hidden ≡ are_hidden (openers_in entries)
 last_marked entries entry e marked =
     let split = last_split entries entry e in

@@ -1,4 +1,4 @@
--- What an escaped text holds, and that it tells its text.
+-- The characters of an escaped text, and that it determines its text.
 use Rattle.std.proofs.Common.{◌≡◌, ℕ, zero, suc, ◌<◌, ◌≤◌, ◌+◌, ◌/◌, ◌%◌, Bool, true, false, ◌||◌, ◌&&◌, ◌==◌, List, [], ◌∷◌, ◌++◌, cond, eqb, ltb, length, refl, sym, ap, ◌∙◌, arith, length-append, ⊎_elim, IsUtf8}
 use Rattle.std.proofs.lemmas.Bool.{eqb-true, eqb-false, cases_lt, false≢true, le-ltb}
 use Rattle.std.proofs.lemmas.List.{append_cancel_left}
@@ -9,7 +9,7 @@ use Rattle.std.specs.Str.{chars, encode_utf8_all}
 use Rattle.std.specs.Prelude.{codes, if◌then◌else◌}
 use Rattle.h5_serialize.specs.Escape.{escape_char, escape}
 
--- ---- by cases on what stands for a character
+-- ---- by cases on the escape of a character
 
 choose : (P : List ℕ → Type 0) (b : Bool) (x y : List ℕ) → (b ≡ true → P x) → (b ≡ false → P y) → P (cond b x y)
 choose P true x y f g = f refl
@@ -118,7 +118,7 @@ no_quote = no_mark true 34 (omega arith) quote_char
 abbrev named_by : ℕ → ℕ
 named_by k = if k == 97 then 38 else (if k == 110 then 160 else (if k == 108 then 60 else (if k == 103 then 62 else 34)))
 
--- what stands for a character tells it
+-- the escape of a character determines it
 data Tells (c : ℕ) : List ℕ → Type 0 where
   Plain : (c ≡ 38 → ⊥) → Tells c (encode_utf8 c)
   Named : (k : ℕ) (tail : List ℕ) → named_by k ≡ c → Tells c (38 ∷ k ∷ tail)

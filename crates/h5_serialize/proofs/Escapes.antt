@@ -15,7 +15,7 @@ use Rattle.memchr.specs.Find.{is_byte3}
 use Rattle.h5_serialize.specs.Escape.{escape_char, escape}
 use Rattle.h5_serialize.specs.Places.{begins_reference, HasNoMarkBefore}
 
--- no character with an escape begins at the places below n
+-- no character with an escape begins below n
 abbrev pub Clean : Bool → List ℕ → ℕ → Type 0
 Clean value xs n = (k : ℕ) → k < n → begins_reference value (get_or xs k 0) (get_or xs (k + 1) 0) ≡ false
 
@@ -104,7 +104,7 @@ clean_take value xs n le h k lt =
     (λ past. let next : get_or (take n xs) (k + 1) 0 ≡ 0 = get_or_past (take n xs) (k + 1) 0 (omega (arith, length-take-le n xs le)) in (λ i. begins_reference value (here i) (next i)) ∙ weaker value (get_or xs k 0) (get_or xs (k + 1) 0) (h k below))
     (cases_lt (k + 1) n)
 
--- what comes before the first escape stays
+-- the text before the first escape is unchanged
 pub escape_split : (value : Bool) (xs : List ℕ) (n : ℕ) → IsUtf8 xs → IsCharBoundary xs n → Clean value xs n → escape value xs ≡ take n xs ++ escape value (drop n xs)
 escape_split value xs n utf8 boundary h =
     let front = IsUtf8-take xs n utf8 boundary in
@@ -113,7 +113,7 @@ escape_split value xs n utf8 boundary h =
     ∙ all_append value (chars (take n xs)) (chars (drop n xs))
     ∙ ap (λ l. l ++ escape value (drop n xs)) (clean_text value (take n xs) front (clean_take value xs n boundary.0 h))
 
--- a character at the front
+-- the first character
 pub escape_one : (value : Bool) (xs rest : List ℕ) (c : ℕ) → IsUtf8 xs → xs ≡ encode_utf8 c ++ rest → escape value xs ≡ escape_char value c ++ escape value rest
 escape_one value xs rest c utf8 e = ap (flat_map (escape_char value)) (chars_past_char xs rest c utf8 e)
 
@@ -121,14 +121,14 @@ not_true : (b : Bool) → (b ≡ true → ⊥) → b ≡ false
 not_true true h = absurd (h refl)
 not_true false h = refl
 
--- what lies behind a place
+-- the text after an index
 pub rest_same : (xs : List ℕ) (from : ℕ) → take (length xs - from) (drop from xs) ≡ drop from xs
 rest_same xs from = take_all (length xs - from) (drop from xs) (omega (arith, length-drop from xs))
 
 pub rest_length : (xs : List ℕ) (from : ℕ) → length (take (length xs - from) (drop from xs)) ≡ length xs - from
 rest_length xs from = ap length (rest_same xs from) ∙ length-drop from xs
 
--- what a search behind a place says of the whole
+-- a search after an index, and the search in the whole text
 pub rest_before : (test : ℕ → Bool) (xs : List ℕ) (from j k : ℕ) → ((n : ℕ) → 0 ≤ n → n < j → test (get_or (take (length xs - from) (drop from xs)) n 0) ≡ true → ⊥) → from ≤ k → k < from + j → test (get_or xs k 0) ≡ false
 rest_before test xs from j k h low lt =
     let there : from + (k - from) ≡ k = omega arith in
@@ -138,7 +138,7 @@ rest_before test xs from j k h low lt =
 pub no_mark_behind : (xs ys : List ℕ) → HasNoMarkBefore (xs ++ ys) (length (xs ++ ys)) → HasNoMarkBefore ys (length ys)
 no_mark_behind xs ys h k lt = ap (is_byte3 38 60 62) (sym (get_or-append-add xs ys k 0)) ∙ h (length xs + k) (omega (arith, length-append xs ys))
 
--- what is left behind a character
+-- the text after a character
 pub no_mark_left : (text rest seen : List ℕ) (n c : ℕ) → HasNoMarkBefore text (length text) → drop n text ≡ encode_utf8 c ++ rest → seen ≡ rest → HasNoMarkBefore seen (length seen)
 no_mark_left text rest seen n c h e same =
     let P : List ℕ → Type 0 = λ l. HasNoMarkBefore l (length l) in
@@ -149,7 +149,7 @@ no_mark_left text rest seen n c h e same =
 pub escape_append : (value : Bool) (xs ys : List ℕ) → IsUtf8 xs → escape value (xs ++ ys) ≡ escape value xs ++ escape value ys
 escape_append value xs ys front = ap (flat_map (escape_char value)) (chars-append xs ys front) ∙ all_append value (chars xs) (chars ys)
 
--- the front as it is, then a character
+-- a prefix as it is, then a character
 pub escape_step : (value : Bool) (xs : List ℕ) (n : ℕ) (front rest : List ℕ) (c : ℕ) → IsUtf8 xs → IsUtf8 (drop n xs) → IsCharBoundary xs n → Clean value xs n → front ≡ take n xs → drop n xs ≡ encode_utf8 c ++ rest → escape value xs ≡ (front ++ escape_char value c) ++ escape value rest
 escape_step value xs n front rest c utf8 tail boundary h e f =
     escape_split value xs n utf8 boundary h
@@ -160,14 +160,14 @@ escape_step value xs n front rest c utf8 tail boundary h e f =
 pub escape_last : (value : Bool) (xs : List ℕ) (n : ℕ) → IsUtf8 xs → n ≡ length xs → Clean value xs n → escape value xs ≡ xs
 escape_last value xs n utf8 e h = let P : ℕ → Type 0 = λ k. Clean value xs k in clean_text value xs utf8 (subst P e h)
 
--- what is known of a writer, after two writes
+-- the contents of a writer after two writes
 pub appends_both : (a b c : Option (List ℕ)) (x y z : List ℕ) → Appends a b x → Appends b c y → z ≡ x ++ y → Appends a c z
 appends_both None b c x y z h g e = tt
 appends_both (Some a) None c x y z h g e = absurd h
 appends_both (Some a) (Some b) None x y z h g e = absurd g
 appends_both (Some a) (Some b) (Some c) x y z h g e = g ∙ ap (λ l. l ++ y) h ∙ append_assoc a x y ∙ ap (λ l. a ++ l) (sym e)
 
--- all but a rest is written
+-- everything is written except a remainder
 pub record Wrote (old new : Option (List ℕ)) (all rest : List ℕ) : Type 0 where
   pub part : List ℕ
   pub appends : Appends old new part
@@ -183,7 +183,7 @@ wrote_more a b c all mid rest part w h e = record {
 pub shorter_after : (text : List ℕ) (n : ℕ) (rest seen : List ℕ) (c : ℕ) → drop n text ≡ encode_utf8 c ++ rest → seen ≡ rest → length seen < length text
 shorter_after text n rest seen c e f = omega (arith, ap length e, ap length f, length-append (encode_utf8 c) rest, length-drop n text, length-encode c, (len_utf8_bounds c).0)
 
--- a front, then a character, then the rest
+-- a prefix, then a character, then the remainder
 pub escape_parts : (value : Bool) (text front rest : List ℕ) (n c : ℕ) → IsUtf8 front → IsUtf8 (drop n text) → front ≡ take n text → drop n text ≡ encode_utf8 c ++ rest → escape value text ≡ (escape value front ++ escape_char value c) ++ escape value rest
 escape_parts value text front rest n c head tail e f =
     ap (escape value) (sym (take-append-drop n text) ∙ ap (λ l. l ++ drop n text) (sym e))

@@ -1,4 +1,4 @@
--- Fronts of a text, written before a fault.
+-- Prefixes of a text that are written before an error.
 use Rattle.std.proofs.Common.{◌≡◌, ◌∙◌, ◌-◌, ℕ, false, true, List, [], ◌∷◌, ◌++◌, Option, Result, Ok, Err, OnOk, OnErr, ap, map, append_assoc, append-nil, drop, length, refl, subst, sym, take, take-append-drop}
 use Rattle.std.proofs.KnownBytes.{Appends-kept, Appends-nil, Appends-trans}
 use Rattle.std.specs.Io.KnownBytes.{Appends, Keeps}
@@ -7,7 +7,7 @@ use Rattle.std.specs.List.{flat_map}
 use Rattle.h5_serialize.specs.Fronts.{AppendsFront, Writes}
 use Rattle.h5_serialize.proofs.Escapes.{Wrote, rest_same, wrote_more}
 
--- a front of the first part is a front of the whole
+-- a prefix of the first part is a prefix of the whole
 pub front_first : {a b : Option (List ℕ)} (x y all : List ℕ) → all ≡ x ++ y → AppendsFront a b x → AppendsFront a b all
 front_first x y all e h = record {
   front = h.front;
@@ -16,7 +16,7 @@ front_first x y all e h = record {
   appends = h.appends;
 }
 
--- so is the first part with a front of the second
+-- so is the first part with a prefix of the second
 pub front_later : {a b c : Option (List ℕ)} (x y all : List ℕ) → all ≡ x ++ y → Appends a b x → AppendsFront b c y → AppendsFront a c all
 front_later {a} {b} {c} x y all e first h = record {
   front = x ++ h.front;
@@ -25,18 +25,18 @@ front_later {a} {b} {c} x y all e first h = record {
   appends = Appends-trans a b c x h.front first h.appends;
 }
 
--- the whole text is a front of it, and so is nothing
+-- the whole text is a prefix of itself, and so is the empty text
 pub front_whole : (a b : Option (List ℕ)) (text : List ℕ) → Appends a b text → AppendsFront a b text
 front_whole a b text h = record { front = text; rest = []; splits = sym (append-nil text); appends = h }
 
 pub front_none : (a b : Option (List ℕ)) (text : List ℕ) → b ≡ a → AppendsFront a b text
 front_none a b text e = subst (λ c. AppendsFront a c text) (sym e) (record { front = []; rest = text; splits = refl; appends = Appends-nil a })
 
--- a front of what was left
+-- a prefix of the text that was left
 pub front_left : (a b c : Option (List ℕ)) (all left : List ℕ) → Wrote a b all left → AppendsFront b c left → AppendsFront a c all
 front_left a b c all left w h = front_later w.part left all w.splits w.appends h
 
--- what was written before the writer took no more
+-- the text that was written before the writer failed
 pub front_kept : (a b c : Option (List ℕ)) (all left : List ℕ) → Wrote a b all left → Keeps b c → AppendsFront a c all
 front_kept a b c all left w h = record {
   front = w.part;
@@ -52,7 +52,7 @@ front_written a b all left w = record { front = w.part; rest = left; splits = w.
 pub wrote_none : (a : Option (List ℕ)) (all : List ℕ) → Wrote a a all all
 wrote_none a all = record { part = []; appends = Appends-nil a; splits = refl }
 
--- the writer took the first n bytes of what was left
+-- the writer took the first n bytes of the text that was left
 pub wrote_taken : (a b c : Option (List ℕ)) (all left : List ℕ) (n : ℕ) → Wrote a b all left → Appends b c (take n left) → Wrote a c all (take (length left - n) (drop n left))
 wrote_taken a b c all left n w h = wrote_more a b c all left _ (take n left) w h (sym (take-append-drop n left) ∙ ap (λ l. take n left ++ l) (sym (rest_same left n)))
 
@@ -71,7 +71,7 @@ pub on_err : {T E P : Type 0} (r : Result T E) → P → OnErr r P
 on_err (Ok x) h = tt
 on_err (Err e) h = h
 
--- a fault
+-- an error
 pub stops : {T E : Type 0} (P : E → Type 0) {a b : Option (List ℕ)} {text : List ℕ} (r : Result T E) → IsErrAnd r P → AppendsFront a b text → Writes r a b text
 stops P (Ok x) is h = absurd is
 stops P (Err e) is h = h
@@ -81,11 +81,11 @@ pub goes_on : {T E : Type 0} (a b c : Option (List ℕ)) (r : Result T E) (x y a
 goes_on a b c (Ok done) x y all e first h = subst (Appends a c) (sym e) (Appends-trans a b c x y first h)
 goes_on a b c (Err fault) x y all e first h = front_later x y all e first h
 
--- behind a call that wrote nothing
+-- after a call that wrote nothing
 pub goes_after : {T E : Type 0} (a b c : Option (List ℕ)) (r : Result T E) (text : List ℕ) → Keeps a b → Writes r b c text → Writes r a c text
 goes_after a b c r text kept h = goes_on a b c r [] text text refl (Appends-kept a a b [] (Appends-nil a) kept) h
 
--- the second of two parts, where nothing is written of it behind a fault of the first
+-- the second of two parts, if an error in the first stops the writing
 pub goes_further : {T E : Type 0} (a b c : Option (List ℕ)) (begun r : Result T E) (x y all : List ℕ) → all ≡ x ++ y
     → Writes begun a b x → OnOk begun (Writes r b c y) → OnErr begun (Keeps b c) → OnErr begun (IsErr r) → Writes r a c all
 goes_further a b c (Ok done) r x y all e first h kept stays = goes_on a b c r x y all e first h
@@ -99,7 +99,7 @@ pub text_of_more : {X Y : Type 0} (f : Y → List ℕ) (g : X → Y) (xs : List 
 text_of_more f g [] x = append-nil (f (g x))
 text_of_more f g (y ∷ xs) x = ap (λ l. f (g y) ++ l) (text_of_more f g xs x) ∙ sym (append_assoc (f (g y)) (flat_map f (map g xs)) (f (g x)))
 
--- the first item, behind what has begun
+-- the first item, after the text so far
 pub writes_item : {T E X Y : Type 0} (f : Y → List ℕ) (g : X → Y) (a b c : Option (List ℕ)) (begun r : Result T E) (start : List ℕ) (x : X)
     → Writes begun a b start → OnOk begun (Writes r b c (f (g x))) → OnErr begun (Keeps b c) → OnErr begun (IsErr r) → Writes r a c (start ++ flat_map f (map g (x ∷ [])))
 writes_item f g a b c begun r start x first h kept stays =

@@ -1,4 +1,4 @@
--- The tables have the tags and the attribute of each name at the name's number, and where they are cut.
+-- The tables have the tags and the attribute of each name at the name's number, and the indices at which they are split.
 use Rattle.std.proofs.Common.{◌≡◌, ◌+◌, ◌-◌, ◌++◌, ◌∷◌, ℕ, List, [], drop, get_or, length, map, refl, sym, ap, ◌∙◌, arith, take}
 use Rattle.std.proofs.Math.Seq.{take-append_seam, take-length, drop-append_seam}
 use Rattle.std.proofs.lemmas.List.{length-append, length-drop, take-append-le}

@@ -1,4 +1,4 @@
--- What a walk of calls leaves of the HTML serializer.
+-- The state of the HTML serializer after a walk of calls.
 use Rattle.std.proofs.Common.{◌≡◌, ℕ, Bool, true, false, ◌||◌, cond, List, [], ◌∷◌, ◌++◌, Option, Result, Ok, Err, refl, sym, ap, ◌∙◌, subst}
 use Rattle.h5_serialize.specs.Call.{Call}
 use Rattle.h5_serialize.specs.Openers.{lacks_parent}
@@ -10,7 +10,7 @@ use Rattle.h5_serialize.specs.Fronts.{AppendsFront}
 use Rattle.h5_serialize.proofs.EachLaws.{made_means, made_writes, text_split}
 use Rattle.h5_serialize.proofs.FrontLaws.{front_first, front_later, front_none, front_whole}
 
--- how it stands after these calls
+-- the state after these calls
 abbrev pub after_all : Standing → List Call → Standing
 after_all = after_each standing_after
 
@@ -29,7 +29,7 @@ or_true false b h = h
 or_false : (a b : Bool) → a ≡ false → b ≡ false → a || b ≡ false
 or_false a b h g = ap (λ x. x || b) h ∙ g
 
--- what the answers tell
+-- what follows from the results
 abbrev answer_where : Bool → Result (Unit {0}) SerializeFault
 answer_where lacks = cond lacks (Err NoParent) (Ok tt)
 
@@ -66,7 +66,7 @@ works : (m : Standing) (call : Call) → IsWorking m → Err Failed ≡ answer_t
 works Broken call h g = h
 works (Working s c os) call h g = never_failed _ (lacks_parent c call os) refl g
 
--- calls that were made have parents
+-- calls that succeeded have parents
 pub made_parents : {m : Standing} {t : Option (List ℕ)} {calls : List Call} {n : Standing} {u : Option (List ℕ)} → AreMade answer_to standing_after text_written IsBrokenBy m t calls n u → has_orphan m calls ≡ false
 made_parents NoCall = refl
 made_parents {m} (OneMore {calls} {k} {v} call n u before made) =
@@ -90,7 +90,7 @@ never_stopped {m} {t} (Refused made call left {k} {n} {v} {u} {fault} e h makes)
     let answered = (subst P is makes).answered in
     works k call (subst IsWorking (sym standing) (working_after m made working)) answered
 
--- a call that is refused has written a front of its text
+-- a call that fails has written a prefix of its text
 refused_front : {call : Call} {k n : Standing} {v u : Option (List ℕ)} (fault : SerializeFault) → Makes answer_to standing_after text_written IsBrokenBy call k v (Err fault) n u → AppendsFront v u (text_written k call)
 refused_front {call} {k} {n} {v} {u} NoParent makes = front_whole v u (text_written k call) makes.written
 refused_front {call} {k} {n} {v} {u} Memory makes = front_none v u (text_written k call) makes.broken.3

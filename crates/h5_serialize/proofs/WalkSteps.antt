@@ -1,4 +1,4 @@
--- How the calls of a walk are put together, over any serializer.
+-- The calls of a walk, joined, over any serializer.
 use Rattle.std.proofs.Common.{◌≡◌, ℕ, List, [], ◌∷◌, ◌++◌, map, Option, Result, Ok, Err, refl, sym, ap, ◌∙◌, subst, append_assoc, append-nil, inl, inr, ⊎_elim, length, Bor, ◌<◌, ◌+◌, get_or, take, drop}
 use Rattle.std.proofs.lemmas.List.{take_more, take-append-drop}
 use Rattle.std.specs.Iterator.{Drains}
@@ -24,7 +24,7 @@ module _ {M : Type 0} (answer : M → Call → Result (Unit {0}) SerializeFault)
   stopped_join {xs} h (Starved made left e g) = Starved (xs ++ made) left (ap (λ l. xs ++ l) e ∙ sym (append_assoc xs made left)) (made_join h g)
   stopped_join {xs} h (Refused made call left e g makes) = Refused (xs ++ made) call left (ap (λ l. xs ++ l) e ∙ sym (append_assoc xs made (call ∷ left))) (made_join h g) makes
 
-  -- what stops the front of a walk stops the walk
+  -- if the first calls of a walk are stopped, so is the walk
   pub stopped_early : {m n : M} {t u : Option (List ℕ)} {xs : List Call} {fault : SerializeFault} (ys : List Call) → IsStopped answer after writes breaks xs m t fault n u → IsStopped answer after writes breaks (xs ++ ys) m t fault n u
   stopped_early ys (Starved made left e g) = Starved made (left ++ ys) (ap (λ l. l ++ ys) e ∙ append_assoc made left ys) g
   stopped_early ys (Refused made call left e g makes) = Refused made call (left ++ ys) (ap (λ l. l ++ ys) e ∙ append_assoc made (call ∷ left) ys) g makes
@@ -38,21 +38,21 @@ module _ {M : Type 0} (answer : M → Call → Result (Unit {0}) SerializeFault)
   walk_one {m} {n} {t} {u} call (Ok done) made = OneMore call n u NoCall made
   walk_one {m} {n} {t} {u} call (Err fault) made = Refused [] call [] refl NoCall made
 
-  -- want of memory before the first call
+  -- an allocation that fails before the first call
   pub walk_starved : (m : M) (t : Option (List ℕ)) (calls : List Call) (result : Result (Unit {0}) SerializeFault) → IsErrAnd result (λ fault. fault ≡ Memory) → Walks answer after writes breaks calls m t result m t
   walk_starved m t calls (Ok done) is = absurd is
   walk_starved m t calls (Err fault) is = let P : SerializeFault → Type 0 = λ f. IsStopped answer after writes breaks calls m t f m t in subst P (sym is) (Starved [] calls refl NoCall)
 
-  -- a fault that is answered as it came
+  -- an error that is returned unchanged
   pub walk_stopped : {m n : M} {t u : Option (List ℕ)} {calls : List Call} {fault : SerializeFault} (result : Result (Unit {0}) SerializeFault) → IsErrAnd result (λ answered. answered ≡ fault) → IsStopped answer after writes breaks calls m t fault n u → Walks answer after writes breaks calls m t result n u
   walk_stopped (Ok done) is h = absurd is
   walk_stopped {m} {n} {t} {u} {calls} (Err answered) is h = let P : SerializeFault → Type 0 = λ f. IsStopped answer after writes breaks calls m t f n u in subst P (sym is) h
 
-  -- a start with the attributes that the iterator gives, where these are known
+  -- a start with the attributes of an iterator, if these are known
   pub start_made : {A : Type 0} (attribute : A → AttributeText) (given : List A → Type 0) (name : QualName) (attrs : List AttributeText) {m n : M} {t u : Option (List ℕ)} {result : Result (Unit {0}) SerializeFault} → ((all : List A) → given all → map attribute all ≡ attrs) → MakesStart answer after writes breaks attribute given name m t result n u → Makes answer after writes breaks (StartOf name attrs) m t result n u
   start_made attribute given name attrs {m} {n} {t} {u} {result} known h = ⊎_elim (λ read. subst (λ l. Makes answer after writes breaks (StartOf name l) m t result n u) (known read.0 read.1) read.2) (λ whatever. whatever attrs) h
 
-  -- the same of a start whose name is lent
+  -- a start with a borrowed name and the attributes of an iterator, if these are known
   pub start_walked : {A : Type 0} (attribute : A → AttributeText) (given : List A → Type 0) (name : QualName) (attrs : List AttributeText) (m : M) (t : Option (List ℕ)) (result : Result (Unit {0}) SerializeFault) (n : M) (u : Option (List ℕ)) → ((all : List A) → given all → map attribute all ≡ attrs) → WalksStart answer after writes breaks attribute given name m t result n u → Walks answer after writes breaks (StartOf name attrs ∷ []) m t result n u
   start_walked attribute given name attrs m t result n u known h = ⊎_elim (λ read. subst (λ l. Walks answer after writes breaks (StartOf name l ∷ []) m t result n u) (known read.0 read.1) read.2) (λ whatever. whatever attrs) h
 
@@ -60,7 +60,7 @@ module _ {M : Type 0} (answer : M → Call → Result (Unit {0}) SerializeFault)
   pub walk_start : {A : Type 0} (attribute : A → AttributeText) (given : List A → Type 0) (name : QualName) {m n : M} {t u : Option (List ℕ)} (result : Result (Unit {0}) SerializeFault) → MakesStart answer after writes breaks attribute given name m t result n u → WalksStart answer after writes breaks attribute given name m t result n u
   walk_start attribute given name result h = ⊎_elim (λ read. inl (read.0, read.1, walk_one (StartOf name (map attribute read.0)) result read.2)) (λ whatever. inr (λ attrs. walk_one (StartOf name attrs) result (whatever attrs))) h
 
--- the items that the iterator of a slice gives
+-- the items of a slice's iterator
 pub slice_gives : {A : Type 0} (all : List (Bor A)) (it : Iter A) → Drains iter_steps it all → map (λ x. x.now) all ≡ iter_rest it
 slice_gives {A} [] it (u, (t, e, h)) = empty (iter_rest it) (ap length (ap iter_rest e) ∙ h.0)
   where
@@ -73,7 +73,7 @@ fused : {A B C : Type 0} (f : B → C) (v : A → B) (xs : List A) → map (λ x
 fused f v [] = refl
 fused f v (x ∷ xs) = ap (λ l. f (v x) ∷ l) (fused f v xs)
 
--- the attributes that the iterator of a slice gives
+-- the attributes of a slice's iterator
 pub slice_attributes : (all : List (Bor Attribute)) (it : Iter Attribute) (attrs : List Attribute) → iter_rest it ≡ attrs → Drains iter_steps it all → map (λ a. attribute_text a.now) all ≡ attribute_texts attrs
 slice_attributes all it attrs e h = fused attribute_text (λ a. a.now) all ∙ ap attribute_texts (slice_gives all it h ∙ e)
 
@@ -81,7 +81,7 @@ map_append : {X Y : Type 0} (f : X → Y) (xs ys : List X) → map f (xs ++ ys) 
 map_append f [] ys = refl
 map_append f (x ∷ xs) ys = ap (λ l. f x ∷ l) (map_append f xs ys)
 
--- the calls of a list of items, at one of them: those before it, its own, and those after it
+-- the calls of a list of items, at one item: those before it, its own, and those after it
 pub calls_so_far : {X : Type 0} (call_of : X → Call) (xs : List X) (i : ℕ) (x : X) → i < length xs → x ≡ get_or xs i x → map call_of (take (i + 1) xs) ≡ map call_of (take i xs) ++ call_of x ∷ []
 calls_so_far call_of xs i x lt is = ap (map call_of) (take_more xs i x lt ∙ ap (λ y. take i xs ++ y ∷ []) (sym is)) ∙ map_append call_of (take i xs) (x ∷ [])
 

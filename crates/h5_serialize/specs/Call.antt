@@ -1,4 +1,4 @@
--- The six calls of a serializer, without where their texts lie in memory.
+-- The six calls of a serializer, independent of where their texts are in memory.
 use Rattle.std.specs.Prelude.{ℕ, List}
 use Rattle.h5_names.specs.AttributeText.{AttributeText}
 use Rattle.h5_names.specs.declared.qualified.QualName.{QualName}

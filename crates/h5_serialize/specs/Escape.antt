@@ -1,10 +1,10 @@
--- What is written in place of a text (HTML standard, section 13.3: escaping a string).
+-- The escape of a text (HTML standard, section 13.3: escaping a string).
 use Rattle.std.specs.Prelude.{ℕ, Bool, List, ◌==◌, ◌&&◌, if◌then◌else◌, codes}
 use Rattle.std.specs.Char.{encode_utf8}
 use Rattle.std.specs.List.{flat_map}
 use Rattle.std.specs.Str.{chars}
 
--- what stands for one character: `&`, U+00A0, `<`, `>` and, in the attribute mode, `"` have a reference
+-- the escape of a character: `&`, U+00A0, `<`, `>` and, in the attribute mode, `"` have a reference
 abbrev pub escape_char : (attr_mode : Bool) → ℕ → List ℕ
 escape_char attr_mode c =
     if c == 0x26 then codes "&amp;"

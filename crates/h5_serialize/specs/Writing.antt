@@ -1,4 +1,4 @@
--- What is written for a call (HTML standard, section 13.3, "Serializing HTML fragments").
+-- The text of a call (HTML standard, section 13.3, "Serializing HTML fragments").
 use Rattle.std.specs.Prelude.{ℕ, true, false, List, [], ◌++◌, if◌then◌else◌, codes}
 use Rattle.std.specs.List.{flat_map}
 use Rattle.h5_names.specs.AttributeText.{AttributeText, is_same_text}
@@ -8,7 +8,7 @@ use Rattle.h5_serialize.specs.Escape.{escape}
 use Rattle.h5_serialize.specs.Openers.{are_hidden, is_raw}
 use Rattle.h5_serialize.specs.declared.openers.Opener.{Opener}
 
--- what stands before the local name of an attribute
+-- the prefix of an attribute's local name
 abbrev pub attribute_prefix : QualName → List ℕ
 attribute_prefix name =
     if is_same_text name.ns [] then []
@@ -18,11 +18,11 @@ attribute_prefix name =
     else (if is_same_text name.ns (codes "http://www.w3.org/1999/xlink") then codes "xlink:"
     else codes "unknown_namespace:")))
 
--- what an attribute begins with, up to its value
+-- the start of an attribute, up to its value
 abbrev pub attribute_front : QualName → List ℕ
 attribute_front name = codes " " ++ attribute_prefix name ++ name.local ++ codes "=\""
 
--- an attribute up to the end of its value, and the same behind another, whose value it closes
+-- an attribute up to the end of its value; an attribute that follows another one, and closes that one's value
 abbrev pub attribute_begun : AttributeText → List ℕ
 attribute_begun attribute = attribute_front attribute.name ++ escape true attribute.value
 
@@ -40,11 +40,11 @@ start_tag name attrs = codes "<" ++ name.local ++ flat_map attribute_written att
 abbrev pub end_tag : QualName → List ℕ
 end_tag name = codes "</" ++ name.local ++ codes ">"
 
--- both tags of an element of this local name without attributes
+-- the two tags of an element with this local name and without attributes
 abbrev pub both_tags : List ℕ → List ℕ
 both_tags name = (codes "<" ++ name ++ codes ">") ++ (codes "</" ++ name ++ codes ">")
 
--- what a call writes, for its openers
+-- the text of a call, by its openers
 abbrev pub written : List Opener → Call → List ℕ
 written openers (StartOf name attrs) = if are_hidden openers then [] else start_tag name attrs
 written openers (EndOf name) = if are_hidden openers then [] else end_tag name

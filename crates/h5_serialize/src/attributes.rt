@@ -1,12 +1,12 @@
-//! Attributes, lent.
+//! Borrowed attributes.
 ghost use Rattle.std.specs.Prelude.{◌≡◌};
 ghost use Rattle.h5_names.specs.AttributeText.{AttributeText, attribute_text};
 
 use h5_names::{Attribute, QualName};
 
-/// An attribute of a start, lent: its name, and its value.
+/// A borrowed attribute of a start tag: its name, and its value.
 pub trait AttrRef: Drop {
-    // The attribute, without where its texts lie in memory.
+    // The attribute, independent of where its texts are in memory.
     ghost attribute: { Self → AttributeText };
 
     /// The name.

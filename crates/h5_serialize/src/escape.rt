@@ -1,9 +1,8 @@
-//! Writing text with its escapes.
+//! Writes text with its escapes.
 //!
-//! The text is searched for the bytes at which a character with a reference may begin, and what lies
-//! before is written as it stands. It is searched for `&`, `<` and `>` first, and each segment between
-//! these for the others, so that no byte is searched more than twice. A short text is looked at byte by
-//! byte before that, since most need no escape.
+//! The text is searched for the bytes at which a character with a reference can begin; the text before is written unchanged. It is searched
+//! for `&`, `<` and `>` first, and each segment between these for the others, so that no byte is searched more than twice. A short text is
+//! first tested byte by byte, since most short texts need no escape.
 ghost use Rattle.std.specs.Prelude.{◌≡◌, ℕ, true, false, ◌<◌, ◌≤◌, ◌+◌, ◌++◌, ◌||◌, List, length, slice_index, OnErr, IfOk, IsOkUnless, MatchOption};
 ghost use Rattle.std.specs.Char.{encode_utf8};
 ghost use Rattle.std.specs.Io.KnownBytes.{Appends};
@@ -16,7 +15,7 @@ use super::fault::SerializeFault;
 use memchr::{memchr, memchr2, memchr3};
 use std::io::{ErrorKind, Write};
 
-// Writes bytes that the writer did not take at once.
+// Writes the bytes that the writer did not accept at once.
 #[inline(never)]
 fn write_rest<Wr: Write>(writer: &mut Wr, bytes: &[u8]) -> Result<(), SerializeFault>
     ensures bytes { Writes result (Wr.contents writer.old) (Wr.contents writer.new) bytes.now }
@@ -40,7 +39,7 @@ fn write_rest<Wr: Write>(writer: &mut Wr, bytes: &[u8]) -> Result<(), SerializeF
     Err(SerializeFault::Write)
 }
 
-/// Writes bytes. The fault is `Write`, where the writer fails; it has taken a front of them then.
+/// Writes bytes. Fails with `Write` if the writer fails; then a prefix of the bytes has been written.
 pub fn write_bytes<Wr: Write>(writer: &mut Wr, bytes: &[u8]) -> Result<(), SerializeFault>
     ensures bytes { Writes result (Wr.contents writer.old) (Wr.contents writer.new) bytes.now }
     ensures fault { IsOkUnless result SerializeFault.Write }
@@ -48,7 +47,7 @@ pub fn write_bytes<Wr: Write>(writer: &mut Wr, bytes: &[u8]) -> Result<(), Seria
     if bytes.is_empty() {
         return Ok(());
     }
-    // Most writers take all of it at once.
+    // Most writers accept all bytes at once.
     match writer.write(bytes) {
         Ok(0) => Err(SerializeFault::Write),
         Ok(n) if n == bytes.len() => Ok(()),
@@ -62,7 +61,7 @@ pub fn write_bytes<Wr: Write>(writer: &mut Wr, bytes: &[u8]) -> Result<(), Seria
     }
 }
 
-/// Writes a text as it stands. The fault is `Write`, where the writer fails; it has taken a front of it then.
+/// Writes a text unescaped. Fails with `Write` if the writer fails; then a prefix of the text has been written.
 pub fn write_verbatim<Wr: Write>(writer: &mut Wr, text: &str) -> Result<(), SerializeFault>
     ensures text { Writes result (Wr.contents writer.old) (Wr.contents writer.new) text.now }
     ensures fault { IsOkUnless result SerializeFault.Write }
@@ -70,8 +69,7 @@ pub fn write_verbatim<Wr: Write>(writer: &mut Wr, text: &str) -> Result<(), Seri
     write_bytes(writer, text.as_bytes())
 }
 
-/// Writes a text with what comes before and after it. The fault is `Write`, where the writer fails; it has taken a front
-/// of the three then.
+/// Writes three texts. Fails with `Write` if the writer fails; then a prefix of the joined text has been written.
 pub fn write_between<Wr: Write>(
     writer: &mut Wr,
     before: &str,
@@ -87,7 +85,7 @@ pub fn write_between<Wr: Write>(
     write_verbatim(writer, after)
 }
 
-// The place of the first `&`, `<` or `>`, or the length.
+// The index of the first `&`, `<` or `>`, or the length.
 fn first_mark(bytes: &[u8]) -> usize
     ensures len { result ≤ length bytes.now }
     ensures before { HasNoMarkBefore bytes.now result }
@@ -99,7 +97,7 @@ fn first_mark(bytes: &[u8]) -> usize
     }
 }
 
-// The first C2, or in the attribute mode `"`.
+// The index of the first C2 or, in the attribute mode, `"`.
 fn find_candidate(attr_mode: bool, bytes: &[u8]) -> Option<usize>
     ensures { IsFirstByte (is_candidate attr_mode) bytes.now result }
 {
@@ -110,7 +108,7 @@ fn find_candidate(attr_mode: bool, bytes: &[u8]) -> Option<usize>
     }
 }
 
-// The place of the first such byte from a place on, or the length.
+// The index of the first such byte from an index on, or the length.
 fn first_candidate(attr_mode: bool, bytes: &[u8], from: usize) -> usize
     requires { from ≤ length bytes.now }
     ensures low { from ≤ result }
@@ -123,7 +121,7 @@ fn first_candidate(attr_mode: bool, bytes: &[u8], from: usize) -> usize
     }
 }
 
-// Whether a character with a reference begins at a place.
+// Returns true if a character with a reference begins at an index.
 fn is_reference_at(attr_mode: bool, bytes: &[u8], i: usize) -> bool
     requires { i < length bytes.now }
     ensures { result ≡ reference_at attr_mode bytes.now i }
@@ -136,7 +134,7 @@ fn is_reference_at(attr_mode: bool, bytes: &[u8], i: usize) -> bool
     }
 }
 
-// The place of the first character with a reference in a text without `&`, `<` and `>`, or its length.
+// The index of the first character with a reference in a text without `&`, `<` and `>`, or the length.
 fn first_reference(attr_mode: bool, bytes: &[u8]) -> usize
     requires { HasNoMarkBefore bytes.now (length bytes.now) }
     ensures len { result ≤ length bytes.now }
@@ -154,7 +152,7 @@ fn first_reference(attr_mode: bool, bytes: &[u8]) -> usize
     bytes.len()
 }
 
-// The reference that stands for a character, if it has one.
+// The reference of a character, if it has one.
 fn reference(attr_mode: bool, c: char) -> Option<&'static str>
     ensures { MatchOption result (escape_char attr_mode c ≡ encode_utf8 c)
         (λ s. escape_char attr_mode c ≡ s.now) }
@@ -183,8 +181,7 @@ fn write_char<Wr: Write>(writer: &mut Wr, attr_mode: bool, c: char) -> Result<()
     }
 }
 
-// Of a text without `&`, `<` and `>`, writes what comes before the first reference, and one character
-// more. What is left is answered.
+// Writes the text up to the first reference, and one more character. The text must have no `&`, `<` and `>`. Returns the remainder, if any.
 fn write_front<'a, Wr: Write>(
     writer: &mut Wr,
     attr_mode: bool,
@@ -202,7 +199,7 @@ fn write_front<'a, Wr: Write>(
 {
     let n = first_reference(attr_mode, text.as_bytes());
     let (front, after) = text.split_at(n);
-    // No effect when it runs: the proof reads here that what is left is text.
+    // No effect at run time: the proof needs the fact that the remainder is text.
     let _tail = after.as_bytes();
     write_verbatim(writer, front)?;
     let mut chars = after.chars();
@@ -227,14 +224,14 @@ fn write_segment<Wr: Write>(
 {
     let mut rest = text;
     while let Some(after) = write_front(writer, attr_mode, rest)? {
-        // No effect when it runs: the proof reads here that what is left is text.
+        // No effect at run time: the proof needs the fact that the remainder is text.
         let _bytes = after.as_bytes();
         rest = after;
     }
     Ok(())
 }
 
-// Writes what comes before the first `&`, `<` or `>`, and that. What is left is answered.
+// Writes the text up to the first `&`, `<` or `>`, and that character. Returns the remainder, if any.
 fn write_to_mark<'a, Wr: Write>(
     writer: &mut Wr,
     attr_mode: bool,
@@ -250,7 +247,7 @@ fn write_to_mark<'a, Wr: Write>(
 {
     let n = first_mark(text.as_bytes());
     let (front, after) = text.split_at(n);
-    // No effect when it runs: the proof reads here that both parts are text.
+    // No effect at run time: the proof needs the fact that both parts are text.
     let _head = front.as_bytes();
     let _tail = after.as_bytes();
     write_segment(writer, attr_mode, front)?;
@@ -264,14 +261,14 @@ fn write_to_mark<'a, Wr: Write>(
     }
 }
 
-// Whether a character with a reference may begin with this byte.
+// Returns true if a character with a reference can begin with this byte.
 fn may_begin(attr_mode: bool, b: u8) -> bool
     ensures { result ≡ (is_byte3 0x26 0x3c 0x3e b || is_candidate attr_mode b) }
 {
     (b == b'&' || b == b'<' || b == b'>') || ((attr_mode && b == b'"') || b == 0xc2)
 }
 
-// How many bytes at the front begin no character with a reference.
+// The length of the longest prefix in which no byte can begin a character with a reference.
 fn plain_len(attr_mode: bool, bytes: &[u8]) -> usize
     ensures len { result ≤ length bytes.now }
     ensures plain { IsPlainBefore attr_mode bytes.now result }
@@ -284,16 +281,15 @@ fn plain_len(attr_mode: bool, bytes: &[u8]) -> usize
     bytes.len()
 }
 
-// Whether a text is short and stands for itself. Most are and do, and three searches would take longer than a look
-// at each byte.
+// Returns true only if a text is short and has no escapes. Most texts are like that, and three searches would take longer than a look at
+// each byte.
 fn is_short_and_plain(attr_mode: bool, text: &str) -> bool
     ensures { result ≡ true → escape attr_mode text.now ≡ text.now }
 {
     text.len() < 64 && plain_len(attr_mode, text.as_bytes()) == text.len()
 }
 
-/// Writes a text with its escapes. The fault is `Write`, where the writer fails; it has taken a front of the escaped text
-/// then.
+/// Writes a text with its escapes. Fails with `Write` if the writer fails; then a prefix of the escaped text has been written.
 pub fn write_escaped<Wr: Write>(
     writer: &mut Wr,
     text: &str,
@@ -307,7 +303,7 @@ pub fn write_escaped<Wr: Write>(
     }
     let mut rest = text;
     while let Some(after) = write_to_mark(writer, attr_mode, rest)? {
-        // No effect when it runs: the proof reads here that what is left is text.
+        // No effect at run time: the proof needs the fact that the remainder is text.
         let _bytes = after.as_bytes();
         rest = after;
     }

@@ -1,4 +1,4 @@
-//! Texts with their escapes, as strings (HTML standard, section 13.3, "Serializing HTML fragments": escaping a string).
+//! Escaped texts as strings (HTML standard, section 13.3, "Serializing HTML fragments": escaping a string).
 ghost use Rattle.std.specs.Prelude.{◌≡◌, IfOk, false, string_bytes, true};
 ghost use Rattle.h5_serialize.specs.Escape.{escape};
 
@@ -6,7 +6,7 @@ use super::escape::write_escaped;
 use super::fault::SerializeFault;
 use std::alloc::{AllocError, Global};
 
-// A text with its escapes, as bytes.
+// An escaped text, as bytes.
 fn escaped_bytes(alloc: Global, text: &str, attr_mode: bool) -> Result<Vec<u8>, SerializeFault>
     ensures { IfOk result (λ bytes. bytes.items ≡ escape attr_mode text.now) }
 {
@@ -15,7 +15,7 @@ fn escaped_bytes(alloc: Global, text: &str, attr_mode: bool) -> Result<Vec<u8>, 
     Ok(bytes)
 }
 
-// The same as a text. Into a vector nothing but want of memory stops it, and what is written of a text is one.
+// An escaped text. Writing to a vector fails only if an allocation fails, and an escaped text is valid UTF-8.
 fn escaped(alloc: Global, text: &str, attr_mode: bool) -> Result<String, AllocError>
     ensures { IfOk result (λ escaped. string_bytes escaped ≡ escape attr_mode text.now) }
 {
@@ -28,16 +28,17 @@ fn escaped(alloc: Global, text: &str, attr_mode: bool) -> Result<String, AllocEr
     }
 }
 
-/// A text as it is written between tags: `&`, U+00A0, `<` and `>` as references. An `AllocError` where memory is refused.
+/// Returns a text as it is written between tags: `&`, U+00A0, `<` and `>` become references. Fails with `AllocError` if an allocation
+/// fails.
 pub fn escape_text(alloc: Global, text: &str) -> Result<String, AllocError>
     ensures { IfOk result (λ escaped. string_bytes escaped ≡ escape false text.now) }
 {
     escaped(alloc, text, false)
 }
 
-/// A text as it is written in an attribute's value, between double quotes: `&`, U+00A0, `<`, `>` and `"` as references. An
-/// `AllocError` where memory is refused.
-pub fn escape_value(alloc: Global, text: &str) -> Result<String, AllocError>
+/// Returns a text as it is written in an attribute's value, between double quotes: `&`, U+00A0, `<`, `>` and `"` become references. Fails
+/// with `AllocError` if an allocation fails.
+pub fn escape_attribute(alloc: Global, text: &str) -> Result<String, AllocError>
     ensures { IfOk result (λ escaped. string_bytes escaped ≡ escape true text.now) }
 {
     escaped(alloc, text, true)

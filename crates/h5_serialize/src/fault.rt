@@ -1,23 +1,22 @@
-//! Why a call was refused.
+//! The errors of a serializer.
 ghost use Rattle.std.specs.Prelude.{◌≡◌};
 
 use std::alloc::{AllocError, AllocFailed};
 use thiserror::Error;
 
-/// Why a serializer refused a call.
+/// The error of a serializer's call.
 #[derive(Clone, Copy, Debug, PartialEq, Eq, Error)]
 pub enum SerializeFault {
-    /// A start tag, an end tag or a text came where no parent is left. Nothing has changed, and nothing
-    /// was written.
+    /// A start tag, an end tag or a text has no parent. Nothing has changed, and nothing was written.
     #[error("no parent is left")]
     NoParent,
-    /// Memory was refused. Of the call nothing was written, and every later call fails.
+    /// An allocation failed. Nothing of the call was written, and every later call fails.
     #[error("out of memory")]
     Memory,
-    /// The writer failed. It took a front of the call's text, and nothing behind that; every later call fails.
+    /// The writer failed. A prefix of the call's text was written, and nothing else; every later call fails.
     #[error("the writer failed")]
     Write,
-    /// An earlier call met a fault. Nothing was written.
+    /// An earlier call failed with `Memory` or `Write`. Nothing was written.
     #[error("after a fault")]
     Failed,
 }

@@ -20,17 +20,16 @@ use std::marker::Model;
 
 /// Writes HTML (HTML standard, section 13.3, "Serializing HTML fragments").
 ///
-/// A contract sees how it stands, that is its openers and options or that it is broken, and what its
-/// writer holds, where the writer tells that. Once a call has answered `Memory` or `Write` every call
-/// answers `Failed` and writes nothing; a call that answers `Write` has written a front of its text, and nothing
-/// behind that. Only `start_elem` and `write_text` take memory, before their first byte.
+/// Contracts see its state (its options and open elements, or that it is broken), and the contents of its writer, if the writer's contracts
+/// give them. After a call has failed with `Memory` or `Write`, every call fails with `Failed` and writes nothing. A call that fails with
+/// `Write` has written a prefix of its text, and nothing else. Only start tags and texts need memory, and they allocate before they write.
 #[derive(Drop)]
 pub struct HtmlSerializer<Wr: Write + Drop> {
     pub writer: Wr,
     openers: Openers,
     scripting_enabled: bool,
     create_missing_parent: bool,
-    // Whether a call met want of memory or a failing writer.
+    // True if an allocation or the writer failed in a call.
     failed: bool,
 }
 
@@ -48,8 +47,8 @@ impl<Wr: Write + Drop> Model for HtmlSerializer<Wr> {
 }
 
 impl<Wr: Write + Drop> HtmlSerializer<Wr> {
-    /// A serializer that has written nothing and keeps the base entry of the options. The fault is
-    /// `Memory`, where memory is refused; the writer is dropped then.
+    /// Returns a serializer that has written nothing, with the base entry of the options. Fails with `Memory` if an allocation fails; the
+    /// writer is dropped then.
     pub fn new(
         alloc: Global,
         writer: Wr,
@@ -69,7 +68,7 @@ impl<Wr: Write + Drop> HtmlSerializer<Wr> {
         })
     }
 
-    // What it answers to a call that needs a parent.
+    // The reply to a call that needs a parent.
     fn parent_answer(&self) -> Result<(), SerializeFault>
         ensures { result ≡ parent_answer self.now.standing }
     {
@@ -82,7 +81,7 @@ impl<Wr: Write + Drop> HtmlSerializer<Wr> {
         Ok(())
     }
 
-    // The start of an element. Nothing is written where an opener is the start of a void element.
+    // Writes a start tag. Writes nothing inside a void element.
     fn start<T: AttrRef, I: Iterator<Item = T> + Drop>(
         &mut self,
         name: &QualName,
@@ -108,8 +107,7 @@ impl<Wr: Write + Drop> HtmlSerializer<Wr> {
         Ok(())
     }
 
-    // The end of an element. It closes the innermost opener. Nothing is written where that or one around it is the start of a
-    // void element.
+    // Writes an end tag, and closes the innermost element. Writes nothing for a void element or inside one.
     fn end(&mut self, name: &QualName) -> Result<(), SerializeFault>
         ensures { Makes answer_to standing_after text_written IsBrokenBy (EndOf name.now)
             self.old.standing self.old.contents result self.new.standing self.new.contents }
@@ -156,7 +154,7 @@ impl<Wr: Write + Drop> Serializer for HtmlSerializer<Wr> {
 
     ghost breaks = { IsBrokenBy };
 
-    /// Nothing is written where an opener is the start of a void element.
+    /// Writes a start tag. Writes nothing inside a void element.
     fn start_elem<T: AttrRef, I: Iterator<Item = T> + Drop>(
         &mut self,
         name: QualName,
@@ -165,13 +163,12 @@ impl<Wr: Write + Drop> Serializer for HtmlSerializer<Wr> {
         self.start(&name, attrs)
     }
 
-    /// Closes the innermost opener. Nothing is written where it or one around it is the start of a void
-    /// element.
+    /// Writes an end tag, and closes the innermost element. Writes nothing for a void element or inside one.
     fn end_elem(&mut self, name: QualName) -> Result<(), SerializeFault> {
         self.end(&name)
     }
 
-    /// As `start_elem`. No name is copied.
+    /// As `start_elem`. Doesn't copy the name.
     fn start_elem_ref<T: AttrRef, I: Iterator<Item = T> + Drop>(
         &mut self,
         name: &QualName,
@@ -187,7 +184,7 @@ impl<Wr: Write + Drop> Serializer for HtmlSerializer<Wr> {
         self.start(name, attrs)
     }
 
-    /// As `end_elem`. No name is copied.
+    /// As `end_elem`. Doesn't copy the name.
     fn end_elem_ref(&mut self, name: &QualName) -> Result<(), SerializeFault>
         ensures walks { Walks answer_to standing_after text_written IsBrokenBy (EndOf name.now ∷ [])
             self.old.standing self.old.contents result self.new.standing self.new.contents }
@@ -197,7 +194,7 @@ impl<Wr: Write + Drop> Serializer for HtmlSerializer<Wr> {
         self.end(name)
     }
 
-    /// A text right inside an element as `style` is written as it stands, any other with its escapes.
+    /// Writes a text: unescaped directly inside elements such as `style`, and escaped elsewhere.
     fn write_text(&mut self, text: &str) -> Result<(), SerializeFault> {
         self.parent_answer()?;
         self.failed = true;
@@ -211,7 +208,7 @@ impl<Wr: Write + Drop> Serializer for HtmlSerializer<Wr> {
         Ok(())
     }
 
-    /// The text stands between `<!--` and `-->`.
+    /// Writes the text between `<!--` and `-->`.
     fn write_comment(&mut self, text: &str) -> Result<(), SerializeFault> {
         if self.failed {
             return Err(SerializeFault::Failed);
@@ -222,7 +219,7 @@ impl<Wr: Write + Drop> Serializer for HtmlSerializer<Wr> {
         Ok(())
     }
 
-    /// The name stands between `<!DOCTYPE ` and `>`.
+    /// Writes the name between `<!DOCTYPE ` and `>`.
     fn write_doctype(&mut self, name: &str) -> Result<(), SerializeFault> {
         if self.failed {
             return Err(SerializeFault::Failed);
@@ -233,7 +230,7 @@ impl<Wr: Write + Drop> Serializer for HtmlSerializer<Wr> {
         Ok(())
     }
 
-    /// The target, a space and the content stand between `<?` and `>`.
+    /// Writes the target, a space and the content between `<?` and `>`.
     fn write_processing_instruction(
         &mut self,
         target: &str,

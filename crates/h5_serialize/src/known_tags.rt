@@ -1,11 +1,11 @@
-//! The tags and the attributes of names that HTML knows, each written at once.
+//! The tags and attributes of known names. Each is written at once.
 ghost use Rattle.std.specs.Prelude.{◌≡◌, ◌<◌, ◌++◌, [], codes, get_or, length, map};
 ghost use Rattle.h5_names.specs.KnownNames.{name_text};
 ghost use Rattle.h5_serialize.specs.Writing.{both_tags};
 
 use h5_names::KnownName;
 
-// A start tag without attributes and an end tag, by the numbers of their names.
+// The start tag without attributes and the end tag of each known name, by its number.
 static TAGS: [&str; 221] = [
     "<a></a>",
     "<action></action>",
@@ -230,7 +230,7 @@ static TAGS: [&str; 221] = [
     "<></>",
 ];
 
-// What an attribute of no namespace begins with behind another, by the numbers of their names.
+// The start of an attribute without a namespace that follows another attribute, by the numbers of the names.
 static ATTRIBUTES: [&str; 221] = [
     "\" a=\"",
     "\" action=\"",
@@ -455,7 +455,7 @@ static ATTRIBUTES: [&str; 221] = [
     "\" =\"",
 ];
 
-// The text at this place of a table.
+// The entry of a table at an index.
 fn nth_tags(tags: &[&'static str], number: usize) -> &'static str
     requires { number < length tags.now }
     ensures { result.now ≡ get_or (map (λ text. text.now) tags.now) number [] }
@@ -463,42 +463,43 @@ fn nth_tags(tags: &[&'static str], number: usize) -> &'static str
     tags[number]
 }
 
-// Both tags.
+// Both tags of a known name.
 fn tags_of(known: KnownName) -> &'static str
     ensures { result.now ≡ both_tags (name_text known) }
 {
     nth_tags(&TAGS, known as usize)
 }
 
-/// What a start tag of this name begins with, up to its attributes.
+/// The start of a start tag with this name, before its attributes.
 pub fn start_of(known: KnownName) -> &'static [u8]
     ensures { result.now ≡ codes "<" ++ name_text known }
 {
     &tags_of(known).as_bytes()[..known.as_str().len() + 1]
 }
 
-/// The start tag of this name, without attributes.
+/// The start tag with this name, without attributes.
 pub fn whole_start_of(known: KnownName) -> &'static [u8]
     ensures { result.now ≡ codes "<" ++ name_text known ++ codes ">" }
 {
     &tags_of(known).as_bytes()[..known.as_str().len() + 2]
 }
 
-/// The end tag of this name.
+/// The end tag with this name.
 pub fn end_of(known: KnownName) -> &'static [u8]
     ensures { result.now ≡ codes "</" ++ name_text known ++ codes ">" }
 {
     &tags_of(known).as_bytes()[known.as_str().len() + 2..]
 }
 
-/// What an attribute of this name and of no namespace begins with behind another, whose value it closes, up to its value.
+/// The start of an attribute with this name and without a namespace, up to its value. It follows another attribute, and closes that one's
+/// value.
 pub fn next_attribute_of(known: KnownName) -> &'static [u8]
     ensures { result.now ≡ codes "\" " ++ name_text known ++ codes "=\"" }
 {
     nth_tags(&ATTRIBUTES, known as usize).as_bytes()
 }
 
-/// What an attribute of this name and of no namespace begins with, up to its value.
+/// The start of an attribute with this name and without a namespace, up to its value.
 pub fn attribute_of(known: KnownName) -> &'static [u8]
     ensures { result.now ≡ codes " " ++ name_text known ++ codes "=\"" }
 {

@@ -1,10 +1,15 @@
-//! Serializing: from calls that tell of a tree to its text (HTML standard, section 13.3, "Serializing
-//! HTML fragments").
+//! Serializing: from the calls of a tree's walk to its text (HTML standard, section 13.3, "Serializing HTML fragments").
 //!
-//! What can be written is [`Serialize`]: it makes six kinds of calls on a [`Serializer`]. The one that
-//! writes HTML is [`HtmlSerializer`], and [`serialize`] runs it over a node. A contract sees calls as
-//! data, and the text that is written for a list of them is a definition. [`Visit`] is a serializer in short, and
-//! [`escape_text`] and [`escape_value`] write a text alone.
+//! A value that is [`Serialize`] makes six kinds of calls on a [`Serializer`]. [`HtmlSerializer`] writes HTML, and [`serialize`] runs it
+//! over a node. Contracts see calls as data, and the text of a list of calls is a definition. [`Visit`] is a short form of a serializer;
+//! [`escape_text`] and [`escape_attribute`] escape a single text.
+//!
+//! `serializer`, `visit` and `attributes` have the traits, `html` the HTML serializer with its `openers` and `options`, `write` the
+//! function `serialize`. `tags`, `known_tags`, `escape` and `escaped` write tags and texts, `names` tests for void elements and for
+//! elements with unescaped text, `fault` has the errors, and `laws` the laws of escapes and walks.
+//!
+//! This crate depends on h5_names and h5_tables. Begin with `specs/Call.antt`, `specs/Writing.antt` (the text of a call),
+//! `specs/Standing.antt` (the state of the HTML serializer) and `specs/Walk.antt` (lists of calls).
 #![tactic(auto)]
 
 mod attributes;
@@ -23,10 +28,10 @@ mod visit;
 mod write;
 
 pub use attributes::AttrRef;
-pub use escaped::{escape_text, escape_value};
+pub use escaped::{escape_attribute, escape_text};
 pub use fault::SerializeFault;
 pub use html::HtmlSerializer;
 pub use options::{SerializeOpts, TraversalScope};
 pub use serializer::{Serialize, Serializer};
-pub use visit::{Visit, Visiting};
+pub use visit::{Visit, VisitSerializer};
 pub use write::serialize;

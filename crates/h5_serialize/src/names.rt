@@ -1,25 +1,25 @@
-//! Which elements are written in a way of their own.
+//! Elements with special serializations.
 ghost use Rattle.std.specs.Prelude.{◌≡◌};
 ghost use Rattle.h5_serialize.specs.Names.{is_html, is_void, is_raw_name};
 
 use h5_names::{KnownName, LocalName, QualName};
 use h5_tables::NameSet;
 
-/// Whether an element is an HTML element.
+/// Returns true for an HTML element.
 pub fn is_html(name: &QualName) -> bool
     ensures { result ≡ is_html name.now }
 {
     name.ns.is_html()
 }
 
-/// Whether an element is a void element.
+/// Returns true for a void element.
 pub fn is_void(name: &QualName) -> bool
     ensures { result ≡ is_void name.now }
 {
     is_html(name) && NameSet::Void.holds(&name.local)
 }
 
-/// Whether the text of an HTML element of this local name is written as it stands.
+/// Returns true if the text of an HTML element with this local name is written unescaped.
 pub fn is_raw_name(scripting_enabled: bool, local: &LocalName) -> bool
     ensures { result ≡ is_raw_name scripting_enabled local.now }
 {

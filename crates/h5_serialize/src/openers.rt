@@ -1,4 +1,4 @@
-//! What stands open.
+//! The open elements of a serializer.
 ghost use Rattle.std.specs.Prelude.{◌≡◌, ◌==◌, ◌||◌, ◌∷◌, [], OnOk, OnErr, IfOk, length};
 ghost use Rattle.h5_serialize.specs.Openers.{are_hidden, base_of, is_raw, plain, start_of, with_parent, without_last};
 
@@ -8,17 +8,17 @@ use h5_names::QualName;
 use std::alloc::{AllocError, Global};
 use std::marker::Model;
 
-/// What a call stands in. It keeps what is asked of it, and no name.
+/// The start tag of an open element, or the base entry. It has the flags that calls inside it need, and no name.
 #[derive(Clone, Copy, Debug)]
 pub struct Opener {
-    /// Whether it is the start of a void element, so that tags inside are left out.
+    /// True for a void element; tags inside it are omitted.
     pub is_void: bool,
-    /// Whether text right inside is written as it stands.
+    /// True if text directly inside is written unescaped.
     pub is_raw: bool,
 }
 
 impl Opener {
-    /// One of which nothing is asked, as what is made where no opener was left.
+    /// An opener without flags, as is made for a call without a parent.
     pub fn plain() -> Opener
         ensures { result ≡ plain }
     {
@@ -28,7 +28,7 @@ impl Opener {
         }
     }
 
-    /// The base entry of a scope, which counts as an HTML element of its local name.
+    /// The base entry of a scope: it counts as an HTML element with the scope's local name.
     pub fn base(scripting_enabled: bool, traversal_scope: &TraversalScope) -> Opener
         ensures { result ≡ base_of scripting_enabled traversal_scope.now }
     {
@@ -41,7 +41,7 @@ impl Opener {
         }
     }
 
-    /// The start of an element of this name.
+    /// The start tag of an element with this name.
     pub fn start(scripting_enabled: bool, name: &QualName) -> Opener
         ensures { result ≡ start_of scripting_enabled name.now }
     {
@@ -52,24 +52,24 @@ impl Opener {
     }
 }
 
-// Whether tags inside are left out, which may be so around it already.
+// Returns true if tags inside are omitted: the opener is void, or tags around it are omitted already.
 fn is_hidden_inside(opener: Opener, around: bool) -> bool
     ensures { result ≡ opener.is_void || around }
 {
     opener.is_void || around
 }
 
-/// An opener, and whether it or one around it is the start of a void element.
+/// An opener, and whether it or one around it is a void element.
 #[derive(Clone, Copy, Debug)]
 pub struct Entry {
     opener: Opener,
     is_hidden: bool,
 }
 
-/// The openers that no end has closed.
+/// The openers that no end tag has closed.
 #[derive(Debug, Drop)]
 pub struct Openers {
-    // The innermost one last.
+    // Innermost last.
     entries: Vec<Entry>,
 }
 
@@ -88,7 +88,7 @@ impl Model for Openers {
 }
 
 impl Openers {
-    /// One opener alone, or an `AllocError` where memory is refused.
+    /// Returns this opener alone. Fails with `AllocError` if an allocation fails.
     pub fn new(alloc: Global, base: Opener) -> Result<Openers, AllocError>
         ensures { IfOk result (λ openers. openers ≡ base ∷ []) }
     {
@@ -99,14 +99,14 @@ impl Openers {
         Ok(openers)
     }
 
-    /// Whether none is left.
+    /// Returns true if there is no opener.
     pub fn is_empty(&self) -> bool
         ensures { result ≡ (length self.now == 0) }
     {
         self.entries.is_empty()
     }
 
-    /// Whether some opener is the start of a void element.
+    /// Returns true if some opener is a void element.
     pub fn are_hidden(&self) -> bool
         ensures { result ≡ are_hidden self.now }
     {
@@ -116,7 +116,7 @@ impl Openers {
         }
     }
 
-    /// Whether text right inside the innermost opener is written as it stands.
+    /// Returns true if text directly inside the innermost opener is written unescaped.
     pub fn is_raw(&self) -> bool
         ensures { result ≡ is_raw self.now }
     {
@@ -126,7 +126,7 @@ impl Openers {
         }
     }
 
-    /// One more, innermost. Where memory is refused nothing changes.
+    /// Adds an innermost opener. Changes nothing if an allocation fails.
     #[inline(always)]
     pub fn push(&mut self, opener: Opener) -> Result<(), AllocError>
         ensures ok { OnOk result (self.new ≡ opener ∷ self.old) }
@@ -137,7 +137,7 @@ impl Openers {
         Ok(())
     }
 
-    /// A missing one where none is left. Where memory is refused nothing changes.
+    /// Adds an opener without flags if there is none. Changes nothing if an allocation fails.
     pub fn find_parent(&mut self) -> Result<(), AllocError>
         ensures ok { OnOk result (self.new ≡ with_parent self.old) }
         ensures err { OnErr result (self.new ≡ self.old) }
@@ -148,7 +148,7 @@ impl Openers {
         Ok(())
     }
 
-    /// All but the innermost.
+    /// Removes the innermost opener, if any.
     #[inline(always)]
     pub fn pop(&mut self)
         ensures { self.new ≡ without_last self.old }

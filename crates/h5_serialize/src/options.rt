@@ -1,21 +1,20 @@
-//! What is written of a node, and how.
+//! The options of a serializer.
 ghost use Rattle.std.specs.Prelude.{◌≡◌, IfOk};
 
 use h5_names::QualName;
 use std::alloc::AllocError;
 
-/// Which part of a node is written.
+/// The part of a node to write.
 #[derive(Debug, Drop, PartialEq, Eq)]
 pub enum TraversalScope {
-    /// The node itself and what it holds.
+    /// The node itself, with its content.
     IncludeNode,
-    /// Only what it holds. With a name, texts right inside are written as in an HTML element of that
-    /// local name.
+    /// Only the content of the node. With a name, text directly inside is written as in an HTML element with that local name.
     ChildrenOnly(Option<QualName>),
 }
 
 impl TraversalScope {
-    /// An equal scope, or an `AllocError` where memory is refused.
+    /// Returns an equal scope. Fails with `AllocError` if an allocation fails.
     pub fn clone(&self) -> Result<TraversalScope, AllocError>
         ensures { IfOk result (λ scope. scope ≡ self.now) }
     {
@@ -29,19 +28,19 @@ impl TraversalScope {
     }
 }
 
-/// How a node is written.
+/// The options of a serializer.
 #[derive(Debug, Drop, PartialEq, Eq)]
 pub struct SerializeOpts {
-    /// Whether the text of a `noscript` is written as it stands.
+    /// True if the text of a `noscript` is written unescaped.
     pub scripting_enabled: bool,
     pub traversal_scope: TraversalScope,
-    /// Whether a start tag, an end tag or a text that comes where no parent is left gets one. Otherwise
-    /// it is refused as [`SerializeFault::NoParent`](crate::SerializeFault::NoParent).
+    /// True if a start tag, an end tag or a text without a parent gets one. If false, the call fails with
+    /// [`SerializeFault::NoParent`](crate::SerializeFault::NoParent).
     pub create_missing_parent: bool,
 }
 
 impl SerializeOpts {
-    /// Equal options, or an `AllocError` where memory is refused.
+    /// Returns equal options. Fails with `AllocError` if an allocation fails.
     pub fn clone(&self) -> Result<SerializeOpts, AllocError>
         ensures { IfOk result (λ opts. opts ≡ self.now) }
     {
@@ -63,7 +62,7 @@ impl Default for SerializeOpts {
       create_missing_parent = false;
     } };
 
-    /// With scripting, the children alone, and no parent made.
+    /// With scripting, only the children, and without making parents.
     fn default() -> SerializeOpts {
         SerializeOpts {
             scripting_enabled: true,

@@ -1,4 +1,4 @@
-//! What takes the calls that tell of a tree, and what makes them.
+//! The traits of serializers and of what they write.
 ghost use Rattle.std.specs.Prelude.{ℕ, List, [], ◌∷◌, Option, Result};
 ghost use Rattle.std.specs.Iterator.{Drains, IsFinite};
 ghost use Rattle.h5_serialize.specs.Call.{Call, EndOf, TextOf, CommentOf, DoctypeOf, InstructionOf};
@@ -11,35 +11,33 @@ use super::fault::SerializeFault;
 use super::options::TraversalScope;
 use h5_names::QualName;
 
-/// A taker of the calls that tell of a tree in its order (HTML standard, section 13.3, "Serializing HTML
-/// fragments").
+/// A serializer: it receives the calls of a tree's walk, in tree order (HTML standard, section 13.3, "Serializing HTML fragments").
 ///
-/// Unless a call meets want of memory or a failing writer, what it answers, what the serializer means
-/// afterwards and what it writes are functions of the meaning before and of the call.
+/// Unless an allocation or a writer fails in a call, the result, the serializer's meaning after the call, and the text written are
+/// functions of the meaning before the call and of the call.
 pub trait Serializer {
-    // All of it that its answers depend on.
+    // Everything that the results depend on.
     ghost Meaning: { Type 0 };
 
     ghost meaning: { Self → Meaning };
 
-    // What it has written, where that is known.
+    // The text written so far, if it is known.
     ghost contents: { Self → Option (List ℕ) };
 
-    // What it answers to a call, unless memory or a writer fails.
+    // The result of a call, unless an allocation or a writer fails.
     ghost answer: { Meaning → Call → Result (Unit {0}) SerializeFault };
 
-    // What it means after a call, unless memory or a writer fails.
+    // The meaning after a call, unless an allocation or a writer fails.
     ghost after: { Meaning → Call → Meaning };
 
-    // What it writes for a call, unless memory or a writer fails.
+    // The text written for a call, unless an allocation or a writer fails.
     ghost writes: { Meaning → Call → List ℕ };
 
-    // What a call may leave in which memory or a writer failed: the meaning and the text before it, the
-    // call, its fault, and the meaning and the text after it.
+    // The relation for a call in which an allocation or a writer failed: the meaning and the text before it, the call, its error, and the
+    // meaning and the text after it.
     ghost breaks: { Meaning → Option (List ℕ) → Call → SerializeFault → Meaning → Option (List ℕ) → Type 0 };
 
-    /// The start of an element with these attributes. They need not all be read where the outcome does not
-    /// depend on them.
+    /// The start of an element with these attributes. Not all of them need be read if the outcome doesn't depend on them.
     fn start_elem<T: AttrRef, I: Iterator<Item = T> + Drop>(
         &mut self,
         name: QualName,
@@ -55,8 +53,8 @@ pub trait Serializer {
         ensures { Makes answer after writes breaks (EndOf name)
             (meaning self.old) (contents self.old) result (meaning self.new) (contents self.new) };
 
-    /// The start of an element whose name is lent. Where the name is copied for `start_elem`, and there is no memory for
-    /// that, the answer is `Memory`, and nothing changes.
+    /// The start of an element with a borrowed name. The default copies the name for `start_elem`; if this allocation fails, it returns
+    /// `Memory` and changes nothing.
     fn start_elem_ref<T: AttrRef, I: Iterator<Item = T> + Drop>(
         &mut self,
         name: &QualName,
@@ -70,7 +68,7 @@ pub trait Serializer {
         self.start_elem(name.clone()?, attrs)
     }
 
-    /// The end of an element whose name is lent, with the promise of `start_elem_ref`.
+    /// The end of an element with a borrowed name. The default copies the name, as in `start_elem_ref`.
     fn end_elem_ref(&mut self, name: &QualName) -> Result<(), SerializeFault>
         ensures { Walks answer after writes breaks (EndOf name.now ∷ [])
             (meaning self.old) (contents self.old) result (meaning self.new) (contents self.new) }
@@ -103,13 +101,13 @@ pub trait Serializer {
             (meaning self.old) (contents self.old) result (meaning self.new) (contents self.new) };
 }
 
-/// What can be written by a serializer.
+/// A value that a serializer can write.
 pub trait Serialize {
-    // The calls that tell of it.
+    // The calls of the walk.
     ghost walk: { Self → TraversalScope → List Call };
 
-    /// Makes the calls of the walk, in order, up to the first fault, which it answers. Where it finds no
-    /// memory of its own it answers `Memory`, and the serializer is as after the calls made.
+    /// Makes the calls of the walk, in order. Fails with the error of the first call that fails, and makes no call after that. Fails with
+    /// `Memory` if an allocation of its own fails; the serializer is then as after the calls made.
     fn serialize<S: Serializer>(
         &self,
         serializer: &mut S,

@@ -1,4 +1,4 @@
-//! Writing tags.
+//! Writes tags.
 ghost use Rattle.std.specs.Prelude.{◌≡◌, ◌≢◌, [], ◌++◌, List, codes, map, OnOk, OnErr, IsErr, IsOkUnless, ◌∷◌};
 ghost use Rattle.std.specs.Io.KnownBytes.{Keeps};
 ghost use Rattle.std.specs.Iterator.{Drains, IsFinite};
@@ -15,7 +15,7 @@ use super::known_tags::{attribute_of, end_of, next_attribute_of, start_of, whole
 use h5_names::{KnownName, LocalName, QualName, namespaces};
 use std::io::Write;
 
-// What stands before the local name of an attribute: a space, and then a prefix.
+// A space and the prefix of an attribute: the text before its local name.
 fn prefix_of(name: &QualName) -> &'static str
     ensures { result.now ≡ codes " " ++ attribute_prefix name.now }
 {
@@ -34,7 +34,7 @@ fn prefix_of(name: &QualName) -> &'static str
     }
 }
 
-// The name that HTML knows of an attribute of no namespace, or `Other`.
+// The known name of an attribute without a namespace, or `Other`.
 fn known_of(name: &QualName) -> KnownName
     ensures { result ≢ KnownName.Other → (attribute_prefix name.now ≡ []) × (name_text result ≡ name.now.local) }
 {
@@ -45,7 +45,7 @@ fn known_of(name: &QualName) -> KnownName
     }
 }
 
-// Writes what an attribute begins with, up to its value.
+// Writes the start of an attribute, up to its value.
 fn write_front<Wr: Write>(writer: &mut Wr, name: &QualName) -> Result<(), SerializeFault>
     ensures text { Writes result (Wr.contents writer.old) (Wr.contents writer.new) (attribute_front name.now) }
     ensures fault { IsOkUnless result SerializeFault.Write }
@@ -56,7 +56,7 @@ fn write_front<Wr: Write>(writer: &mut Wr, name: &QualName) -> Result<(), Serial
     }
 }
 
-// The same behind another attribute, whose value it closes.
+// Writes the start of an attribute that follows another one, and closes that one's value.
 fn write_next_front<Wr: Write>(writer: &mut Wr, name: &QualName) -> Result<(), SerializeFault>
     ensures text { Writes result (Wr.contents writer.old) (Wr.contents writer.new) (codes "\"" ++ attribute_front name.now) }
     ensures fault { IsOkUnless result SerializeFault.Write }
@@ -70,7 +70,7 @@ fn write_next_front<Wr: Write>(writer: &mut Wr, name: &QualName) -> Result<(), S
     }
 }
 
-// Writes an attribute after a space, up to the end of its value.
+// Writes an attribute after a space, without its closing quote.
 fn write_first<Wr: Write>(
     writer: &mut Wr,
     name: &QualName,
@@ -84,7 +84,7 @@ fn write_first<Wr: Write>(
     write_escaped(writer, value, true)
 }
 
-// The same behind another attribute, whose value it closes.
+// Writes an attribute that follows another one, and closes that one's value; without its own closing quote.
 fn write_next<Wr: Write>(
     writer: &mut Wr,
     name: &QualName,
@@ -98,7 +98,7 @@ fn write_next<Wr: Write>(
     write_escaped(writer, value, true)
 }
 
-// Goes on with an attribute behind another, unless what came before it met a fault.
+// Writes an attribute that follows another one, unless an error came before.
 fn write_further<Wr: Write, T: AttrRef>(
     writer: &mut Wr,
     begun: Result<(), SerializeFault>,
@@ -114,7 +114,7 @@ fn write_further<Wr: Write, T: AttrRef>(
     write_next(writer, attr.name(), attr.value())
 }
 
-// Writes what a start tag of this local name begins with.
+// Writes the start of a start tag with this local name.
 fn write_start<Wr: Write>(writer: &mut Wr, name: &LocalName) -> Result<(), SerializeFault>
     ensures text { Writes result (Wr.contents writer.old) (Wr.contents writer.new) (codes "<" ++ name.now) }
     ensures fault { IsOkUnless result SerializeFault.Write }
@@ -125,7 +125,7 @@ fn write_start<Wr: Write>(writer: &mut Wr, name: &LocalName) -> Result<(), Seria
     }
 }
 
-// Writes a start tag of this local name, without attributes.
+// Writes a start tag with this local name, without attributes.
 fn write_whole_start<Wr: Write>(writer: &mut Wr, name: &LocalName) -> Result<(), SerializeFault>
     ensures text { Writes result (Wr.contents writer.old) (Wr.contents writer.new)
         (codes "<" ++ name.now ++ codes ">") }
@@ -137,7 +137,7 @@ fn write_whole_start<Wr: Write>(writer: &mut Wr, name: &LocalName) -> Result<(),
     }
 }
 
-// Writes what a start tag of this local name begins with, up to the end of its first attribute's value.
+// Writes the start of a start tag with this local name, and its first attribute, without the closing quote.
 fn write_begun<Wr: Write, T: AttrRef>(
     writer: &mut Wr,
     name: &LocalName,
@@ -151,8 +151,8 @@ fn write_begun<Wr: Write, T: AttrRef>(
     write_first(writer, first.name(), first.value())
 }
 
-// Writes what a start tag of this local name begins with, and its attributes, which are the first and those that an iterator
-// gives, up to the end of the last one's value. All of them are read, also behind a fault.
+// Writes the start of a start tag with this local name, and its attributes: the first one and those of an iterator, without the last
+// closing quote. Reads all of them, also after an error.
 fn write_open<Wr: Write, T: AttrRef, I: Iterator<Item = T> + Drop>(
     writer: &mut Wr,
     name: &LocalName,
@@ -173,8 +173,8 @@ fn write_open<Wr: Write, T: AttrRef, I: Iterator<Item = T> + Drop>(
     result
 }
 
-/// Writes a start tag with the attributes that an iterator gives. The fault is `Write`, where the writer
-/// fails; it has taken a front of the tag then, and all attributes are read.
+/// Writes a start tag with the attributes of an iterator. Fails with `Write` if the writer fails; then a prefix of the tag has been
+/// written, and all attributes are read.
 pub fn write_start_tag<Wr: Write, T: AttrRef, I: Iterator<Item = T> + Drop>(
     writer: &mut Wr,
     name: &QualName,
@@ -196,7 +196,7 @@ pub fn write_start_tag<Wr: Write, T: AttrRef, I: Iterator<Item = T> + Drop>(
     }
 }
 
-/// Writes an end tag. The fault is `Write`, where the writer fails; it has taken a front of the tag then.
+/// Writes an end tag. Fails with `Write` if the writer fails; then a prefix of the tag has been written.
 pub fn write_end_tag<Wr: Write>(writer: &mut Wr, name: &QualName) -> Result<(), SerializeFault>
     ensures text { Writes result (Wr.contents writer.old) (Wr.contents writer.new) (end_tag name.now) }
     ensures fault { IsOkUnless result SerializeFault.Write }

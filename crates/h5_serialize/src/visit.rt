@@ -1,4 +1,4 @@
-//! A serializer in short: what is told of elements and texts alone.
+//! A short form of a serializer, for elements and texts only.
 ghost use Rattle.std.specs.Iterator.{IsFinite};
 
 use super::attributes::AttrRef;
@@ -7,8 +7,8 @@ use super::serializer::Serializer;
 use h5_names::QualName;
 use std::alloc::AllocError;
 
-/// What is told of the elements and texts of a tree, in its order. Each call does nothing, unless it has a body of its own; its only
-/// error is an `AllocError`, which ends the walk as `SerializeFault::Memory`. [`Visiting`] makes a serializer of it.
+/// Receives the elements and texts of a tree, in tree order. Each method does nothing unless it is overridden. Its only error is
+/// `AllocError`, which ends the walk as `SerializeFault::Memory`. [`VisitSerializer`] makes a serializer of it.
 pub trait Visit {
     /// The start of an element with these attributes.
     fn start<T: AttrRef, I: Iterator<Item = T> + Drop>(
@@ -33,14 +33,14 @@ pub trait Visit {
     }
 }
 
-/// The serializer that tells a visitor of elements and texts, and passes comments, doctypes and processing instructions over. A contract
-/// sees nothing of the visitor: where one is to say what was told, write a [`Serializer`].
+/// A serializer that passes elements and texts to a visitor, and skips comments, doctypes and processing instructions. Contracts see
+/// nothing of the visitor; if they have to, write a [`Serializer`].
 #[derive(Drop)]
-pub struct Visiting<V: Visit + Drop> {
+pub struct VisitSerializer<V: Visit + Drop> {
     pub visitor: V,
 }
 
-impl<V: Visit + Drop> Serializer for Visiting<V> {
+impl<V: Visit + Drop> Serializer for VisitSerializer<V> {
     ghost use Rattle.std.specs.Prelude.{[], None, Ok};
 
     ghost Meaning = { Unit {0} };

@@ -1,4 +1,4 @@
-//! Writing a node.
+//! Writes a node.
 ghost use Rattle.std.specs.Prelude.{◌≡◌, ◌≢◌, true, false, Err, IfOk, OnOk, IsErrOf};
 ghost use Rattle.std.specs.Io.KnownBytes.{Appends};
 ghost use Rattle.h5_serialize.specs.Standing.{new_standing, walk_text, has_orphan};
@@ -10,11 +10,10 @@ use super::serializer::Serialize;
 use std::alloc::Global;
 use std::io::Write;
 
-/// Writes a node as HTML, and gives the writer back (HTML standard, section 13.3, "Serializing HTML
-/// fragments").
+/// Writes a node as HTML, and returns the writer (HTML standard, section 13.3, "Serializing HTML fragments").
 ///
-/// The fault is `NoParent`, where a start, an end or a text of the walk has no parent and none is made,
-/// `Memory`, where memory is refused, and `Write`, where the writer fails. The writer is dropped then.
+/// Fails with `NoParent` if a start tag, an end tag or a text of the walk has no parent and none is made, with `Memory` if an allocation
+/// fails, and with `Write` if the writer fails. The writer is dropped then.
 pub fn serialize<Wr: Write + Drop, T: Serialize>(
     alloc: Global,
     writer: Wr,

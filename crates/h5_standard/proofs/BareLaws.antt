@@ -1,4 +1,4 @@
--- The rows over a tag that is nothing but its name hand that tag on.
+-- The rows over a tag with only a name emit that tag.
 use Rattle.std.specs.Borrow.{Bor}
 use Rattle.std.proofs.Common.{◌≡◌, ℕ, zero, suc, ◌-◌, ◌^◌, ◌<◌, ◌≤◌, Bool, true, false, ◌==◌, List, [], ◌∷◌, ◌++◌, length, map, take, drop, slice_index, refl, sym, ap, ◌∙◌, subst, arith, length-drop, if◌then◌else◌, Result, Ok, Err, Option, Some, None}
 use Rattle.std.proofs.lemmas.Bool.Decides.{nat_tests}
@@ -34,7 +34,7 @@ use Rattle.h5_standard.proofs.OpeningLaws.{in_tag, never, outcome_at, passes_nam
 use Rattle.h5_standard.proofs.TakeLaws.{turns}
 use Rattle.h5_standard.proofs.WeightLaws.{shorter_is_less}
 
--- what is known of a byte of the name
+-- properties of a byte of the name
 record NameByte (x : ℕ) : Type 0 where
   high : 13 < x
   passed : is_in NameEnd x ≡ false
@@ -69,7 +69,7 @@ end_row x h = rw h refl
 opens_end : (p : ReaderPlace) (x : ℕ) → 13 < x → is_ascii_alphabetic x ≡ true → outcome references (record p { state = EndTagOpen; after_return = false }) x ≡ Reconsumed [] (TagName (new_tag EndTag []))
 opens_end p x high h = ap (λ (c : Bool). (turn references p.last EndTagOpen (if c then 10 else x)).outcome) (no_return x high) ∙ end_row x h
 
--- the whole tag but its end is passed
+-- the whole tag except its end is passed
 passes_start : (p : ReaderPlace) (name rest : List ℕ) → p.state ≡ Text Data → p.line ≤ 2 ^ 64 - 1 → 0 < length name → AreNameBytes name → is_ascii_alphabetic (slice_index name 0) ≡ true
     → Passes references p (60 ∷ (name ++ 62 ∷ rest)) [] (in_tag p StartTag name) (62 ∷ rest)
 passes_start p name rest e fits some h letter = passes_opening p name (62 ∷ rest) e fits some (in_name name h) letter
@@ -82,7 +82,7 @@ passes_end p (x ∷ name) rest e fits some h letter =
     (goes [] EndTagOpen refl refl
     (again [] (TagName (new_tag EndTag [])) refl (opens_end p x h.0.high letter) (passes_name p EndTag (x ∷ name) (62 ∷ rest) some (in_name (x ∷ name) h) fits)))
 
--- where the parts of such a tag stand
+-- the positions of such a tag's parts
 split_at : (xs : List ℕ) (n x : ℕ) → n < length xs → slice_index xs n ≡ x → xs ≡ take n xs ++ x ∷ drop 1 (drop n xs)
 split_at [] n x lt e = absurd (omega arith)
 split_at (y ∷ xs) zero x lt e = ap (λ z. z ∷ xs) e
@@ -143,19 +143,19 @@ made_bare kind xs inner name rest h = ap (λ l. token_of (new_tag kind l)) (sym 
 name_of_bare : (xs : List ℕ) (kind : TagKind) (name rest : List ℕ) → IsBareTag xs kind name rest → AreNameBytes name
 name_of_bare xs kind name rest t = (parted t.inner name rest t.bare).bytes
 
--- where the machine is behind it
+-- the machine's place after the tag
 place_behind : (m n : MachineText) → m.at ≡ at.Text (text_state.Text Data) → n ≡ record m { after_return = false; began = m.line } → (kind : TagKind) (name : List ℕ)
     → behind 62 (Text Data) (in_tag (place_of m) kind name) ≡ place_of n
 place_behind m n e f kind name = rw (f, e) refl
 
--- behind such a tag there is less to do
+-- after such a tag less is left to do
 pub bare_less : {H : Type 0} (p q : ReaderPlace) (xs : List ℕ) (kind : TagKind) (name : List ℕ) (behind_it : Bor (List ℕ)) (stopped : Option (Stop H)) → IsBareTag xs kind name behind_it.now
     → IsLess p xs q (Ok (progress_of stopped behind_it))
 bare_less p q xs kind name behind_it None h = shorter_is_less p q xs behind_it.now (bare_shorter xs kind name behind_it.now h)
 bare_less p q xs kind name behind_it (Some s) h = tt
 
 module _ {M : Type 0} (reply_to : M → TokenText → Reply) (after : M → TokenText → ℕ → M) (foreign : M → Bool) where
-  -- where the answer to such a tag leads
+  -- the effect of the reply to such a tag
   bare_leads : {H : Type 0} (node : H → ℕ) (p : ReaderPlace) (k : M) (xs : List ℕ) (held : ℕ) (m n : MachineText) (l o : M) (q : ReaderPlace) (rest name behind_it : List ℕ) (kind : TagKind) (token : TokenText) (line : ℕ) (result : Result (Option (Stop H)) BuildFault)
       → m.at ≡ at.Text (text_state.Text Data) → m.line ≤ 2 ^ 64 - 1 → IsBareTag rest kind name behind_it → n ≡ record m { after_return = false; began = m.line } → token ≡ bare_tag kind name → line ≡ m.began
       → Holds reply_to after foreign p k xs [] held (place_of m) l rest → HandsOn reply_to after node (place_of n) l token line q o result → Leads reply_to after foreign node p k xs q behind_it o result
@@ -169,7 +169,7 @@ module _ {M : Type 0} (reply_to : M → TokenText → Reply) (after : M → Toke
       (subst (λ t. HandsOn reply_to after node (place_of n) l t m.began q o result) same
       (subst (λ i. HandsOn reply_to after node (place_of n) l token i q o result) told e)))
 
-  -- the text that is held is none
+  -- no text is held
   held_none : (p : ReaderPlace) (k : M) (xs text : List ℕ) (held : ℕ) (q : ReaderPlace) (l : M) (rest : List ℕ) → text ≡ [] → Holds reply_to after foreign p k xs text held q l rest → Holds reply_to after foreign p k xs [] held q l rest
   held_none p k xs text held q l rest e h = subst (λ t. Holds reply_to after foreign p k xs t held q l rest) e h
 

@@ -1,4 +1,4 @@
--- The bytes of a character past ASCII.
+-- The bytes of a character outside ASCII.
 use Rattle.std.proofs.Common.{◌≡◌, ℕ, ◌+◌, ◌/◌, ◌%◌, ◌<◌, ◌≤◌, Bool, true, false, List, [], ◌∷◌, ◌++◌, refl, ap, arith, cond, drop, length, length-append, ltb, sym, take, ◌&&◌, ◌∙◌}
 use Rattle.std.proofs.lemmas.Bool.{and_from, le-leb, ltb-true}
 use Rattle.std.proofs.lemmas.Grind.{common_steps}
@@ -8,7 +8,7 @@ use Rattle.std.specs.Prelude.{nat_le}
 use Rattle.std.specs.List.{list_all}
 use Rattle.h5_states.specs.Spots.{is_inside}
 
--- the first is this one, and the others stand inside the character
+-- the first is this one, and the others are inside the character
 pub record WideCharacter (bytes : List ℕ) (b : ℕ) : Type 0 where
   pub others : List ℕ
   pub split : bytes ≡ b ∷ others
@@ -49,7 +49,7 @@ pub encoded_wide : (c b : ℕ) (behind tail : List ℕ) → encode_utf8 c ++ beh
 unfolding encode_utf8
 encoded_wide c b behind tail e low = wide_by (ltb c 128) (ltb c 2048) (ltb c 65536) c b behind tail (ltb-true c 128) e low
 
--- the bytes of the character at the front, and what follows them
+-- the bytes of the first character, and what follows them
 front_of : (xs ys : List ℕ) → take (length xs) (xs ++ ys) ≡ xs
 front_of xs ys = grind (arith, common_steps)
 

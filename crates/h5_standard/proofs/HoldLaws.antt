@@ -1,4 +1,4 @@
--- A text that is held grows, and is handed on.
+-- A held text grows, and is passed to the sink.
 use Rattle.std.proofs.Common.{◌≡◌, ℕ, Bool, false, List, [], ◌∷◌, ◌++◌, refl, sym, subst, if◌then◌else◌, Result, Ok, Err, Option, Some, None}
 use Rattle.h5_token.specs.TokenText.{TokenText, Characters}
 use Rattle.h5_token.specs.Reply.{Reply, Continues, Refuses}
@@ -14,46 +14,46 @@ use Rattle.h5_states.proofs.ReadLaws.{passes_join}
 use Rattle.h5_standard.specs.Steps.{Stopped, ReadsOn, Holds, RefusedAt, HandsOn, Leads}
 
 module _ {M : Type 0} (reply_to : M → TokenText → Reply) (after : M → TokenText → ℕ → M) (foreign : M → Bool) where
-  -- a reading, and a step behind it
+  -- a reading, and a step after it
   step_more : {p q r : ReaderPlace} {m n o : M} {xs ys zs : List ℕ} {us : List TokenText} {reply : Reply} → ReadsOn reply_to after foreign p m xs q n ys
       → Step references reply_to after foreign q n ys us reply r o zs → Stopped reply_to after foreign p m xs reply r o zs
   step_more {us} h step = record { tokens = h.stopped.tokens ++ us; read = read_on h.stopped.read h.goes_on step }
 
-  -- where reading goes on no text is held
+  -- if reading goes on, no text is held
   pub holds_none : {p q : ReaderPlace} {m n : M} {xs ys : List ℕ} → ReadsOn reply_to after foreign p m xs q n ys → Holds reply_to after foreign p m xs [] q.began q n ys
   holds_none {q} {ys} h = record { place = q; rest = ys; reads = h; passes = passed; began = refl }
 
   pub nothing_is_read : (p : ReaderPlace) (m : M) (xs : List ℕ) → ReadsOn reply_to after foreign p m xs p m xs
   nothing_is_read p m xs = record { reply = Continues; goes_on = refl; stopped = record { tokens = []; read = nothing_read } }
 
-  -- more is passed, and what it emits is held, too
+  -- more is passed, and what it emits is also held
   pub holds_more : {p q r : ReaderPlace} {m n : M} {xs ys zs text more : List ℕ} {line : ℕ} → Holds reply_to after foreign p m xs text line q n ys
       → Passes references q ys more r zs → Holds reply_to after foreign p m xs (text ++ more) line r n zs
   holds_more h passes = record { place = h.place; rest = h.rest; reads = h.reads; passes = passes_join references h.passes passes; began = h.began }
 
-  -- the text is handed on
+  -- the text is passed to the sink
   pub text_is_handed_on : {p q : ReaderPlace} {m n : M} {xs ys text : List ℕ} {x line : ℕ} → Holds reply_to after foreign p m xs (x ∷ text) line q n ys
       → Stopped reply_to after foreign p m xs (reply_to n (Characters (x ∷ text))) q (after n (Characters (x ∷ text)) line) ys
   text_is_handed_on h = rw h.began (step_more h.reads (text_step h.passes))
 
-  -- there is none
+  -- no text is held
   pub no_text_is_handed_on : {p q : ReaderPlace} {m n : M} {xs ys : List ℕ} {line : ℕ} → Holds reply_to after foreign p m xs [] line q n ys
       → ReadsOn reply_to after foreign p m xs q n ys
   no_text_is_handed_on h = record { reply = Continues; goes_on = refl; stopped = step_more h.reads (quiet_step h.passes) }
 
-  -- a token is handed on
+  -- a token is passed to the sink
   pub token_is_handed_on : {p q : ReaderPlace} {m n : M} {xs ys : List ℕ} {x : ℕ} {token : TokenText} {state : State} → ReadsOn reply_to after foreign p m xs q n (x ∷ ys)
       → is_dropped q x ≡ false → outcome references q x ≡ Emitted token state
       → Stopped reply_to after foreign p m xs (reply_to n token) (after_token token (reply_to n token) (behind x state q)) (after n token q.began) ys
   token_is_handed_on {token} {state} h d e = step_more h (token_step token state d e)
 
-  -- the adjusted current node is asked for
+  -- the adjusted current node is checked
   pub node_is_asked_for : {p q : ReaderPlace} {m n : M} {xs ys : List ℕ} {x : ℕ} {there elsewhere : State} {error : ParseError} → ReadsOn reply_to after foreign p m xs q n (x ∷ ys)
       → is_dropped q x ≡ false → outcome references q x ≡ Asks there error elsewhere
       → ReadsOn reply_to after foreign p m xs (behind x (if foreign n then there else elsewhere) q) n ys
   node_is_asked_for {there} {elsewhere} {error} h d e = record { reply = Continues; goes_on = refl; stopped = step_more h (ask_step there error elsewhere d e) }
 
-  -- what the answer was, and where reading is and what the sink is then, in other words
+  -- the reply, the place, and the sink's meaning afterwards, in other words
   pub in_other_words : {p q r : ReaderPlace} {m k l : M} {xs ys : List ℕ} {reply other : Reply} → reply ≡ other → q ≡ r → k ≡ l
       → Stopped reply_to after foreign p m xs reply r l ys → Stopped reply_to after foreign p m xs other q k ys
   in_other_words {p} {q} {r} {m} {k} {l} {xs} {ys} {reply} {other} e f g h =
@@ -61,7 +61,7 @@ module _ {M : Type 0} (reply_to : M → TokenText → Reply) (after : M → Toke
       (subst (λ t. Stopped reply_to after foreign p m xs other t l ys) (sym f)
       (subst (λ a. Stopped reply_to after foreign p m xs a r l ys) e h))
 
-  -- the sink refused what was handed on
+  -- the sink refused what was passed to it
   pub was_refused : {p q : ReaderPlace} {m k l : M} {xs ys : List ℕ} {reply : Reply} (f : BuildFault) → (reply ≡ Refuses f) × (k ≡ l)
       → Stopped reply_to after foreign p m xs reply q l ys → RefusedAt reply_to after foreign p m xs f k
   was_refused {q} {ys} f h stopped = record { place = q; rest = ys; stopped = in_other_words h.0 refl h.1 stopped }
@@ -70,7 +70,7 @@ module _ {M : Type 0} (reply_to : M → TokenText → Reply) (after : M → Toke
       → ReadsOn reply_to after foreign p m xs q n ys
   empty_is_handed_on {p} {q} {m} {n} {xs} {ys} {line} e h = no_text_is_handed_on (subst (λ t. Holds reply_to after foreign p m xs t line q n ys) e h)
 
-  -- where the answer to a token leads, from a place
+  -- the effect of the reply to a token, from a place
   pub leads : {H : Type 0} (node : H → ℕ) {p : ReaderPlace} {m n : M} {xs ys : List ℕ} {token : TokenText} {line : ℕ} (r q : ReaderPlace) (k : M) (result : Result (Option (Stop H)) BuildFault)
       → Stopped reply_to after foreign p m xs (reply_to n token) (after_token token (reply_to n token) r) (after n token line) ys
       → HandsOn reply_to after node r n token line q k result → Leads reply_to after foreign node p m xs q ys k result
@@ -81,7 +81,7 @@ module _ {M : Type 0} (reply_to : M → TokenText → Reply) (after : M → Toke
   leads node r q k (Err fault.NotInText) h e = was_refused fault.NotInText e h
   leads node r q k (Err fault.Failed) h e = was_refused fault.Failed e h
 
-  -- where handing on the text leads
+  -- the effect of passing the text to the sink
   pub text_leads : {H : Type 0} (node : H → ℕ) {p q : ReaderPlace} {m n : M} {xs ys : List ℕ} {line : ℕ} (text : List ℕ) (k : M) (result : Result (Option (Stop H)) BuildFault)
       → (text ≡ [] → ⊥) → Holds reply_to after foreign p m xs text line q n ys → HandsOn reply_to after node q n (Characters text) line q k result
       → Leads reply_to after foreign node p m xs q ys k result

@@ -1,4 +1,4 @@
--- What is left of an input is its end.
+-- What is left of an input is a suffix of it.
 use Rattle.std.proofs.Common.{◌≡◌, ◌-◌, ◌≤◌, ℕ, Bool, true, false, List, [], ◌∷◌, ◌++◌, length, drop, refl, sym, subst, ap, ◌∙◌, arith, append_assoc, IsUtf8}
 use Rattle.std.proofs.lemmas.Grind.{common_steps}
 use Rattle.std.proofs.lemmas.Str.{IsCharBoundary-at_seam}
@@ -12,7 +12,7 @@ use Rattle.h5_states.specs.Reading.{ReaderPlace, Passes, passed, drops, goes, ag
 use Rattle.h5_standard.specs.Mark.{mark, behind, behind_mark}
 use Rattle.h5_standard.specs.Steps.{Stopped}
 
--- an input is a front and what is left of it
+-- an input is a prefix and what is left of it
 pub record Leaves (xs ys : List ℕ) : Type 0 where
   pub front : List ℕ
   pub split : xs ≡ front ++ ys

@@ -41,7 +41,7 @@ in_line (x ∷ xs) h =
     let n = none_of_three (is_name_end x) (x == 0) (x == 13) all.0 in
     rw (n.2, no_feed x n.0) (in_line xs all.1)
 
--- in a tag of this name, which has nothing else
+-- in a tag with this name, which has nothing else
 abbrev pub in_tag : ReaderPlace → TagKind → List ℕ → ReaderPlace
 in_tag p kind name = record p { state = TagName (new_tag kind (map to_ascii_lowercase name)); after_return = false }
 

@@ -1,4 +1,4 @@
--- What stopped reading, as an answer of the reader.
+-- What stopped reading, as a result of the tokenizer.
 use Rattle.std.proofs.Common.{◌≡◌, ◌-◌, ℕ, Bool, List, Ok, length, drop, refl, sym, ap, subst, ◌∙◌}
 use Rattle.h5_token.specs.TokenText.{TokenText}
 use Rattle.h5_token.specs.Reply.{Reply}

@@ -85,7 +85,7 @@ module _ {M : Type 0} (reply_to : M → TokenText → Reply) (after : M → Toke
       → Holds reply_to after foreign p k xs old line (place_of m) l ys → Holds reply_to after foreign p k xs new line (place_of n) l zs
   holds_run c h = held_so c.put (holds_more reply_to after foreign h c.passes)
 
-  -- a token is handed on where no text is held
+  -- a token is passed to the sink when no text is held
   token_leads : {H : Type 0} (node : H → ℕ) {p : ReaderPlace} {k l : M} {xs ys old new : List ℕ} {held x line : ℕ} {m n : MachineText} {construct : CurrentToken} (q : ReaderPlace) (o : M) (result : Result (Option (Stop H)) BuildFault)
       → (c : Completes m x old new n construct line) → IsQuiet (outcome references (place_of m) x) ⊎ (old ≡ []) → Holds reply_to after foreign p k xs old held (place_of m) l (x ∷ ys)
       → HandsOn reply_to after node (place_of n) l (made_of construct n.parts) line q o result → Leads reply_to after foreign node p k xs q ys o result
@@ -96,7 +96,7 @@ module _ {M : Type 0} (reply_to : M → TokenText → Reply) (after : M → Toke
       (subst (λ r. HandsOn reply_to after node r l (made_of construct n.parts) (place_of m).began q o result) c.place
       (subst (λ i. HandsOn reply_to after node (place_of n) l (made_of construct n.parts) i q o result) c.line e))
 
-  -- the adjusted current node is asked for where no text is held
+  -- the adjusted current node is checked when no text is held
   question_leads : {p : ReaderPlace} {k l : M} {xs ys old new : List ℕ} {held x : ℕ} {m n : MachineText} (q : ReaderPlace) (there : Bool) → Wonders m x old new n
       → IsQuiet (outcome references (place_of m) x) ⊎ (old ≡ []) → Holds reply_to after foreign p k xs old held (place_of m) l (x ∷ ys)
       → there ≡ foreign l → q ≡ (if there then in_state (Text CdataSection) (place_of n) else place_of n) → ReadsOn reply_to after foreign p k xs q l ys
@@ -110,19 +110,19 @@ module _ {M : Type 0} (reply_to : M → TokenText → Reply) (after : M → Toke
       subst (λ r. ReadsOn reply_to after foreign p k xs r l ys) (sym (f ∙ c.place))
       (subst (λ b. ReadsOn reply_to after foreign p k xs (behind x (if b then Text CdataSection else c.elsewhere) (place_of m)) l ys) (sym e) asked)
 
-  -- all was handed on
+  -- everything was passed to the sink
   pub none_held : {p q : ReaderPlace} {k n : M} {xs ys text : List ℕ} {line : ℕ} → text ≡ [] → line ≡ q.began → ReadsOn reply_to after foreign p k xs q n ys
       → Holds reply_to after foreign p k xs text line q n ys
   none_held {p} {q} {k} {n} {xs} {ys} e f h = held_so e (subst (λ i. Holds reply_to after foreign p k xs [] i q n ys) (sym f) (holds_none reply_to after foreign h))
 
-  -- a step goes on or stops, as the answer was
+  -- a step goes on or stops, as the reply says
   pub turns : {H : Type 0} (node : H → ℕ) (p : ReaderPlace) (k : M) (xs text : List ℕ) (line : ℕ) (q : ReaderPlace) (n : M) (stopped : Option (Stop H)) (rest : Bor (List ℕ))
       → text ≡ [] → line ≡ q.began → Leads reply_to after foreign node p k xs q rest.now n (Ok stopped)
       → Makes reply_to after foreign node p k xs text line q n (Ok (progress_of stopped rest))
   turns node p k xs text line q n None rest e f h = none_held e f h
   turns node p k xs text line q n (Some s) rest e f h = h
 
-  -- The same of a byte at the front of a rest.
+  -- What is held, before the first byte of a suffix.
   at_front : (p : ReaderPlace) (k : M) (xs text : List ℕ) (line : ℕ) (q : ReaderPlace) (l : M) (x : ℕ) (rest : List ℕ) → rest ≡ x ∷ drop 1 rest
       → Holds reply_to after foreign p k xs text line q l rest → Holds reply_to after foreign p k xs text line q l (x ∷ drop 1 rest)
   at_front p k xs text line q l x rest front h = subst (λ r. Holds reply_to after foreign p k xs text line q l r) front h
@@ -139,7 +139,7 @@ module _ {M : Type 0} (reply_to : M → TokenText → Reply) (after : M → Toke
   goes_consumed p k xs old new line m n l x rest behind_it front e (inr c) h =
       subst (λ r. Holds reply_to after foreign p k xs new line (place_of n) l r) (sym e) (holds_dropped c (at_front p k xs old line (place_of m) l x rest front h))
 
-  -- the text that was held, and then is: none
+  -- no text was held, so none is
   held_none : (m n : MachineText) (x : ℕ) (old new : List ℕ) → new ≡ old → (IsQuiet (outcome references (place_of m) x) → ⊥) → IsQuiet (outcome references (place_of m) x) ⊎ (old ≡ []) → new ≡ []
   held_none m n x old new put loud (inl quiet) = absurd (loud quiet)
   held_none m n x old new put loud (inr none) = put ∙ none

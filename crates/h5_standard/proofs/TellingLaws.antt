@@ -1,4 +1,4 @@
--- What the steps of the reader that tells errors did, as a reading with its errors.
+-- What the steps of the tokenizer that reports errors did, as a reading with its errors.
 use Rattle.std.proofs.Common.{◌≡◌, ◌⊎◌, inl, inr, ℕ, ◌<◌, ◌≤◌, ◌==◌, Bool, true, false, true≢false, List, [], ◌∷◌, ◌++◌, refl, sym, ap, ◌∙◌, subst, arith, eq-eqb, ne_eqb, append-nil, append_assoc, drop, length, slice_index, Result, Ok, Err, Option, Some, None, if◌then◌else◌}
 use Rattle.std.proofs.lemmas.Bool.{and_from, and_parts, eqb-true, le-leb, leb-true}
 use Rattle.std.specs.Char.{IsScalar}
@@ -15,7 +15,7 @@ use Rattle.h5_states.specs.declared.errors.ParseError.TheVariants.{CdataInHtmlCo
 use Rattle.h5_states.specs.declared.kinds.TextKind.TheVariants.{CdataSection}
 use Rattle.h5_states.specs.declared.position.Position.{Position}
 use Rattle.h5_states.specs.declared.position.Spot.{Spot}
-use Rattle.h5_states.specs.declared.position.ToldError.{ToldError}
+use Rattle.h5_states.specs.declared.position.LocatedError.{LocatedError}
 use Rattle.h5_states.specs.InputErrors.{InputErrors, character_errors, inside, not_new, of_character}
 use Rattle.h5_states.specs.Lines.{normal}
 use Rattle.h5_states.specs.Machine.{turn}
@@ -45,7 +45,7 @@ use Rattle.h5_standard.proofs.WideRows.{WideRow, is_wide, wide_row, wide_so}
 inside_is_wide : (x : ℕ) → is_inside x ≡ true → 128 ≤ x
 inside_is_wide x h = leb-true 128 x (and_parts (nat_le 128 x) (nat_le x 191) h).0
 
--- where the answer to the question leads
+-- the effect of the check of the adjusted current node
 asked_place : (b : Bool) (n p : ReaderPlace) (x : ℕ) (elsewhere : State) → n ≡ behind x elsewhere p
     → (if b then in_state (Text CdataSection) n else n) ≡ behind x (if b then Text CdataSection else elsewhere) p
 asked_place true n p x elsewhere e = ap (in_state (Text CdataSection)) e
@@ -55,7 +55,7 @@ asked_place false n p x elsewhere e = e
 drops_none : (p : ReaderPlace) (x : ℕ) → is_dropped p x ≡ true → 128 ≤ x → ⊥
 drops_none p x d low = omega (arith, eqb-true x 10 (and_parts p.after_return (x == 10) d).1)
 
--- it is consumed, and the state behind it takes such bytes, too
+-- it is consumed, and the state after it takes such bytes as well
 wide_at : (p : ReaderPlace) (x : ℕ) → is_wide p.state ≡ true → 128 ≤ x → WideRow (turn references p.last p.state (normal x))
 wide_at p x wide low = wide_row p.last p.state (normal x) wide (subst (λ y. 128 ≤ y) (sym (normal_wide x low)) low)
 
@@ -78,7 +78,7 @@ rest_same e = cc
 cons_is_some : (x : ℕ) (xs : List ℕ) → x ∷ xs ≡ [] → ⊥
 cons_is_some x xs e = cc
 
--- Bytes past ASCII are taken all, in a state that takes them, where none is left before such a state.
+-- Bytes outside ASCII: a state that takes one of them takes all.
 abbrev are_wide : List ℕ → Bool
 are_wide = list_all (λ x. nat_le 128 x)
 
@@ -109,12 +109,12 @@ taken_whole m n x xs front old new ys split low within wide narrow run =
     let none = none_left ys there.1 (narrow (wide_so n.at n.parts ∙ there.0)) in
     subst (λ l. PassesRun m front old new n l) none run
 
--- what is told at a byte, behind these errors of the input
-abbrev row_told : ReaderPlace → Spot → ℕ → List ParseError → List ToldError
+-- what is reported at a byte, after these errors of the input
+abbrev row_told : ReaderPlace → Spot → ℕ → List ParseError → List LocatedError
 row_told p s x input = told_at_byte references p (position p.line s) x input
 
-module _ {M : Type 0} (reply_to : M → TokenText → Reply) (after : M → TokenText → ℕ → M) (foreign : M → Bool) {E : Type 0} (told : E → List ToldError → Type 0) (start : Reached M) (first : E) where
-  -- a row is done whose errors were told
+module _ {M : Type 0} (reply_to : M → TokenText → Reply) (after : M → TokenText → ℕ → M) (foreign : M → Bool) {E : Type 0} (told : E → List LocatedError → Type 0) (start : Reached M) (first : E) where
+  -- a row is done whose errors were reported
   pub goes_before : {text : List ℕ} {line : ℕ} {p : ReaderPlace} {s : Spot} {m : M} {x : ℕ} {xs : List ℕ} {now : E} (more : List ℕ) (state : State)
       → CameBefore reply_to after foreign told start first text line p s m (x ∷ xs) x now → is_dropped p x ≡ false → outcome references p x ≡ Consumed more state
       → CameOn reply_to after foreign told start first (text ++ more) line (behind x state p) (spot_behind x s) m xs now
@@ -147,18 +147,18 @@ module _ {M : Type 0} (reply_to : M → TokenText → Reply) (after : M → Toke
       → CameOn reply_to after foreign told start first text line (behind_newline p) (spot_past s) m xs now
   drops_on h d = record { reply = Continues; goes_on = refl; came = record { errors = h.came.errors; reaches = drops h.came.reaches h.goes_on refl d; tells = h.came.tells } }
 
-  -- the text that is held is handed on
+  -- the held text is passed to the sink
   pub text_on : {line : ℕ} {p : ReaderPlace} {s : Spot} {m : M} {xs : List ℕ} {now : E} (x : ℕ) (text : List ℕ)
       → CameOn reply_to after foreign told start first (x ∷ text) line p s m xs now
       → CameTo reply_to after foreign told start first (reply_to m (Characters (x ∷ text))) p s (after m (Characters (x ∷ text)) line) xs now
   text_on x text h = record { errors = h.came.errors; reaches = hands_text h.came.reaches h.goes_on refl; tells = h.came.tells }
 
-  -- there is none
+  -- no text is held
   pub nothing_on : {line : ℕ} {p : ReaderPlace} {s : Spot} {m : M} {xs : List ℕ} {now : E}
       → CameOn reply_to after foreign told start first [] line p s m xs now → CameOn reply_to after foreign told start first [] p.began p s m xs now
   nothing_on h = record { reply = Continues; goes_on = refl; came = record { errors = h.came.errors; reaches = hands_nothing h.came.reaches h.goes_on refl; tells = h.came.tells } }
 
-  -- a token is handed on
+  -- a token is passed to the sink
   pub token_before : {line : ℕ} {p : ReaderPlace} {s : Spot} {m : M} {x : ℕ} {xs : List ℕ} {now : E} (token : TokenText) (state : State)
       → CameBefore reply_to after foreign told start first [] line p s m (x ∷ xs) x now → is_dropped p x ≡ false → outcome references p x ≡ Emitted token state
       → CameTo reply_to after foreign told start first (reply_to m token) (after_token token (reply_to m token) (behind x state p)) (spot_behind x s) (after m token p.began) xs now
@@ -207,7 +207,7 @@ module _ {M : Type 0} (reply_to : M → TokenText → Reply) (after : M → Toke
   inside_passes rest (reading.again {p} {x = x} {xs = xs} t state d e passes) none within wide new h =
       absurd (wide_stays p x t state wide (inside_is_wide x (and_parts (is_inside x) (list_all is_inside xs) within).0) e)
 
-  -- a character is passed whose errors were told
+  -- a character is passed whose errors were reported
   character_passes : {p q : ReaderPlace} {front more ys : List ℕ} {text : List ℕ} {line : ℕ} {s : Spot} {m : M} {now : E} (x : ℕ) (xs rest : List ℕ) → Passes references p front more q ys → ys ≡ [] → front ≡ x ∷ xs
       → 128 ≤ x → list_all is_inside xs ≡ true → is_wide p.state ≡ true
       → CameBefore reply_to after foreign told start first text line p s m (x ∷ (xs ++ rest)) x now
@@ -223,7 +223,7 @@ module _ {M : Type 0} (reply_to : M → TokenText → Reply) (after : M → Toke
   character_passes x xs rest (reading.again {p} {x = y} t state d e passes) none split low within wide h =
       absurd (wide_stays p y t state wide (subst (λ z. 128 ≤ z) (sym (first_same split)) low) e)
 
-  -- the same of a machine
+  -- as above, for a machine
   pub wide_on : (m n : MachineText) (x : ℕ) (xs rest front old new : List ℕ) (line : ℕ) (s : Spot) (l : M) (now : E) → front ≡ x ∷ xs → 128 ≤ x → list_all is_inside xs ≡ true → takes_wide m.at ≡ true
       → PassesRun m front old new n [] → CameBefore reply_to after foreign told start first old line (place_of m) s l (x ∷ (xs ++ rest)) x now
       → CameOn reply_to after foreign told start first new line (place_of n) (spot_behind_all front s) l rest now
@@ -251,7 +251,7 @@ module _ {M : Type 0} (reply_to : M → TokenText → Reply) (after : M → Toke
       → CameTo reply_to after foreign told start first reply p s l xs now → CameRefused reply_to after foreign told start first k now f
   refused_so {p = p} {s = s} {xs = xs} f e h = record { place = p; spot = s; rest = xs; came = answered_so e.0 refl e.1 h }
 
-  -- where the answer to a token leads, from a place
+  -- the effect of the reply to a token, from a place
   pub leads_telling : {H : Type 0} (node : H → ℕ) (s : Spot) (l : M) (xs : List ℕ) (now : E) (token : TokenText) (line : ℕ) (r q : ReaderPlace) (k : M) (result : Result (Option (Stop H)) BuildFault)
       → CameTo reply_to after foreign told start first (reply_to l token) (after_token token (reply_to l token) r) s (after l token line) xs now
       → HandsOn reply_to after node r l token line q k result → LeadsTelling reply_to after foreign told start first node [] q.began q s k xs now result
@@ -262,7 +262,7 @@ module _ {M : Type 0} (reply_to : M → TokenText → Reply) (after : M → Toke
   leads_telling node s l xs now token line r q k (Err fault.NotInText) h e = refused_so fault.NotInText e h
   leads_telling node s l xs now token line r q k (Err fault.Failed) h e = refused_so fault.Failed e h
 
-  -- the text that is held is handed on, or there is none
+  -- the held text is passed to the sink, if there is any
   pub text_leads_telling : {H : Type 0} (node : H → ℕ) {p : ReaderPlace} {s : Spot} {m : M} {xs : List ℕ} {now : E} {line : ℕ} (text : List ℕ) (k : M) (result : Result (Option (Stop H)) BuildFault)
       → (text ≡ [] → ⊥) → CameOn reply_to after foreign told start first text line p s m xs now → HandsOn reply_to after node p m (Characters text) line p k result
       → LeadsTelling reply_to after foreign told start first node [] p.began p s k xs now result
@@ -273,11 +273,11 @@ module _ {M : Type 0} (reply_to : M → TokenText → Reply) (after : M → Toke
       → CameOn reply_to after foreign told start first [] p.began p s m xs now
   none_leads_telling {p} {s} {m} {xs} {now} {line} text e h = nothing_on (subst (λ t. CameOn reply_to after foreign told start first t line p s m xs now) e h)
 
-  asked_errors : (b : Bool) (at : Position) (es : List ToldError) (e : ParseError) → es ++ told_at at (if b then [] else e ∷ []) ≡ (if b then es else es ++ told_at at (e ∷ []))
+  asked_errors : (b : Bool) (at : Position) (es : List LocatedError) (e : ParseError) → es ++ told_at at (if b then [] else e ∷ []) ≡ (if b then es else es ++ told_at at (e ∷ []))
   asked_errors true at es e = append-nil es
   asked_errors false at es e = refl
 
-  -- the adjusted current node is asked for
+  -- the adjusted current node is checked
   pub asks_before : {line : ℕ} {p : ReaderPlace} {s : Spot} {m : M} {x : ℕ} {xs : List ℕ} {now : E} (later : E) (there : State) (error : ParseError) (elsewhere : State)
       → CameBefore reply_to after foreign told start first [] line p s m (x ∷ xs) x now → is_dropped p x ≡ false → outcome references p x ≡ Asks there error elsewhere
       → Tells told now later (told_at (position p.line s) (if foreign m then [] else error ∷ []))
@@ -298,7 +298,7 @@ module _ {M : Type 0} (reply_to : M → TokenText → Reply) (after : M → Toke
         };
       }
 
-  -- A machine takes a byte at the front of a rest, whose errors were told.
+  -- A machine takes the first byte of a suffix, whose errors were reported.
   at_front : {text : List ℕ} {line : ℕ} {p : ReaderPlace} {s : Spot} {l : M} {x : ℕ} {now : E} (rest : List ℕ) → rest ≡ x ∷ drop 1 rest
       → CameBefore reply_to after foreign told start first text line p s l rest x now → CameBefore reply_to after foreign told start first text line p s l (x ∷ drop 1 rest) x now
   at_front {text} {line} {p} {s} {l} {x} {now} rest front h = subst (λ r. CameBefore reply_to after foreign told start first text line p s l r x now) front h
@@ -392,7 +392,7 @@ module _ {M : Type 0} (reply_to : M → TokenText → Reply) (after : M → Toke
   in_other_words node p s m xs now text line (Ok (Some stop)) e f h = h
   in_other_words node p s m xs now text line (Err f) e g h = h
 
-  -- a character past ASCII is taken, whose errors were told
+  -- a character outside ASCII is taken, whose errors were reported
   pub wide_tells : (m n : MachineText) (x : ℕ) (others front rest behind_it old new : List ℕ) (line : ℕ) (s t : Spot) (l : M) (old_errors now : E) → rest ≡ front ++ behind_it → front ≡ x ∷ others → 128 ≤ x → list_all is_inside others ≡ true
       → takes_wide m.at ≡ true → PassesRun m front old new n [] → t ≡ spot_behind_all front s
       → CameOn reply_to after foreign told start first old line (place_of m) s l rest old_errors → TellsRow told old_errors now (place_of m) s rest x
@@ -408,7 +408,7 @@ module _ {M : Type 0} (reply_to : M → TokenText → Reply) (after : M → Toke
       }))
 
 -- the errors at a character whose first byte is new, and at another byte
-new_so : {E : Type 0} (told : E → List ToldError → Type 0) (old new : E) (p : ReaderPlace) (s : Spot) (x c : ℕ) (at : Position) (xs behind_it : List ℕ) → at ≡ position p.line s → s.is_new ≡ true → IsScalar c → xs ≡ encode_utf8 c ++ behind_it
+new_so : {E : Type 0} (told : E → List LocatedError → Type 0) (old new : E) (p : ReaderPlace) (s : Spot) (x c : ℕ) (at : Position) (xs behind_it : List ℕ) → at ≡ position p.line s → s.is_new ≡ true → IsScalar c → xs ≡ encode_utf8 c ++ behind_it
     → Tells told old new (told_at_byte references p at x (character_errors c)) → TellsRow told old new p s xs x
 new_so told old new p s x c at xs behind_it place is_new scalar split tells = record {
   input = character_errors c;
@@ -416,7 +416,7 @@ new_so told old new p s x c at xs behind_it place is_new scalar split tells = re
   tells = subst (λ a. Tells told old new (told_at_byte references p a x (character_errors c))) place tells;
 }
 
-pub tells_new : {E : Type 0} (told : E → List ToldError → Type 0) (old mid new : E) (p : ReaderPlace) (s : Spot) (x c : ℕ) (at : Position) (xs behind_it : List ℕ) → at ≡ position p.line s → s.is_new ≡ true → IsScalar c → xs ≡ encode_utf8 c ++ behind_it
+pub tells_new : {E : Type 0} (told : E → List LocatedError → Type 0) (old mid new : E) (p : ReaderPlace) (s : Spot) (x c : ℕ) (at : Position) (xs behind_it : List ℕ) → at ≡ position p.line s → s.is_new ≡ true → IsScalar c → xs ≡ encode_utf8 c ++ behind_it
     → seen_ahead references p.state ≡ 0
     → Tells told old mid (told_at at (character_errors c)) → Tells told mid new (told_of_row (seen_ahead references p.state) at (row_errors references p x)) → TellsRow told old new p s xs x
 tells_new told old mid new p s x c at xs behind_it place is_new scalar split none one two =
@@ -425,7 +425,7 @@ tells_new told old mid new p s x c at xs behind_it place is_new scalar split non
     new_so told old new p s x c at xs behind_it place is_new scalar split
     (subst (Tells told old new) (sym (input_first (seen_ahead references p.state) input row (eq-eqb (seen_ahead references p.state) 0 none))) (tells_twice told old mid new input row one two))
 
-pub tells_ahead : {E : Type 0} (told : E → List ToldError → Type 0) (old mid new : E) (p : ReaderPlace) (s : Spot) (x c : ℕ) (at : Position) (xs behind_it : List ℕ) → at ≡ position p.line s → s.is_new ≡ true → IsScalar c → xs ≡ encode_utf8 c ++ behind_it
+pub tells_ahead : {E : Type 0} (told : E → List LocatedError → Type 0) (old mid new : E) (p : ReaderPlace) (s : Spot) (x c : ℕ) (at : Position) (xs behind_it : List ℕ) → at ≡ position p.line s → s.is_new ≡ true → IsScalar c → xs ≡ encode_utf8 c ++ behind_it
     → (seen_ahead references p.state ≡ 0 → ⊥)
     → Tells told old mid (told_of_row (seen_ahead references p.state) at (row_errors references p x)) → Tells told mid new (told_at at (character_errors c)) → TellsRow told old new p s xs x
 tells_ahead told old mid new p s x c at xs behind_it place is_new scalar split some one two =
@@ -434,7 +434,7 @@ tells_ahead told old mid new p s x c at xs behind_it place is_new scalar split s
     new_so told old new p s x c at xs behind_it place is_new scalar split
     (subst (Tells told old new) (sym (row_first (seen_ahead references p.state) input row (ne_eqb (seen_ahead references p.state) 0 some))) (tells_twice told old mid new row input one two))
 
-pub tells_again : {E : Type 0} (told : E → List ToldError → Type 0) (old new : E) (p : ReaderPlace) (s : Spot) (x : ℕ) (at : Position) (xs : List ℕ) → at ≡ position p.line s → s.is_new ≡ false
+pub tells_again : {E : Type 0} (told : E → List LocatedError → Type 0) (old new : E) (p : ReaderPlace) (s : Spot) (x : ℕ) (at : Position) (xs : List ℕ) → at ≡ position p.line s → s.is_new ≡ false
     → Tells told old new (told_of_row (seen_ahead references p.state) at (row_errors references p x)) → TellsRow told old new p s xs x
 tells_again told old new p s x at xs place is_new tells = record {
   input = [];
@@ -454,7 +454,7 @@ pub dropped_is_ascii : (m : MachineText) (x : ℕ) → is_dropped (place_of m) x
 dropped_is_ascii m x d = omega (arith, eqb-true x 10 (and_parts m.after_return (x == 10) d).1)
 
 -- nothing was read
-pub begins_here : {M : Type 0} (reply_to : M → TokenText → Reply) (after : M → TokenText → ℕ → M) (foreign : M → Bool) {E : Type 0} (told : E → List ToldError → Type 0) (p : ReaderPlace) (s : Spot) (m : M) (xs : List ℕ) (now : E) (text : List ℕ) (line : ℕ)
+pub begins_here : {M : Type 0} (reply_to : M → TokenText → Reply) (after : M → TokenText → ℕ → M) (foreign : M → Bool) {E : Type 0} (told : E → List LocatedError → Type 0) (p : ReaderPlace) (s : Spot) (m : M) (xs : List ℕ) (now : E) (text : List ℕ) (line : ℕ)
     → text ≡ [] → line ≡ p.began → CameOn reply_to after foreign told (at_first p s m xs) now text line p s m xs now
 begins_here reply_to after foreign told p s m xs now text line e f =
     subst (λ t. CameOn reply_to after foreign told (at_first p s m xs) now t line p s m xs now) (sym e)

@@ -1,4 +1,4 @@
--- What tells errors reads, as any reader does.
+-- What reports errors reads, as any tokenizer does.
 use Rattle.std.proofs.Common.{◌≡◌, ◌⊎◌, inl, inr, ℕ, ◌+◌, ◌-◌, Bool, true, List, [], length, refl, sym, ap, ◌∙◌, subst, Result, Ok, Err}
 use Rattle.std.specs.Io.Iter.{u64_saturate}
 use Rattle.h5_token.specs.TokenText.{TokenText}
@@ -10,7 +10,7 @@ use Rattle.h5_reading.specs.declared.stage.Stage.{Stage}
 use Rattle.h5_reading.specs.declared.stop.Stop.{Stop}
 use Rattle.h5_reading.specs.declared.stop.Stop.TheVariants as stop
 use Rattle.h5_states.specs.declared.position.Spot.{Spot}
-use Rattle.h5_states.specs.declared.position.ToldError.{ToldError}
+use Rattle.h5_states.specs.declared.position.LocatedError.{LocatedError}
 use Rattle.h5_states.specs.ReferenceTable.{references}
 use Rattle.h5_states.specs.Reading.{ReaderPlace}
 use Rattle.h5_states.specs.Telling.{Reached, at_first, IsHeld, IsHanded}
@@ -37,7 +37,7 @@ module _ {M : Type 0} (reply_to : M → TokenText → Reply) (after : M → Toke
   handed_reads r (inl h) not = absurd (not h.0)
   handed_reads r (inr h) not = record { tokens = h.tokens; read = h.read }
 
-  module _ {E : Type 0} (told : E → List ToldError → Type 0) where
+  module _ {E : Type 0} (told : E → List LocatedError → Type 0) where
     stopped_reads : (p : ReaderPlace) (s : Spot) (m : M) (xs : List ℕ) (first : E) (reply : Reply) (q : ReaderPlace) (t : Spot) (n : M) (ys : List ℕ) (now : E) → (reply ≡ Continues → ⊥)
         → CameTo reply_to after foreign told (at_first p s m xs) first reply q t n ys now → Stopped reply_to after foreign p m xs reply q n ys
     stopped_reads p s m xs first reply q t n ys now not h =
@@ -63,14 +63,14 @@ module _ {M : Type 0} (reply_to : M → TokenText → Reply) (after : M → Toke
     runs_telling node p s m xs first q t n now (Err fault.NotInText) h = refused_reads p s m xs first n now fault.NotInText h
     runs_telling node p s m xs first q t n now (Err fault.Failed) h = refused_reads p s m xs first n now fault.Failed h
 
-    -- what stopped reading, as an answer of the reader
+    -- what stopped reading, as a result of the tokenizer
     pub tells_stop : {H : Type 0} (node : H → ℕ) (start : Reached M) (first : E) (p : ReaderPlace) (s : Spot) (m : M) (queue rest : List ℕ) (now : E) (reason : Stop H) → queue ≡ rest
         → CameTo reply_to after foreign told start first (stops_as node reason) p s m rest now → FeedsTelling reply_to after foreign told start first node p s m queue now (Ok (result_of reason))
     tells_stop node start first p s m queue rest now (stop.Script handle) e h = subst (λ l. CameTo reply_to after foreign told start first (RunsScript (node handle)) p s m l now) (sym e) h
     tells_stop node start first p s m queue rest now (stop.EncodingIndicator encoding) e h =
         subst (λ l. CameTo reply_to after foreign told start first (stops_as node (stop.EncodingIndicator encoding)) p s m l now) (sym e) h
 
--- where reading began, by what was in the reader and in the queue
+-- where reading began, by the tokenizer's state and the queue
 pub begins_behind_mark : {M : Type 0} (old : ReaderText) (at_start : Bool) (p : ReaderPlace) (stage : Stage) (m : M) (xs buffer text piece : List ℕ) (s : Spot) (offset : ℕ)
     → record { at_start = at_start; place = p; stage = stage } ≡ old → buffer ≡ xs → text ≡ buffer → piece ≡ behind_mark at_start text → offset ≡ u64_saturate (s.offset + (length text - length piece))
     → at_first p (record s { offset = offset }) m piece ≡ at_first old.place (spot_behind_mark old.at_start xs s) m (behind_mark old.at_start xs)

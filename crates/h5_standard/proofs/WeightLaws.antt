@@ -12,14 +12,14 @@ rank_at_small : (state : State) (xs : List ℕ) → rank_at state xs ≤ 2
 rank_at_small state [] = omega arith
 rank_at_small state (x ∷ xs) = rank_small state (normal x)
 
--- where less is left there is less to do, whatever the state
+-- if less is left, there is less to do, for any state
 pub shorter_is_less : (p q : ReaderPlace) (xs ys : List ℕ) → length ys < length xs → weight q ys < weight p xs
 shorter_is_less p q xs ys lt = omega (arith, lt, rank_at_small q.state ys)
 
 consumed_is_less : (p q : ReaderPlace) (x : ℕ) (xs : List ℕ) → weight q xs < weight p (x ∷ xs)
 consumed_is_less p q x xs = shorter_is_less p q (x ∷ xs) xs (omega arith)
 
--- and so there is where a byte is reconsumed
+-- the same holds if a byte is reconsumed
 pub reconsumed_is_less : (p : ReaderPlace) (x : ℕ) (xs text : List ℕ) (state : State) → outcome references p x ≡ Reconsumed text state
     → weight (in_state state p) (x ∷ xs) < weight p (x ∷ xs)
 reconsumed_is_less p x xs text state e = omega (arith, rank_falls references p.last p.state (normal x) text state e)

@@ -1,4 +1,4 @@
--- Rows that take a byte past ASCII as it is: they consume it, and tell no error.
+-- Rows that take a byte outside ASCII as it is: they consume it, and report no error.
 use Rattle.std.proofs.Common.{◌≡◌, ℕ, ◌≤◌, Bool, true, false, List, [], ◌∷◌, ◌++◌, refl, arith}
 use Rattle.std.proofs.lemmas.Bool.{false≢true}
 use Rattle.std.specs.Char.{to_ascii_lowercase}

@@ -1,4 +1,4 @@
--- The end of the input: tokens that are handed on one after another.
+-- The end of the input: tokens that are passed to the sink one after another.
 use Rattle.std.specs.Prelude.{◌≡◌, ◌⊎◌, ℕ, false, List, [], ◌∷◌, Result, Ok, Err}
 use Rattle.h5_token.specs.TokenText.{TokenText}
 use Rattle.h5_token.specs.Reply.{Reply}
@@ -7,7 +7,7 @@ use Rattle.h5_reading.specs.Answers.{refuses}
 use Rattle.h5_reading.specs.Taking.{Takes}
 
 module _ {M : Type 0} (reply_to : M → TokenText → Reply) (after : M → TokenText → ℕ → M) (ended : M → M) where
-  -- These tokens are told with one line. Where the sink refuses one nothing follows.
+  -- These tokens are passed with one line. Nothing follows a token that the sink refuses.
   abbrev pub TakesAll : M → List TokenText → ℕ → M → Result (Unit {0}) BuildFault → Type 0
   TakesAll m [] line n (Ok done) = n ≡ m
   TakesAll m [] line n (Err f) = ⊥

@@ -1,4 +1,4 @@
--- The byte order mark, U+FEFF, which is no part of the input where one may come.
+-- The byte order mark, U+FEFF, which isn't part of the input if one is allowed.
 use Rattle.std.specs.Prelude.{ℕ, Bool, true, false, List, [], ◌∷◌}
 use Rattle.h5_markup.specs.Matching.{Match, Open, No, Found, literal}
 
@@ -10,7 +10,7 @@ behind xs Open = xs
 behind xs No = xs
 behind xs (Found found rest) = rest
 
--- what follows it, where it may come
+-- what follows the mark, if one is allowed
 abbrev pub behind_mark : Bool → List ℕ → List ℕ
 behind_mark true xs = behind xs (mark xs)
 behind_mark false xs = xs
@@ -20,7 +20,7 @@ is_open Open = true
 is_open No = false
 is_open (Found found rest) = false
 
--- whether it may still come behind this: before the first byte
+-- true if the mark may still come after this: before the first byte
 abbrev pub still_at_start : Bool → List ℕ → Bool
 still_at_start true xs = is_open (mark xs)
 still_at_start false xs = false

@@ -1,4 +1,4 @@
--- Options, and where a reader begins.
+-- Options, and the first place of a tokenizer.
 use Rattle.std.specs.Prelude.{[], false, Option, Some, None, string_bytes}
 use Rattle.std.specs.Option.{option_map, unwrap_or}
 use Rattle.h5_token.specs.declared.states.State.{State}

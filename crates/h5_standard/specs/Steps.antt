@@ -1,4 +1,4 @@
--- What steps of the reader did. Texts are handed on behind them.
+-- What steps of the tokenizer did. Texts are passed to the sink after them.
 use Rattle.std.specs.Prelude.{◌≡◌, ◌<◌, ℕ, Bool, true, List, [], Result, Ok, Err, Option, Some, None}
 use Rattle.std.specs.Borrow.{Bor}
 use Rattle.h5_token.specs.TokenText.{TokenText}
@@ -17,7 +17,7 @@ use Rattle.h5_standard.specs.declared.steps.Halt.{Halt}
 use Rattle.h5_standard.specs.declared.steps.Halt.TheVariants as halt
 
 module _ {M : Type 0} (reply_to : M → TokenText → Reply) (after : M → TokenText → ℕ → M) where
-  -- A token was handed on, with this line: where reading goes on from, whether it stops, and what the sink is then.
+  -- A token was passed to the sink, with this line: the next place, whether reading stops, and the sink's meaning afterwards.
   pub record HandedOn {H : Type 0} (node : H → ℕ) (p : ReaderPlace) (m : M) (t : TokenText) (line : ℕ) (q : ReaderPlace) (n : M) (stopped : Option (Stop H)) : Type 0 where
     pub place : q ≡ after_token t (reply_to m t) p
     pub meaning : n ≡ after m t line
@@ -31,19 +31,19 @@ module _ {M : Type 0} (reply_to : M → TokenText → Reply) (after : M → Toke
   HandsOn node p m t line q n (Err fault.Failed) = (reply_to m t ≡ Refuses fault.Failed) × (n ≡ after m t line)
 
 module _ {M : Type 0} (reply_to : M → TokenText → Reply) (after : M → TokenText → ℕ → M) (foreign : M → Bool) where
-  -- An input was read up to an answer.
+  -- An input was read up to a reply.
   pub record Stopped (p : ReaderPlace) (m : M) (xs : List ℕ) (reply : Reply) (q : ReaderPlace) (n : M) (ys : List ℕ) : Type 0 where
     pub tokens : List TokenText
     pub read : Read references reply_to after foreign p m xs tokens reply q n ys
 
-  -- An input was read up to an answer after which reading goes on.
+  -- An input was read up to a reply after which tokenization goes on.
   pub record ReadsOn (p : ReaderPlace) (m : M) (xs : List ℕ) (q : ReaderPlace) (n : M) (ys : List ℕ) : Type 0 where
     pub reply : Reply
     pub goes_on : goes_on reply ≡ true
     pub stopped : Stopped p m xs reply q n ys
 
-  -- An input was read up to a place, and then bytes were passed up to another. What they emit, this text, hasn't been
-  -- handed on, and began in this line.
+  -- An input was read up to a place, and then bytes were passed up to another one. The text that they emit wasn't passed to the
+  -- sink yet, and began in this line.
   pub record Holds (p : ReaderPlace) (m : M) (xs text : List ℕ) (line : ℕ) (q : ReaderPlace) (n : M) (ys : List ℕ) : Type 0 where
     pub place : ReaderPlace
     pub rest : List ℕ
@@ -51,20 +51,20 @@ module _ {M : Type 0} (reply_to : M → TokenText → Reply) (after : M → Toke
     pub passes : Passes references place rest text q ys
     pub began : line ≡ place.began
 
-  -- The sink refused the last token that was handed on.
+  -- The sink refused the last token.
   pub record RefusedAt (p : ReaderPlace) (m : M) (xs : List ℕ) (fault : BuildFault) (n : M) : Type 0 where
     pub place : ReaderPlace
     pub rest : List ℕ
     pub stopped : Stopped p m xs (Refuses fault) place n rest
 
-  -- the fault of a sink, or want of memory, of which nothing is said
+  -- the sink's error, or a failed allocation, after which nothing is known
   abbrev pub Fails : ReaderPlace → M → List ℕ → M → BuildFault → Type 0
   Fails p m xs n fault.Memory = Unit {0}
   Fails p m xs n fault.AfterEnd = RefusedAt p m xs fault.AfterEnd n
   Fails p m xs n fault.NotInText = RefusedAt p m xs fault.NotInText n
   Fails p m xs n fault.Failed = RefusedAt p m xs fault.Failed n
 
-  -- what was handed on, from an input up to here, and where its answer leads
+  -- what was passed to the sink, from an input up to here, and the effect of its reply
   abbrev pub Leads : {H : Type 0} → (H → ℕ) → ReaderPlace → M → List ℕ → ReaderPlace → List ℕ → M → Result (Option (Stop H)) BuildFault → Type 0
   Leads node p m xs q ys n (Ok None) = ReadsOn p m xs q n ys
   Leads node p m xs q ys n (Ok (Some s)) = Stopped p m xs (stops_as node s) q n ys
@@ -76,13 +76,13 @@ module _ {M : Type 0} (reply_to : M → TokenText → Reply) (after : M → Toke
   Makes node p m xs text line q n (Ok (progress.Stops s rest)) = Stopped p m xs (stops_as node s) q n rest.now
   Makes node p m xs text line q n (Err f) = Fails p m xs n f
 
-  -- what was done with a piece
+  -- what was done with a chunk
   abbrev pub Runs : {H : Type 0} → (H → ℕ) → ReaderPlace → M → List ℕ → ReaderPlace → M → Result (Halt H) BuildFault → Type 0
   Runs node p m xs q n (Ok halt.Done) = ReadsOn p m xs q n []
   Runs node p m xs q n (Ok (halt.Stops s rest)) = Stopped p m xs (stops_as node s) q n rest.now
   Runs node p m xs q n (Err f) = Fails p m xs n f
 
--- where reading goes on there is less to do
+-- if tokenization goes on, less is left to do
 abbrev pub IsLess : {H : Type 0} → ReaderPlace → List ℕ → ReaderPlace → Result (Progress H) BuildFault → Type 0
 IsLess p xs q (Ok (progress.GoesOn rest)) = weight q rest.now < weight p xs
 IsLess p xs q (Ok (progress.Stops s rest)) = Unit {0}

@@ -1,11 +1,11 @@
--- How much is left to do: each row makes it less, also one that reconsumes its byte.
+-- How much is left to do. Each row makes it less, even one that reconsumes its byte.
 use Rattle.std.specs.Prelude.{ℕ, ◌+◌, ◌*◌, List, [], ◌∷◌, length}
 use Rattle.h5_states.specs.Lines.{normal}
 use Rattle.h5_states.specs.Rank.{rank}
 use Rattle.h5_states.specs.States.{State}
 use Rattle.h5_states.specs.Reading.{ReaderPlace}
 
--- by how many rows the byte at hand is reconsumed at most
+-- how many rows reconsume the current byte at most
 abbrev pub rank_at : State → List ℕ → ℕ
 rank_at state [] = 0
 rank_at state (x ∷ xs) = rank state (normal x)

@@ -14,7 +14,7 @@ use h5_reading::{finish, offer};
 use h5_token::{BuildFault, Token, TokenSink};
 use std::alloc::Global;
 
-// Hands a text on, unless it is empty.
+// Passes a text to the sink, unless it is empty.
 fn offer_text<S: TokenSink>(sink: &mut S, text: String, line: u64) -> Result<(), BuildFault>
     ensures { TakesAll S.reply_to S.after S.ended (S.meaning sink.old) (told (string_bytes text)) line (S.meaning sink.new) result }
 {
@@ -24,7 +24,7 @@ fn offer_text<S: TokenSink>(sink: &mut S, text: String, line: u64) -> Result<(),
     offer(sink, Token::CharacterTokens(text), line)
 }
 
-// Hands on what was under construction, where that is to be.
+// Passes the token that is being built to the sink, if it must be emitted.
 fn offer_construct<S: TokenSink>(
     sink: &mut S,
     machine: &mut Machine,
@@ -40,7 +40,8 @@ fn offer_construct<S: TokenSink>(
     offer(sink, token, machine.began())
 }
 
-/// Hands on what the end makes of what is under construction, and the end of the file, and tells the sink.
+/// Passes what the end of the input makes of what is being built to the sink, then the end-of-file token, and calls the sink's
+/// `end`.
 pub fn close<S: TokenSink>(
     sink: &mut S,
     machine: &mut Machine,

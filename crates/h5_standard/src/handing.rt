@@ -1,4 +1,4 @@
-//! What is handed on, and where the answer leads.
+//! Passing tokens to the sink, and the effect of its replies.
 
 ghost use Rattle.std.specs.Prelude.{◌≡◌, ℕ, IfOk, string_bytes};
 ghost use Rattle.h5_token.specs.Reply.{reply};
@@ -28,7 +28,7 @@ fn raw_text(kind: RawKind) -> TextKind
     }
 }
 
-// The text that an answer to a start tag chooses.
+// Returns the kind of text that a reply to a start tag chooses.
 pub fn chosen_text<H>(answer: &TokenSinkResult<H>) -> TextKind
     ensures { (node : H → ℕ) → Text result ≡ chosen_state (reply node answer.now) }
 {
@@ -39,7 +39,7 @@ pub fn chosen_text<H>(answer: &TokenSinkResult<H>) -> TextKind
     }
 }
 
-/// Hands a text on, which leads nowhere else.
+/// Passes a text to the sink, which doesn't change the state.
 pub fn hand_on_text<S: TokenSink>(
     sink: &mut S,
     text: String,
@@ -51,7 +51,7 @@ pub fn hand_on_text<S: TokenSink>(
     Ok(stop_of(answer))
 }
 
-/// Hands a tag on, and goes where it and the answer lead.
+/// Passes a tag to the sink, and changes the state as the tag and the reply say.
 #[inline(never)]
 pub fn hand_on_tag<S: TokenSink>(
     sink: &mut S,
@@ -76,7 +76,7 @@ pub fn hand_on_tag<S: TokenSink>(
     }
 }
 
-/// What is complete, as a token. What is left is in no state of a text.
+/// Takes the complete token out of the machine.
 pub fn take_token(machine: &mut Machine, construct: CurrentToken) -> Result<Token, AllocError>
     ensures token { IfOk result (λ token. token_text token ≡ made_of construct machine.old.parts) }
     ensures others { machine.new ≡ record machine.old { parts = machine.new.parts } }
@@ -89,7 +89,7 @@ pub fn take_token(machine: &mut Machine, construct: CurrentToken) -> Result<Toke
     }
 }
 
-/// Hands on what is complete, which began in this line.
+/// Passes the complete token to the sink, with the line in which it began. The machine must be in the state of a text.
 pub fn hand_on<S: TokenSink>(
     sink: &mut S,
     machine: &mut Machine,

@@ -1,11 +1,11 @@
-//! The standard reader: from text to tokens, for every taker of tokens. It reads all of HTML (HTML standard, section 13.2.5).
+//! The standard tokenizer: from text to tokens, for any token sink. It reads all of HTML (HTML standard, section 13.2.5).
 //!
-//! `tokenizer` has the reader over what takes its tokens, and `reader` the reader apart from that. `steps` reads a piece, and
-//! `ending` the end of the input. `telling` has the reader that tells parse errors, too: it takes one byte after another
-//! (`telling_steps`, `telling_reader`). What a state does at a byte stands in `h5_machine`.
+//! `tokenizer` has the tokenizer with its sink, and `reader` the rest of its state. `steps` reads a chunk, and `ending` handles
+//! the end of the input. `telling` has the tokenizer that also reports parse errors: it takes one byte after another
+//! (`telling_steps`, `telling_reader`). What a state does at a byte is in `h5_machine`.
 //!
-//! It stands on tokens, on `h5_machine`, and on `h5_reading` for what every reader has: text that waits, options, lines. Begin
-//! with `src/steps.rt`.
+//! This crate depends on tokens, on `h5_machine`, and on `h5_reading` for what the tokenizers have in common. `h5_states` has
+//! the definitions. Begin with `src/steps.rt`.
 #![tactic(auto)]
 
 mod ending;
@@ -18,6 +18,6 @@ mod telling_steps;
 mod tokenizer;
 
 pub use h5_reading::{BufferQueue, TokenizerOpts, TokenizerResult};
-pub use h5_states::{ErrorSink, Errors, ParseError, Position, ToldError};
-pub use telling::TellingTokenizer;
+pub use h5_states::{ErrorSink, Errors, LocatedError, ParseError, Position};
+pub use telling::ReportingTokenizer;
 pub use tokenizer::Tokenizer;

@@ -1,4 +1,4 @@
-//! The reader, apart from what takes its tokens.
+//! The tokenizer without its sink.
 
 ghost use Rattle.std.specs.Prelude.{◌≡◌, [], ◌∷◌, true, false, length};
 ghost use Rattle.h5_standard.specs.Mark.{behind_mark, still_at_start};
@@ -13,9 +13,9 @@ use std::alloc::Global;
 use std::marker::Model;
 use std::mem;
 
-/// Where the reader is, and whether it still reads. It keeps nothing of its input.
+/// The tokenizer's state, and whether it has ended or failed. It buffers no input.
 pub struct Reader {
-    // Whether a byte order mark may still come.
+    // True if a byte order mark may still come.
     pub at_start: bool,
     pub machine: Machine,
     pub stage: Stage,
@@ -48,7 +48,7 @@ impl Reader {
     }
 }
 
-/// Passes the byte order mark, where one may come and does.
+/// Skips the byte order mark, if one is allowed and there.
 pub fn skip_mark<'a>(at_start: &mut bool, text: &'a str) -> &'a str
     ensures rest { result.now ≡ behind_mark at_start.old text.entry.now }
     ensures at_start { at_start.new ≡ still_at_start at_start.old text.entry.now }
@@ -69,7 +69,7 @@ pub fn skip_mark<'a>(at_start: &mut bool, text: &'a str) -> &'a str
     }
 }
 
-/// Reads what waits in the queue.
+/// Reads the queue.
 pub fn read<S: TokenSink>(
     sink: &mut S,
     reader: &mut Reader,
@@ -78,7 +78,7 @@ pub fn read<S: TokenSink>(
 ) -> Result<TokenizerResult<S::Handle>, BuildFault>
     ensures { Feeds S.reply_to S.after S.is_foreign S.node reader.old (S.meaning sink.old) input.old reader.new (S.meaning sink.new) input.new result }
 {
-    // Until the call has gone well.
+    // In case the call fails.
     reader.stage = Stage::Failed;
     let mut buffer = mem::replace(input, BufferQueue::new(alloc));
     let piece = skip_mark(&mut reader.at_start, buffer.as_str());

@@ -1,4 +1,4 @@
-//! A piece of the input, read to its end or to an answer that stops the reader.
+//! A chunk of the input, read to its end or to a reply that stops the tokenizer.
 
 ghost use Rattle.std.specs.Prelude.{◌≡◌, ◌<◌, ◌⊎◌, ℕ, List, [], ◌∷◌, true, false, IfOk, OnOk, drop, length, slice_index, string_bytes};
 ghost use Rattle.h5_states.specs.ReferenceTable.{references};
@@ -19,16 +19,16 @@ use h5_token::{BuildFault, TagKind, TokenSink};
 use std::alloc::{AllocError, Global};
 use std::mem;
 
-/// Where reading of a piece comes to.
+/// How much of a chunk was read.
 #[derive(Drop)]
 pub enum Halt<'a, H> {
-    /// To its end.
+    /// All of it.
     Done,
-    /// To an answer that stops the reader, with this rest.
+    /// A reply stopped the tokenizer before this input.
     Stops(Stop<H>, &'a str),
 }
 
-/// Text that was emitted and not yet handed on, and the line in which it begins.
+/// Text that was emitted but not yet passed to the sink, and the line in which it begins.
 #[derive(Drop)]
 pub struct Emitted {
     pub text: String,
@@ -40,7 +40,7 @@ impl Emitted {
     ghost use Rattle.h5_states.specs.Reading.{ReaderPlace};
     ghost use Rattle.h5_standard.specs.Steps.{Holds, Leads};
 
-    /// None, which takes no memory. What is emitted next begins in this line.
+    /// Returns an empty text, for what is emitted next, in this line. Allocates nothing.
     pub fn new(alloc: Global, line: u64) -> Emitted
         ensures text { string_bytes result.text ≡ [] }
         ensures line { result.line ≡ line }
@@ -51,7 +51,7 @@ impl Emitted {
         }
     }
 
-    // Hands it on, if there is some. What is emitted next begins in this line.
+    // Passes the text to the sink, unless it is empty. What is emitted next begins in this line.
     fn hand_on<S: TokenSink>(
         &mut self,
         sink: &mut S,
@@ -73,14 +73,14 @@ impl Emitted {
     }
 }
 
-/// What a step comes to.
+/// The result of a step.
 #[derive(Drop)]
 pub enum Progress<'a, H> {
     GoesOn(&'a str),
     Stops(Stop<H>, &'a str),
 }
 
-/// That of an answer.
+/// Returns the result for a reply.
 pub fn progress_of<'a, H: Drop>(stopped: Option<Stop<H>>, rest: &'a str) -> Progress<'a, H>
     ensures { result ≡ progress_of stopped rest.entry }
 {
@@ -90,18 +90,19 @@ pub fn progress_of<'a, H: Drop>(stopped: Option<Stop<H>>, rest: &'a str) -> Prog
     }
 }
 
-/// What follows the byte at the front, which is ASCII.
+/// Returns what follows the first byte, which must be ASCII.
 pub fn behind_byte<'a>(rest: &'a str) -> &'a str
     requires some { 0 < length rest.now }
     requires ascii { slice_index rest.now 0 < 128 }
     ensures { result.now ≡ drop 1 rest.entry.now }
 {
-    // That it is text holds for where it may be cut.
+    // For the split: `rest` is UTF-8.
     let _bytes = rest.as_bytes();
     rest.split_at(1).1
 }
 
-// One byte is taken, at the front of a rest. A text is held only where no token comes of it, and no question.
+// Takes one byte, at the start of `rest`. Text may be held only if the byte neither emits a token nor requires a check of the
+// adjusted current node.
 fn byte_step<'a, S: TokenSink>(
     sink: &mut S,
     machine: &mut Machine,
@@ -136,7 +137,8 @@ fn byte_step<'a, S: TokenSink>(
     }
 }
 
-// One byte is taken, of which no token comes, and no question. What it emits is added to a text.
+// Takes one byte that neither emits a token nor requires a check of the adjusted current node. Appends the text that it emits
+// to `out`.
 fn quiet_byte<'a>(
     machine: &mut Machine,
     out: &mut String,
@@ -157,7 +159,7 @@ fn quiet_byte<'a>(
     }
 }
 
-// The same, or one of the commonest character references at once.
+// Takes one such byte, or one of the most frequent character references.
 fn quiet_step<'a>(
     machine: &mut Machine,
     out: &mut String,
@@ -177,7 +179,7 @@ fn quiet_step<'a>(
     quiet_byte(machine, out, b, rest)
 }
 
-// Reads on, up to where a token may be handed on or a question asked, or to the end of a piece.
+// Reads up to a byte that may emit a token or require a check of the adjusted current node, or to the end of the chunk.
 fn pass<'a>(machine: &mut Machine, out: &mut String, piece: &'a str) -> Result<&'a str, AllocError>
     ensures passes { IfOk result (λ after. PassesRun machine.old piece.now (string_bytes out.old) (string_bytes out.new) machine.new after.now) }
     ensures narrow { IfOk result (λ after. takes_wide machine.new.at ≡ true → 0 < length after.now → slice_index after.now 0 < 128) }
@@ -192,13 +194,13 @@ fn pass<'a>(machine: &mut Machine, out: &mut String, piece: &'a str) -> Result<&
             return Ok(behind);
         }
         let after = quiet_step(machine, out, *b, behind)?;
-        // That it is text holds for the loop's next turn.
+        // For the loop's next turn: `after` is UTF-8.
         let _bytes = after.as_bytes();
         rest = after;
     }
 }
 
-// A tag that is nothing but its name stands at the front, and no text is held.
+// The step of a tag with only a name at the start, when no text is held.
 #[inline(never)]
 fn bare_step<'a, S: TokenSink>(
     sink: &mut S,
@@ -225,7 +227,7 @@ fn bare_step<'a, S: TokenSink>(
     Ok(progress_of(stopped, after))
 }
 
-// One step, off a rest that isn't empty: all up to what may be handed on, and that.
+// Takes one step, on a suffix that isn't empty: up to the next token or check, and that.
 fn step<'a, S: TokenSink>(
     sink: &mut S,
     machine: &mut Machine,
@@ -255,7 +257,7 @@ fn step<'a, S: TokenSink>(
     byte_step(sink, machine, emitted, *b, rest)
 }
 
-/// Reads a piece. All that it emits is handed on.
+/// Reads a chunk. Everything that it emits is passed to the sink.
 pub fn read_piece<'a, S: TokenSink>(
     sink: &mut S,
     machine: &mut Machine,
@@ -269,7 +271,7 @@ pub fn read_piece<'a, S: TokenSink>(
     'steps: while !rest.is_empty() {
         match step(sink, machine, &mut emitted, rest)? {
             Progress::GoesOn(after) => {
-                // That it is text holds for the loop's next turn.
+                // For the loop's next turn: `after` is UTF-8.
                 let _bytes = after.as_bytes();
                 rest = after;
             }

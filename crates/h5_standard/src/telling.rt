@@ -1,4 +1,4 @@
-//! The reader that tells parse errors, over what takes its tokens and what takes its errors.
+//! The tokenizer that reports parse errors, with its token sink and its sink of errors.
 
 ghost use Rattle.std.specs.Prelude.{◌≡◌, Err, true};
 ghost use Rattle.h5_states.specs.End.{Closes};
@@ -20,10 +20,10 @@ use h5_states::{ErrorSink, Spot};
 use h5_token::{BuildFault, TokenSink};
 use std::alloc::Global;
 
-/// The standard reader, which tells each parse error of tokenization and of the input stream, and where it stands (HTML
+/// The standard tokenizer, which also reports each parse error of tokenization and of the input stream, with its position (HTML
 /// standard, section 13.2.2, "Parse errors"). It takes one byte after another.
 #[derive(Drop)]
-pub struct TellingTokenizer<Sink: TokenSink, E: ErrorSink> {
+pub struct ReportingTokenizer<Sink: TokenSink, E: ErrorSink> {
     pub sink: Sink,
     pub errors: E,
     reader: Reader,
@@ -31,21 +31,21 @@ pub struct TellingTokenizer<Sink: TokenSink, E: ErrorSink> {
     alloc: Global,
 }
 
-impl<Sink: TokenSink, E: ErrorSink> TellingTokenizer<Sink, E> {
-    /// A reader that has read nothing. The first byte stands in line 1 and column 1. It takes no memory.
+impl<Sink: TokenSink, E: ErrorSink> ReportingTokenizer<Sink, E> {
+    /// Returns a new tokenizer, in line 1 and column 1. Allocates nothing.
     pub fn new(
         alloc: Global,
         sink: Sink,
         errors: E,
         opts: TokenizerOpts,
-    ) -> TellingTokenizer<Sink, E>
+    ) -> ReportingTokenizer<Sink, E>
         ensures sink { result.sink ≡ sink }
         ensures errors { result.errors ≡ errors }
         ensures reader { result.reader ≡ record { at_start = opts.discard_bom; place = first_place opts; stage = Stage.Reading } }
         ensures spot { result.spot ≡ record { column = 1; offset = 0; is_new = true } }
     {
         let made = Tokenizer::new(alloc, sink, opts);
-        TellingTokenizer {
+        ReportingTokenizer {
             sink: made.sink,
             errors,
             reader: made.reader,
@@ -54,17 +54,17 @@ impl<Sink: TokenSink, E: ErrorSink> TellingTokenizer<Sink, E> {
         }
     }
 
-    /// Reads what waits in the queue as `Tokenizer::feed` does, and tells the errors of each row that a byte meets, in their
-    /// order, as standing at that byte, and before them those of the input stream at a character whose first byte is new.
+    /// Reads the queue as `Tokenizer::feed` does, and reports the parse errors: at each byte, those of the input stream for a
+    /// character that begins there, and then those of the state's row, in order. If the state has seen bytes ahead, the row's
+    /// errors come first, and those that the standard reports while it looks ahead have their position before these bytes.
     ///
-    /// Where the standard looks ahead, an error stands before what was seen. A position has the line as tokens have it, the column
-    /// in code points from 1, and the offset in bytes of all that was fed, a byte order mark included. After a fault what was told
-    /// is not taken back.
+    /// A position has the line as tokens have it, the column in code points from 1, and the offset in bytes of all that was
+    /// fed, including a byte order mark. If the call fails, the errors that it reported remain reported.
     pub fn feed(
         &mut self,
         input: &mut BufferQueue,
     ) -> Result<TokenizerResult<Sink::Handle>, BuildFault>
-        // After a fault, and after the end, nothing is handed on or told, and nothing changes.
+        // After an error, and after the end, nothing is passed or reported, and nothing changes.
         ensures failed { self.old.reader.stage ≡ Stage.Failed
             → (result ≡ Err BuildFault.Failed) × (self.new ≡ self.old) × (input.new ≡ input.old) }
         ensures after_end { self.old.reader.stage ≡ Stage.Ended
@@ -91,7 +91,8 @@ impl<Sink: TokenSink, E: ErrorSink> TellingTokenizer<Sink, E> {
         }
     }
 
-    /// Tells the errors of the end, as standing behind all that was fed, and then does what `Tokenizer::end` does.
+    /// Reports the errors of the end, at the position after all that was fed, or before what was seen ahead, and then does what
+    /// `Tokenizer::end` does.
     pub fn end(&mut self) -> Result<(), BuildFault>
         ensures failed { self.old.reader.stage ≡ Stage.Failed → (result ≡ Err BuildFault.Failed) × (self.new ≡ self.old) }
         ensures after_end { self.old.reader.stage ≡ Stage.Ended → (result ≡ Err BuildFault.AfterEnd) × (self.new ≡ self.old) }

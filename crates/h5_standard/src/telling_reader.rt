@@ -1,4 +1,4 @@
-//! The reader that tells errors, apart from what takes its tokens.
+//! The tokenizer that reports errors, without its sinks.
 
 ghost use Rattle.std.specs.Prelude.{◌≡◌, length};
 ghost use Rattle.h5_states.specs.Telling.{at_first};
@@ -15,7 +15,7 @@ use h5_token::{BuildFault, TokenSink};
 use std::alloc::Global;
 use std::mem;
 
-/// Reads what waits in the queue, and tells its errors.
+/// Reads the queue, and reports its errors.
 pub fn read_with_errors<S: TokenSink, E: ErrorSink>(
     sink: &mut S,
     reader: &mut Reader,
@@ -29,7 +29,7 @@ pub fn read_with_errors<S: TokenSink, E: ErrorSink>(
         (at_first reader.old.place (spot_behind_mark reader.old.at_start input.old spot.old) (S.meaning sink.old) (behind_mark reader.old.at_start input.old))
         errors.old S.node reader.new.place spot.new (S.meaning sink.new) input.new errors.new result }
 {
-    // Until the call has gone well.
+    // In case the call fails.
     reader.stage = Stage::Failed;
     let mut buffer = mem::replace(input, BufferQueue::new(alloc));
     let text = buffer.as_str();

@@ -1,4 +1,4 @@
-//! A piece of the input, read one byte after another, with its parse errors.
+//! A chunk of the input, read one byte after another, with its parse errors.
 
 ghost use Rattle.std.specs.Prelude.{◌≡◌, ◌<◌, ◌≤◌, ◌⊎◌, ℕ, List, [], ◌∷◌, ◌++◌, true, false, IsSome, IfSome, OnOk, IfOk, drop, length, encode_utf8, string_bytes, if◌then◌else◌};
 ghost use Rattle.h5_states.specs.declared.errors.ParseError.TheVariants as wrong;
@@ -24,13 +24,13 @@ use h5_token::{BuildFault, TokenSink};
 use std::alloc::{AllocError, Global};
 use std::mem;
 
-// The first character of a text, its bytes, and what follows them.
+// Returns the first character of a text, its bytes, and what follows them.
 fn first_character<'a>(rest: &'a str) -> Option<(char, &'a str, &'a str)>
     ensures front { IfSome result (λ first. first.1.now ≡ encode_utf8 first.0) }
     ensures rest { IfSome result (λ first. rest.entry.now ≡ encode_utf8 first.0 ++ first.2.now) }
     ensures some { 0 < length rest.entry.now → IsSome result }
 {
-    // That it is text holds for where it may be cut.
+    // For the split: `rest` is UTF-8.
     let _bytes = rest.as_bytes();
     let mut chars = rest.chars();
     match chars.next() {
@@ -42,8 +42,8 @@ fn first_character<'a>(rest: &'a str) -> Option<(char, &'a str, &'a str)>
     }
 }
 
-// Tells the errors of the input at its first character, if its first byte is new, and those of the row at that byte, which come
-// first where they stand before it.
+// Reports the errors of the input at its first character, if its first byte is new, and those of the row at that byte; if the
+// state has seen bytes ahead, first those of the row.
 fn tell_front<E: ErrorSink>(c: char, b: u8, machine: &Machine, spot: Spot, errors: &mut E)
     ensures { (xs behind : List ℕ) → xs ≡ encode_utf8 c ++ behind → TellsRow E.Told errors.old errors.new (place_of machine.now) spot xs b }
 {
@@ -59,7 +59,7 @@ fn tell_front<E: ErrorSink>(c: char, b: u8, machine: &Machine, spot: Spot, error
     }
 }
 
-// Hands the text on that is held, if there is some. What is emitted next begins in this line.
+// Passes the held text to the sink, if there is any. What is emitted next begins in this line.
 fn hand_on_held<S: TokenSink, E: ErrorSink>(
     sink: &mut S,
     emitted: &mut Emitted,
@@ -81,7 +81,7 @@ fn hand_on_held<S: TokenSink, E: ErrorSink>(
     hand_on_text(sink, text, began)
 }
 
-// Hands the text on that is held, where a token may be handed on at this byte, or a question asked.
+// Passes the held text to the sink if this byte may emit a token or require a check of the adjusted current node.
 fn hand_on_before<S: TokenSink, E: ErrorSink>(
     sink: &mut S,
     machine: &Machine,
@@ -101,7 +101,7 @@ fn hand_on_before<S: TokenSink, E: ErrorSink>(
     hand_on_held(sink, emitted, machine.began(), errors)
 }
 
-// Begins a CDATA section where the adjusted current node isn't in the HTML namespace, and elsewhere tells an error.
+// Begins a CDATA section if the adjusted current node isn't in the HTML namespace, else reports an error.
 fn ask_node<S: TokenSink, E: ErrorSink>(
     sink: &S,
     machine: &mut Machine,
@@ -118,8 +118,8 @@ fn ask_node<S: TokenSink, E: ErrorSink>(
     errors.error(ParseError::CdataInHtmlContent, at);
 }
 
-// One byte is taken, at the front of a rest, whose errors were told. A text is held only where no token comes of it, and no
-// question.
+// Takes one byte, at the start of `rest`, whose errors were reported. Text may be held only if the byte neither emits a token
+// nor requires a check of the adjusted current node.
 fn telling_byte_step<'a, S: TokenSink, E: ErrorSink>(
     sink: &mut S,
     machine: &mut Machine,
@@ -163,7 +163,7 @@ fn telling_byte_step<'a, S: TokenSink, E: ErrorSink>(
     }
 }
 
-// A LINE FEED behind a CARRIAGE RETURN is dropped.
+// Drops a LINE FEED after a CARRIAGE RETURN.
 fn drop_step<'a>(
     machine: &mut Machine,
     out: &mut String,
@@ -182,7 +182,7 @@ fn drop_step<'a>(
     Ok(behind_byte(rest))
 }
 
-// A character that is no ASCII is taken, in a state that takes it as it is.
+// Takes a character that isn't ASCII, in a state that takes it as it is.
 fn wide_step(
     machine: &mut Machine,
     out: &mut String,
@@ -199,7 +199,7 @@ fn wide_step(
     Ok(())
 }
 
-// Whether a byte is taken with the whole character that begins with it.
+// Returns true if a byte is taken together with the whole character that it begins.
 fn is_taken_wide(machine: &Machine, b: u8) -> bool
     ensures wide { result ≡ true → (128 ≤ b) × (takes_wide machine.now.at ≡ true) }
     ensures narrow { result ≡ false → takes_wide machine.now.at ≡ true → b < 128 }
@@ -207,7 +207,8 @@ fn is_taken_wide(machine: &Machine, b: u8) -> bool
     b >= 128 && machine.takes_wide()
 }
 
-// One step at a byte that isn't dropped. A text is held only where no token comes of it, and no question.
+// Takes one step at a byte that isn't dropped. Text may be held only if the byte neither emits a token nor requires a check of
+// the adjusted current node.
 fn front_step<'a, S: TokenSink, E: ErrorSink>(
     sink: &mut S,
     machine: &mut Machine,
@@ -236,7 +237,7 @@ fn front_step<'a, S: TokenSink, E: ErrorSink>(
     telling_byte_step(sink, machine, emitted, spot, errors, b, rest)
 }
 
-// One step, off a rest that isn't empty.
+// Takes one step, on a suffix that isn't empty.
 fn telling_step<'a, S: TokenSink, E: ErrorSink>(
     sink: &mut S,
     machine: &mut Machine,
@@ -264,7 +265,7 @@ fn telling_step<'a, S: TokenSink, E: ErrorSink>(
     front_step(sink, machine, emitted, spot, errors, *b, rest)
 }
 
-// Reads a piece, and tells its errors. All that it emits is handed on.
+// Reads a chunk, and reports its errors. Everything that it emits is passed to the sink.
 fn read_bytes<'a, S: TokenSink, E: ErrorSink>(
     sink: &mut S,
     machine: &mut Machine,
@@ -281,7 +282,7 @@ fn read_bytes<'a, S: TokenSink, E: ErrorSink>(
     'steps: while !rest.is_empty() {
         match telling_step(sink, machine, &mut emitted, spot, errors, rest)? {
             Progress::GoesOn(after) => {
-                // That it is text holds for the loop's next turn.
+                // For the loop's next turn: `after` is UTF-8.
                 let _bytes = after.as_bytes();
                 rest = after;
             }
@@ -294,7 +295,7 @@ fn read_bytes<'a, S: TokenSink, E: ErrorSink>(
     }
 }
 
-/// Reads a piece, and tells its errors. All that it emits is handed on.
+/// Reads a chunk, and reports its errors. Everything that it emits is passed to the sink.
 pub fn read_telling<'a, S: TokenSink, E: ErrorSink>(
     sink: &mut S,
     machine: &mut Machine,

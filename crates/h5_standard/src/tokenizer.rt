@@ -1,4 +1,4 @@
-//! The reader, over what takes its tokens.
+//! The tokenizer with its sink.
 
 ghost use Rattle.std.specs.Prelude.{◌≡◌, Err};
 ghost use Rattle.h5_states.specs.End.{Closes};
@@ -15,7 +15,7 @@ use h5_token::states::RawKind;
 use h5_token::{BuildFault, TokenSink, states};
 use std::alloc::Global;
 
-/// The standard reader. It reads all of HTML (HTML standard, section 13.2.5).
+/// The standard tokenizer. It reads all of HTML (HTML standard, section 13.2.5).
 #[derive(Drop)]
 pub struct Tokenizer<Sink: TokenSink> {
     pub sink: Sink,
@@ -37,7 +37,7 @@ fn text_of(state: Option<states::State>) -> TextKind
 }
 
 impl<Sink: TokenSink> Tokenizer<Sink> {
-    /// A reader that has read nothing, and whose first line is 1. It takes no memory.
+    /// Returns a new tokenizer, in line 1. Allocates nothing.
     pub fn new(alloc: Global, sink: Sink, opts: TokenizerOpts) -> Tokenizer<Sink>
         ensures sink { result.sink ≡ sink }
         ensures reader { result.reader ≡ record { at_start = opts.discard_bom; place = first_place opts; stage = Stage.Reading } }
@@ -63,18 +63,18 @@ impl<Sink: TokenSink> Tokenizer<Sink> {
         }
     }
 
-    /// Reads what waits in the queue, and hands on all that it emits, each token with the line in which it begins: 1 and the
-    /// newlines before its first character in all that was fed. CR LF, CR and LF are one newline each, and the count stays
-    /// at the most a `u64` holds.
+    /// Reads the queue, and passes everything that it emits to the sink, each token with the line in which it begins: 1 plus
+    /// the newlines before its first character in all that was fed. CR LF, CR and LF are one newline each, and the count stops
+    /// at the maximum of `u64`.
     ///
-    /// Where it answers `Done` the queue is empty. Where it answers `Script` or `EncodingIndicator`, that is the sink's answer
-    /// to the last token, and what follows it is in the queue. A fault of the sink is answered as it is; after any fault the
-    /// reader has failed.
+    /// If it returns `Done`, the queue is empty. `Script` or `EncodingIndicator` is the sink's reply to the last token; what
+    /// follows that is in the queue. Fails with the sink's error, or with `Memory`, and after any error the tokenizer has
+    /// failed. Fails with `Failed` if a call failed before, and with `AfterEnd` after `end`.
     pub fn feed(
         &mut self,
         input: &mut BufferQueue,
     ) -> Result<TokenizerResult<Sink::Handle>, BuildFault>
-        // After a fault, and after the end, nothing is handed on and nothing changes.
+        // After an error, and after the end, nothing is passed and nothing changes.
         ensures failed { self.old.reader.stage ≡ Stage.Failed
             → (result ≡ Err BuildFault.Failed) × (self.new ≡ self.old) × (input.new ≡ input.old) }
         ensures after_end { self.old.reader.stage ≡ Stage.Ended
@@ -90,11 +90,11 @@ impl<Sink: TokenSink> Tokenizer<Sink> {
         }
     }
 
-    /// Hands on what the end makes of what is under construction, with the line in which that begins, and then the end of the
-    /// file, with the line behind all that was fed, and tells the sink of the end.
+    /// Passes what the end of the input makes of what is being built to the sink, with the line in which that begins, then the
+    /// end-of-file token, with the line after all that was fed, and calls the sink's `end`.
     ///
-    /// An unfinished comment and an unfinished doctype are given, and an unfinished tag is dropped. A fault of the sink is
-    /// answered as it is; after any fault the reader has failed. After the end both calls answer `AfterEnd`.
+    /// An unfinished comment or doctype is emitted, and an unfinished tag is dropped. Fails like `feed`. After the end both
+    /// calls fail with `AfterEnd`.
     pub fn end(&mut self) -> Result<(), BuildFault>
         ensures failed { self.old.reader.stage ≡ Stage.Failed → (result ≡ Err BuildFault.Failed) × (self.new ≡ self.old) }
         ensures after_end { self.old.reader.stage ≡ Stage.Ended → (result ≡ Err BuildFault.AfterEnd) × (self.new ≡ self.old) }

@@ -28,7 +28,7 @@ found_none t (ElementEntry n u ∷ l) found h = at (is_alike t u) h (found_none 
     at true k go = absurd (omega (arith, k))
     at false k go = go k
 
--- the earliest of them is the one that goes, where there is one
+-- the earliest of them is the one that goes, if there is one
 pub record IsEarliest (t : TagText) (l : List Entry) (i : ℕ) : Type 0 where
   pub within : i < length l
   pub goes : without_place i l ≡ without_earliest t l

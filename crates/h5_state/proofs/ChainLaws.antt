@@ -29,7 +29,7 @@ in_passed n m s other = ap (λ b. cond b true (is_in n s)) (ne_eqb n m (λ e. ot
 older_passed : (n m : ℕ) (s : List ℕ) → m ≢ n → older_than n (m ∷ s) ≡ older_than n s
 older_passed n m s other = ap (λ b. cond b s (older_than n s)) (ne_eqb m n other)
 
--- the nodes of the oldest open elements, so many of them, the newest first
+-- the nodes of the n oldest open elements, the newest first
 abbrev pub under : {H : Type 0} → (H → ℕ) → OpenElements H → ℕ → List ℕ
 under node open_elems count = reverse (map (open_node node) (take count (values open_elems.elements)))
 

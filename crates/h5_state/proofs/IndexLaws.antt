@@ -13,7 +13,7 @@ use Rattle.h5_state.specs.Listed.{IsHandedOver, with_handle}
 use Rattle.h5_state.proofs.KeyLaws.{as_many_keys, key_at, keyed_insert, keyed_kept, keyed_less, keyed_set}
 use Rattle.h5_state.proofs.NumberedLaws.{numbered_kept, numbered_less, numbered_moved, numbered_set, same_number}
 
--- what holds, holds where memory is refused
+-- a fact holds also if an allocation fails
 pub on_err : {T E P : Type 0} (r : Result T E) → P → OnErr r P
 on_err (Ok x) p = tt
 on_err (Err e) p = p
@@ -22,7 +22,7 @@ module _ {H : Type 0} (old new : Index) (items : List (FormatEntry H)) (kept : I
   with_keys : {ns : List (Numbered (Unit {0}))} {ks : List (Numbered (Unit {0}))} {news : List (FormatEntry H)} → AreKept ns ks old.key_numbers news → AreKept ns ks new.key_numbers news
   with_keys {ns} {ks} {news} h = subst (λ (k : KeyNumbers). AreKept ns ks k news) (sym same) h
 
-  -- the oldest, so many of them
+  -- the `count` oldest entries
   pub index_kept : (count : ℕ) → new.numbers ≡ take count old.numbers → new.keys ≡ take count old.keys → IsIndexOf new (take count items)
   index_kept count e f = with_keys (record {
     have_names = numbered_kept old.numbers items kept.have_names count new.numbers (take count items) e refl;

@@ -43,7 +43,7 @@ link_at {T} items k x h e =
 pub stack_of-set : {T : Type 0} (items : List (Item T)) (k : ℕ) (y : Item T) → stack_of (set items k y) ≡ set (stack_of items) k (numbered y)
 stack_of-set {T} items k y = map-set (λ (item : Item T). numbered item) items k y
 
--- what is seen of a place doesn't matter where it is seen anew
+-- what is seen of a place is irrelevant if it is set again
 pub stack_of-set_over : {T : Type 0} (items mids : List (Item T)) (k : ℕ) (y : Item T) (one : Numbered T) → stack_of mids ≡ stack_of items → set (stack_of (set mids k y)) k one ≡ set (stack_of items) k one
 stack_of-set_over items mids k y one e = ap (λ s. set s k one) (stack_of-set mids k y) ∙ set-set (stack_of mids) k (numbered y) one ∙ ap (λ s. set s k one) e
 
@@ -90,7 +90,7 @@ entered {T} items table k x y h e f o r z =
     (get_or-set_same (links_of items) k y.older 0 (omega (arith, h, length-links items)) ∙ o ∙ ap (λ m. get_or table m 0) num)
     (linked_same k (numbers_of items) (numbers_of items) (links_of items) (set (links_of items) k y.older) table refl (sym (take-set (links_of items) k y.older)) z))))
 
--- the oldest items, so many of them, are the same in another list
+-- the k oldest items are equal to those of another list
 pub linked_under : {T : Type 0} (items news : List (Item T)) (table : List ℕ) (k : ℕ) → take k items ≡ take k news → AreLinked items table k → AreLinked news table k
 linked_under {T} items news table k e z = linked_same k (numbers_of items) (numbers_of news) (links_of items) (links_of news) table numbers_same links_same z
   where

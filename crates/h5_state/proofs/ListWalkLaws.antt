@@ -1,4 +1,4 @@
--- What is found from the newest entry down, where entries of other numbers are passed over.
+-- A walk from the newest entry down, which skips entries of other numbers.
 use Rattle.std.proofs.Common.{◌≡◌, ◌≢◌, ◌+◌, ◌-◌, ◌<◌, ◌≤◌, ℕ, zero, suc, Bool, true, false, cond, max, List, [], ◌∷◌, ◌++◌, drop, get_or, length, map, reverse, take, Some, None, refl, ap, sym, subst, ◌∙◌, add-zero, arith}
 use Rattle.std.proofs.lemmas.List.{get_or-take, get_or_default, length-map, length-reverse, length-take-le, map-append, reverse-append, reverse-reverse, take-append-drop, take_all, take_more}
 use Rattle.std.proofs.lemmas.Slice.Eq.{bytes_eq-Decides}
@@ -25,7 +25,7 @@ pub at_newest : (ns : List ℕ) (n count k : ℕ) → newest_of n (reverse (take
 at_newest ns n count k e high =
     sym (ap (λ s. get_or s k 0) (reverse-reverse (take count ns)) ∙ get_or-take count ns k 0 high) ∙ newest_at n k (reverse (take count ns)) e
 
--- the same of all
+-- as above, for all
 pub above_whole : (ns : List ℕ) (n k : ℕ) → newest_of n (reverse ns) ≤ k → k < length ns → get_or ns k 0 ≢ n
 above_whole ns n k low high = above_newest ns n (length ns) k (subst (λ xs. newest_of n (reverse xs) ≤ k) (sym (take_all (length ns) ns (omega arith))) low) high (omega arith)
 
@@ -33,7 +33,7 @@ pub at_whole : (ns : List ℕ) (n k : ℕ) → newest_of n (reverse ns) ≡ k + 
 at_whole ns n k e high = at_newest ns n (length ns) k (ap (λ xs. newest_of n (reverse xs)) (take_all (length ns) ns (omega arith)) ∙ e) high
 
 module _ {H : Type 0} (node : H → ℕ) (items : List (FormatEntry H)) where
-  -- the oldest entries, so many of them, the newest first
+  -- the n oldest entries, the newest first
   abbrev pub under : ℕ → List Entry
   under count = entries_of node (take count items)
 
@@ -57,7 +57,7 @@ module _ {H : Type 0} (node : H → ℕ) (items : List (FormatEntry H)) where
       ∙ ap (λ l. reverse l) (map-append (entry_of node) (take k items) (drop k items))
       ∙ reverse-append (map (entry_of node) (take k items)) (map (entry_of node) (drop k items))
 
--- an entry of another number is no marker and doesn't have the name
+-- an entry of another number isn't a marker and doesn't have the name
 pub passed_over : {H : Type 0} (node : H → ℕ) (name : List ℕ) (x : FormatEntry H) (l : List Entry) → entry_number x ≢ name_number name → entry_number x ≢ 0
     → newest_named name (entry_of node x ∷ l) ≡ newest_named name l
 passed_over node name Marker l other element = absurd (element refl)

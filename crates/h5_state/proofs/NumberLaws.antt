@@ -126,7 +126,7 @@ module _ (N : NameNumbers) where
       at true false same f = refl
       at false b same f = refl
 
-  -- the same of elements of MathML and SVG
+  -- as above, for elements of MathML and SVG
   pub has_foreign : (local : List ℕ) (k : ℕ) (name : QualName) (m : ℕ) → foreign_number N local ≡ Some k → name_number N name ≡ Some m → (m == k) ≡ is_foreign_named local name
   unfolding name_number foreign_number
   has_foreign local k name m e = at (is_same_text name.ns html_namespace)

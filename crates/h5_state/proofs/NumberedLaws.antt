@@ -33,7 +33,7 @@ module _ {H T : Type 0} (stack : List (Numbered T)) (items : List (FormatEntry H
       ∙ sym (map-append (λ (entry : FormatEntry H). entry_number entry) items (x ∷ []))
       ∙ sym (ap (λ xs. map (λ (entry : FormatEntry H). entry_number entry) xs) f)
 
-  -- the oldest, so many of them
+  -- the k oldest values
   pub numbered_kept : (k : ℕ) (less : List (Numbered T)) (news : List (FormatEntry H)) → less ≡ take k stack → news ≡ take k items → AreNumbered less news
   numbered_kept k less news e f =
       ap (λ (s : List (Numbered T)). numbers s) e

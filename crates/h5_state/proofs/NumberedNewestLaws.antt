@@ -1,4 +1,4 @@
--- What it says that the newest value of a number stands at a place.
+-- What follows if the newest value of a number is at a place.
 use Rattle.std.proofs.Common.{◌≡◌, ◌+◌, ◌<◌, ◌≤◌, ℕ, get_or, List, [], ◌∷◌, ◌++◌, length, reverse, ap, sym, subst, ◌∙◌, inl, inr, arith}
 use Rattle.std.proofs.lemmas.Bool.{cases_eq, cases_lt}
 use Rattle.std.proofs.lemmas.List.{get_or_append_left, get_or_at, length-reverse, reverse-append}

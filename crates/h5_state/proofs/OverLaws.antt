@@ -1,4 +1,4 @@
--- What is kept beside open elements above others, and that it stays right where the same is known of those.
+-- The summaries of open elements above others stay right if the same is known about those others.
 use Rattle.std.proofs.Common.{◌≡◌, ◌+◌, ◌==◌, ◌&&◌, ◌||◌, ℕ, Bool, cond, true, false, codes, not, drop, take, List, [], ◌∷◌, ◌++◌, append_assoc, length, map, reverse, refl, ap, sym, ◌∙◌, arith}
 use Rattle.std.proofs.lemmas.List.{length-map, length-reverse, map-append, reverse-append}
 use Rattle.std.proofs.Math.Bool.{beq}

@@ -18,7 +18,7 @@ newest_le n (m ∷ older) = elim (cases_eq m n) [
   | inr d ↦ (let h = newest_other n m older d in let l = newest_le n older in omega arith)
 ]
 
--- so many values, and one more
+-- the k oldest values, and one more
 seen_more : (ns : List ℕ) (k : ℕ) → k < length ns → reverse (take (k + 1) ns) ≡ get_or ns k 0 ∷ reverse (take k ns)
 seen_more ns k h = ap reverse (take_more ns k 0 h) ∙ reverse-append (take k ns) (get_or ns k 0 ∷ [])
 
@@ -71,7 +71,7 @@ linked_more ns links table k h r e x = record {
   ];
 }
 
--- only the oldest values matter, so many of them
+-- only the `count` oldest values matter
 pub linked_same : (count : ℕ) (ns os links ms table : List ℕ) → take count ns ≡ take count os → take count links ≡ take count ms → IsLinked ns links table count → IsLinked os ms table count
 linked_same count ns os links ms table e f x = record {
   linked = λ k l. sym (at k l links ms f) ∙ x.linked k l ∙ ap (λ z. newest_of z (reverse (take k ns))) (at k l ns os e) ∙ ap (λ s. newest_of (get_or os k 0) (reverse s)) (under k l);

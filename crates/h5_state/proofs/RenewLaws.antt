@@ -1,4 +1,4 @@
--- What is kept beside open elements, where it is made anew.
+-- The summaries of open elements, recomputed.
 use Rattle.std.proofs.Common.{◌≡◌, ◌≢◌, ◌+◌, ◌-◌, ◌<◌, ◌≤◌, ◌^◌, ℕ, suc, Some, List, [], ◌∷◌, ◌++◌, drop, length, map, reverse, take, get_or, ap, sym, ◌∙◌, arith}
 use Rattle.std.proofs.Math.ListN.{set}
 use Rattle.std.proofs.Math.Seq.{map-set_same, take-append_seam}

@@ -1,4 +1,4 @@
--- Links and tables of places, where another number comes to stand at a place.
+-- Links and tables of places when the number at a place is replaced.
 use Rattle.std.proofs.Common.{◌≡◌, ◌+◌, ◌-◌, ◌<◌, ◌≤◌, ◌⊎◌, ℕ, zero, suc, get_or, set, take, List, length, reverse, refl, ap, sym, subst, ◌∙◌, inl, inr, arith, Option, Some, None}
 use Rattle.std.proofs.lemmas.Bool.{cases_eq, cases_lt}
 use Rattle.std.proofs.lemmas.List.{get_or-set_other, get_or-set_same, get_or-take, length-reverse, length-set, length-take-le, reverse-reverse, take-set-le, take_all}
@@ -9,14 +9,14 @@ use Rattle.h5_state.specs.Replacing.{IsNextAt, IsNextNewer, links_with, older_by
 use Rattle.h5_state.proofs.NumberedNewestLaws.{none_above}
 use Rattle.h5_state.proofs.PlaceLaws.{newest_le, newest_more, newest_same}
 
--- the newest of a number among the oldest values, so many of them
+-- the newest value of a number among the k oldest values
 abbrev pub newest_below : List ℕ → ℕ → ℕ → ℕ
 newest_below ns n k = newest_of n (reverse (take k ns))
 
 pub newest_below_le : (ns : List ℕ) (n k : ℕ) → k ≤ length ns → newest_below ns n k ≤ k
 newest_below_le ns n k h = omega (arith, newest_le n (reverse (take k ns)), length-reverse (take k ns), length-take-le k ns h)
 
--- where the number stands, the newest is no older
+-- if the number is at place j, the newest one isn't older
 newest_ge : (ns : List ℕ) (n j k : ℕ) → j < k → k ≤ length ns → get_or ns j 0 ≡ n → j < newest_below ns n k
 newest_ge ns n j k h l e = elim (cases_lt j (newest_below ns n k)) [
   | inl i ↦ i
@@ -82,7 +82,7 @@ is_next ns p n k (Some j) x h l e f = elim (cases_lt k j) [
 next_number : (ns : List ℕ) (p n k : ℕ) (next : Option ℕ) → IsNextNewer n p ns next → next ≡ Some k → IsNextAt n p ns k
 next_number ns p n k next x e = subst (λ o. IsNextNewer n p ns o) e x
 
--- where there is none, the newest of all isn't above the place
+-- if there is none, the newest of all isn't above the place
 no_next : (ns : List ℕ) (p n : ℕ) (next : Option ℕ) → p < length ns → IsNextNewer n p ns next → newest_below ns n (length ns) ≤ p + 1 → next ≡ None
 no_next ns p n None h x f = refl
 no_next ns p n (Some j) h x f = absurd (omega (arith, x.above, newest_ge ns n j (length ns) x.inside (omega arith) x.here, f))
@@ -119,7 +119,7 @@ table_still (Some j) number older n table d = refl
 table_here : (next : Option ℕ) (number older : ℕ) (table : List ℕ) → number < length table → next ≡ None → get_or (table_with next number older table) number 0 ≡ older
 table_here next number older table h e = ap (λ o. get_or (table_with o number older table) number 0) e ∙ get_or-set_same table number older 0 h
 
--- where no value of a number stands between, the newest below is that below the place, if the place has another number
+-- if no value of a number stands between, the newest below is that below the place, if the place has another number
 below : (ns : List ℕ) (p n k : ℕ) → p < k → k ≤ length ns → newest_below ns n k ≤ p + 1 → (n ≡ get_or ns p 0 → ⊥) → newest_below ns n k ≡ newest_below ns n p
 below ns p n k h l f d = elim (changed ns p (get_or ns p 0) n k h l) [
   | inl b ↦ absurd (omega (arith, b.0, f))

@@ -1,4 +1,4 @@
--- Open elements where others stood.
+-- Open elements that replace others.
 use Rattle.std.proofs.Common.{◌≡◌, ◌+◌, ◌<◌, ◌≤◌, ℕ, Option, Some, List, [], ◌∷◌, ◌++◌, drop, length, map, reverse, set, take, refl, ap, sym, subst, ◌∙◌, inl, inr, arith}
 use Rattle.std.proofs.lemmas.List.{drop-set-lt, length-set, map-append, map-set, reverse-append, reverse-reverse, take-set-le, take_more_set}
 use Rattle.std.proofs.lemmas.Simd.{map-map}

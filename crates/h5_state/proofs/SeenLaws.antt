@@ -1,4 +1,4 @@
--- A list that grows at its end, seen with the newest first, where one is taken out, put in or exchanged.
+-- A list that grows at its end, seen with the newest first, when an item is removed, inserted or replaced.
 use Rattle.std.proofs.Common.{◌≡◌, ◌+◌, ◌<◌, ◌≤◌, ℕ, suc, drop-cons, get_or, List, [], ◌∷◌, ◌++◌, append_assoc, length, length-append, map, reverse, take, drop, ap, sym, ◌∙◌, arith}
 use Rattle.std.proofs.Math.ListN.{set}
 use Rattle.std.proofs.Math.Seq.{drop-append_seam, take-append_seam}
@@ -25,7 +25,7 @@ module _ {X Y : Type 0} (f : X → Y) where
   pub seen_cut : (xs : List X) (at : ℕ) → seen xs ≡ seen (drop at xs) ++ seen (take at xs)
   seen_cut xs at = ap seen (sym (take-append-drop at xs)) ∙ seen-append (take at xs) (drop at xs)
 
-  -- so many of the oldest
+  -- the n oldest values
   pub seen_at : (xs : List X) (at : ℕ) (newer older : List Y) → seen xs ≡ newer ++ older → at ≡ length older → (newer ≡ seen (drop at xs)) × (older ≡ seen (take at xs))
   seen_at xs at newer older e h =
       let inside : at ≤ length xs = omega (arith, h, ap length e, length-append newer older, length-map xs f, length-reverse (map f xs)) in

@@ -1,4 +1,4 @@
--- The stack as it is kept, and as it is seen.
+-- The stack as it is stored, and as contracts see it.
 use Rattle.std.proofs.Common.{◌≡◌, ◌-◌, ◌+◌, ◌<◌, ◌≤◌, ℕ, zero, suc, get_or, take, length-append, Bool, true, false, cond, List, [], ◌∷◌, ◌++◌, length, map, reverse, Option, None, Some, inl, codes, refl, ap, sym, subst, ◌∙◌, arith}
 use Rattle.std.specs.Prelude.{slice_get, unwrap_or}
 use Rattle.h5_names.specs.declared.qualified.QualName.{QualName}
@@ -57,7 +57,7 @@ first_none (x ∷ xs) e = absurd (cc)
 abbrev pub seen_world : World → Seen → List ℕ → World
 seen_world w s stack = record w { forest = s.forest; seen_quirks = s.quirks; stack = stack }
 
--- the world where the current node was popped, and the sink was told
+-- the world after the current node was popped, and the sink was notified
 pub popped_world : {H : Type 0} (node : H → ℕ) (choices : SinkChoices) (w : World) (old new : Seen) (ys xs : List H) (x : H) → ys ≡ xs ++ x ∷ [] → new ≡ after_pop choices (node x) old
     → seen_world w new (reverse (map node xs)) ≡ pop choices (seen_world w old (reverse (map node ys)))
 unfolding pop
@@ -87,7 +87,7 @@ pub template_test : (f : Forest) (n : ℕ) (name : QualName) (b : Bool) → kind
 unfolding is_html_named html_namespace
 template_test f n name b e t = ap is_html_template (named f n name e) ∙ sym t
 
--- where something is put into a template, and into another node
+-- if something is put into a template, and into another node
 pub inside_template : (f : Forest) (n c : ℕ) → is_html_template (name_in f n) ≡ true → contents_of f n ≡ Some c → inside f n ≡ c
 inside_template f n c t e = ap (λ b. cond b (unwrap_or (contents_of f n) n) n) t ∙ ap (λ o. unwrap_or o n) e
 

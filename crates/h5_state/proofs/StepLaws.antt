@@ -20,6 +20,6 @@ sound_rearranged law old new state k r = record {
   stamped = k.stamped;
 }
 
--- the sink changed, but for what is seen of it
+-- the sink changed, except for what is seen of it
 pub sound_told : {S H O : Type 0} (law : Ghosts S H O) (old new : S) (state : State H) → world_of law new state ≡ world_of law old state → IsSound law old state → IsSound law new state
 sound_told law old new state e k = record { sound = subst Sound (sym e) k.sound; kept = subst (λ (w : World). IsKept state.open_elems (names_of w)) (sym e) k.kept; stamped = k.stamped }

@@ -1,4 +1,4 @@
--- What is kept beside the open elements, where elements come or leave.
+-- The summaries of open elements when elements are pushed or removed.
 use Rattle.std.proofs.Common.{◌≡◌, Bool, true, false, cond, ◌||◌, ◌<◌, ◌≤◌, ◌-◌, ◌+◌, ℕ, nat_lt, take, drop, get_or, Some, List, [], ◌∷◌, ◌++◌, append_assoc, length, length-append, ◌^◌, map, reverse, refl, ap, subst, sym, ◌∙◌, zero-add, arith}
 use Rattle.std.specs.Int.{from_bool}
 use Rattle.std.specs.Prelude.{slice_get}
@@ -61,7 +61,7 @@ module _ {H : Type 0} (node : H → ℕ) (f : Forest) where
   pub few_templates : (xs : List (OpenElement H)) → open_templates (names xs) ≤ length xs
   few_templates xs = omega (arith, count_by-le-length is_html_template (names xs), length-map (reverse (map (open_node node) xs)) (name_in f), length-reverse (map (open_node node) xs), length-map xs (open_node node))
 
-  -- so many of the oldest
+  -- the `count` oldest elements
   pub kept_under : (xs : List (OpenElement H)) (count : ℕ) → kept xs ≡ summaries (names xs) → kept (take count xs) ≡ summaries (names (take count xs))
   kept_under xs count h =
       let split_names : names xs ≡ names (drop count xs) ++ names (take count xs) = ap (map (name_in f)) (cut_in_two (open_node node) xs count) ∙ map-append (name_in f) (reverse (map (open_node node) (drop count xs))) (reverse (map (open_node node) (take count xs))) in
@@ -95,7 +95,7 @@ summaries_pushed {H} xs ys x name old new e s n k =
     ∙ ap (λ z. summary_of name old ∷ z) k
     ∙ ap summaries (sym n)
 
--- numbers of names, where there is one more, or one less, or so many of the oldest
+-- numbers of names, with one more, with one less, or of the oldest ones
 number_pushed : (N : NameNumbers) (ns : List ℕ) (k : ℕ) (name : QualName) (names : List QualName) → name_number N name ≡ Some k → map Some (reverse ns) ≡ map (name_number N) names
     → map Some (reverse (ns ++ k ∷ [])) ≡ map (name_number N) (name ∷ names)
 number_pushed N ns k name names e h = ap (λ (z : List ℕ). map Some z) (reverse-append ns (k ∷ [])) ∙ ap (λ o. o ∷ map Some (reverse ns)) (sym e) ∙ ap (λ z. name_number N name ∷ z) h
@@ -142,7 +142,7 @@ kept_later : (s : Summary) (rest : List Summary) (names : List QualName) → s �
 kept_later s rest [] e = absurd (cc)
 kept_later s rest (n ∷ ns) e = cc
 
--- what is kept beside open elements and their numbers, where elements come or leave
+-- what is stored with open elements and their numbers, where elements come or leave
 module _ {H : Type 0} where
   abbrev summary_at : OpenElement H → Summary
   summary_at element = element.summary
@@ -185,7 +185,7 @@ module _ {H : Type 0} where
   pub cut_values : (old new : List (Numbered (OpenElement H))) (count : ℕ) → new ≡ take count old → values new ≡ take count (values old)
   cut_values old new count e = ap (λ (z : List (Numbered (OpenElement H))). values z) e ∙ sym (take-map value_at count old)
 
-  -- the numbers of the oldest, so many of them
+  -- the numbers of the `count` oldest elements
   module _ (node : H → ℕ) (f : Forest) (old : OpenElements H) (count : ℕ) (h : IsKept old (names node f (values old.elements))) where
     numbered_under : map Some (reverse (take count (numbers old.elements))) ≡ map (name_number old.numbers) (names node f (take count (values old.elements)))
     numbered_under =

@@ -111,7 +111,7 @@ unfolding stack_under
 stack_count node state count h =
     omega (arith, h, open_length (open_node node) (take count (elements_of state)), length-take count (elements_of state), open_length (open_node node) (elements_of state))
 
--- so many elements are left of a stack that is cut
+-- the number of elements that remain of a stack that is cut
 pub cut_under : {H : Type 0} (node : H → ℕ) (state : State H) (is : QualName → Bool) (ns : List QualName) (s : List ℕ) (count : ℕ) → s ≡ reverse (map (open_node node) (elements_of state))
     → count ≡ length (cut_through is ns s) → stack_under node state count ≡ cut_through is ns s
 cut_under node state is ns s count e c = left_under node state s (cut_through is ns s) count e (cut_is_suffix is ns s) c
@@ -149,7 +149,7 @@ cut_inside is (n ∷ ns) (m ∷ s) e h =
       | false ↦ λ k. let later = cut_inside is ns s (omega arith) k in omega (arith, later)
     ]) h
 
--- where no foster parent is open
+-- if no foster parent is open
 pub no_foster : (f : Forest) (s : List ℕ) → in_scope is_foster_parent (λ n. false) (map (name_in f) s) ≡ false → from_foster_parent f s ≡ []
 no_foster f [] h = refl
 no_foster f (n ∷ s) h =

@@ -1,4 +1,4 @@
--- What the items of a stack are seen as.
+-- The stack that items represent.
 use Rattle.std.specs.Prelude.{ℕ, List, map}
 use Rattle.h5_state.specs.Numbered.{Numbered, numbers, one_of}
 use Rattle.h5_state.specs.Places.{IsLinked, IsPlaced, IsReached}
@@ -16,13 +16,13 @@ numbers_of items = numbers (stack_of items)
 abbrev pub links_of : {T : Type 0} → List (Item T) → List ℕ
 links_of {T} items = map (λ (item : Item T). item.older) items
 
--- of the oldest items, so many of them, the links and the table are right
+-- of the `count` oldest items the links are right, and so is the table for them
 abbrev pub AreLinked : {T : Type 0} → List (Item T) → List ℕ → ℕ → Type 0
 AreLinked items table count = IsLinked (numbers_of items) (links_of items) table count
 
 abbrev pub AreReached : {T : Type 0} → List (Item T) → List ℕ → Type 0
 AreReached items table = IsReached (numbers_of items) table
 
--- all of it is right
+-- the links of all items are right, and so is the table
 abbrev pub ArePlaced : {T : Type 0} → List (Item T) → List ℕ → Type 0
 ArePlaced items table = IsPlaced (numbers_of items) (links_of items) table

@@ -1,4 +1,4 @@
--- The numbers of keys: by them those entries are found that may be alike to a tag.
+-- The numbers of keys, by which the entries are found that may be alike to a tag.
 use Rattle.std.specs.Prelude.{◌≡◌, ◌≢◌, ◌<◌, ℕ, false, IfSome, List, Option, Some, length, slice_index, slice_index_or}
 use Rattle.std.specs.List.{AllZip}
 use Rattle.h5_token.specs.Keys.{IsKeyOf}
@@ -27,11 +27,11 @@ abbrev pub IsKeyed : {H : Type 0} → KeyNumbers → ℕ → FormatEntry H → T
 IsKeyed keys number (Element handle tag) = number ≢ 0 → HasKeyNumber keys (tag_text tag) number
 IsKeyed keys number Marker = number ≡ 0
 
--- a number for each entry
+-- each entry has its number
 abbrev pub AreKeyed : {H T : Type 0} → KeyNumbers → List (Numbered T) → List (FormatEntry H) → Type 0
 AreKeyed keys stack items = AllZip (IsKeyed keys) (numbers stack) items
 
--- each entry has both numbers
+-- both stacks have the right number for each entry
 pub record AreKept {H T U : Type 0} (named : List (Numbered T)) (keyed : List (Numbered U)) (keys : KeyNumbers) (items : List (FormatEntry H)) : Type 0 where
   pub have_names : AreNumbered named items
   pub have_keys : AreKeyed keys keyed items
@@ -40,20 +40,20 @@ pub record AreKept {H T U : Type 0} (named : List (Numbered T)) (keyed : List (N
 abbrev pub IsIndexOf : {H : Type 0} → Index → List (FormatEntry H) → Type 0
 IsIndexOf index items = AreKept index.numbers index.keys index.key_numbers items
 
--- the index of a list, if it has one
+-- the index, if the list has one, is right
 abbrev pub IsIndexed : {H : Type 0} → Option Index → List (FormatEntry H) → Type 0
 IsIndexed {H} index items = IfSome index (λ (one : Index). IsIndexOf one items)
 
--- numbers that were given stay
+-- assigned numbers stay
 abbrev pub StayKeyed : KeyNumbers → KeyNumbers → Type 0
 StayKeyed old new = (key : List ℕ) (number : ℕ) → key_number old key ≡ Some number → key_number new key ≡ Some number
 
--- of all tags whose keys have numbers, those that are alike to a tag have this one
+-- any tag that is alike to this one and whose key has a number, has this number
 pub record IsNumberOfAlike (keys : KeyNumbers) (tag : TagText) (number : ℕ) : Type 0 where
   pub some : number ≢ 0
   pub same : (other : TagText) (n : ℕ) → IsAlike tag other → HasKeyNumber keys other n → n ≡ number
 
--- entries with a number, that is another than this one, aren't alike to a tag
+-- an entry with a number other than this one isn't alike to a tag
 pub record AreOthers {H : Type 0} (tag : TagText) (number : ℕ) (keys : List ℕ) (items : List (FormatEntry H)) : Type 0 where
   pub as_many : length keys ≡ length items
   pub some : number ≢ 0

@@ -7,20 +7,20 @@ use Rattle.h5_tables.specs.declared.entry.FormatEntry.{FormatEntry}
 use Rattle.h5_tables.specs.declared.entry.FormatEntry.TheVariants.{Element, Marker}
 use Rattle.h5_state.specs.Numbered.{Numbered, numbers}
 
--- a number of a name: equal names have equal numbers, and others may share one
+-- the number of a name: equal names have equal numbers; other names may share it
 unfoldable pub name_number : List ℕ → ℕ
 name_number name = tag_of the_type (known_name_of name) + 1
 
--- that of a marker is none of a name
+-- the number of an entry; that of a marker isn't the number of any name
 abbrev pub entry_number : {H : Type 0} → FormatEntry H → ℕ
 entry_number (Element handle tag) = name_number tag.name
 entry_number Marker = 0
 
--- a number for each entry
+-- each entry has its number
 abbrev pub AreNumbered : {H T : Type 0} → List (Numbered T) → List (FormatEntry H) → Type 0
 AreNumbered {H} stack items = numbers stack ≡ map (λ (entry : FormatEntry H). entry_number entry) items
 
--- from a place on no entry is a marker, and the one right under it is one, if there is one
+-- from a place on no entry is a marker, and the one right below it is a marker, if there is one
 pub record IsAfterMarkers {H : Type 0} (place : ℕ) (items : List (FormatEntry H)) : Type 0 where
   pub within : place ≤ length items
   pub elements : (k : ℕ) (x : FormatEntry H) → place ≤ k → k < length items → x ≡ slice_index_or items k x → entry_number x ≢ 0

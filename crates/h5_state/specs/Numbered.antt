@@ -1,4 +1,4 @@
--- What contracts see of a stack of numbered values, and where the newest value of a number stands.
+-- What contracts see of a stack of numbered values, and the place of the newest value of a number.
 use Rattle.std.specs.Prelude.{ℕ, ◌+◌, ◌==◌, if◌then◌else◌, List, [], ◌∷◌, length, map, reverse, take}
 
 -- a value and its number
@@ -15,11 +15,12 @@ numbers {T} stack = map (λ (one : Numbered T). one.number) stack
 abbrev pub values : {T : Type 0} → List (Numbered T) → List T
 values {T} stack = map (λ (one : Numbered T). one.value) stack
 
--- one more than the place of the newest of a number, counted from the oldest; 0 where there is none. Numbers, the newest first
+-- one more than the place of the newest value of a number, counted from the oldest; 0 if there is none. The list has
+-- the numbers with the newest first
 abbrev pub newest_of : ℕ → List ℕ → ℕ
 newest_of number [] = 0
 newest_of number (n ∷ older) = if n == number then length older + 1 else newest_of number older
 
--- the same among the oldest values of a stack, so many of them
+-- `newest_of` among the `count` oldest values of a stack
 abbrev pub newest_under : {T : Type 0} → ℕ → List (Numbered T) → ℕ → ℕ
 newest_under number stack count = newest_of number (reverse (take count (numbers stack)))

@@ -1,4 +1,4 @@
--- What contracts see of a numbering: which texts have numbers, and which.
+-- What contracts see of a numbering: the texts that have numbers, and these numbers.
 use Rattle.std.specs.BTreeMap.{btree_map_len, get_by_text}
 use Rattle.std.specs.Prelude.{◌≡◌, ◌+◌, ℕ, List, Option, Some}
 use Rattle.h5_state.specs.declared.numbering.Numbering.{Numbering}
@@ -6,7 +6,7 @@ use Rattle.h5_state.specs.declared.numbering.Numbering.{Numbering}
 abbrev pub number_of : Numbering → List ℕ → Option ℕ
 number_of numbering text = get_by_text numbering.numbers text
 
--- the least number, and the one that comes next
+-- the least number, and the next one
 abbrev pub base_of : Numbering → ℕ
 base_of numbering = numbering.base
 

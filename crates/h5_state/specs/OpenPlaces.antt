@@ -1,10 +1,10 @@
--- Where open elements stand: places of the stack are counted from the root.
+-- The places of open elements on the stack, counted from the root.
 use Rattle.std.specs.Prelude.{◌≡◌, ℕ, length}
 use Rattle.h5_rules.specs.formatting.Adoption.{older_than}
 use Rattle.h5_rules.specs.stack.Order.{IsIn}
 use Rattle.h5_rules.specs.World.{World}
 
--- an element is open, and stands at this place
+-- an element is open, at this place
 pub record IsOpenAt (n place : ℕ) (w : World) : Type 0 where
   pub is_open : IsIn n w.stack
   pub here : place ≡ length (older_than n w.stack)

@@ -1,4 +1,4 @@
--- Open elements stand in place of others.
+-- Open elements that replace others.
 use Rattle.std.specs.Prelude.{◌≡◌, ℕ, List, Some, map, reverse, slice_set, take}
 use Rattle.h5_names.specs.declared.qualified.QualName.{QualName}
 use Rattle.h5_interface.specs.Forest.{Forest}
@@ -11,11 +11,11 @@ use Rattle.h5_state.specs.declared.name_numbers.NameNumbers.{NameNumbers}
 use Rattle.h5_state.specs.declared.open_element.OpenElement.{OpenElement}
 use Rattle.h5_state.specs.declared.open_element.OpenElements.{OpenElements}
 
--- the names of open elements, the oldest first, the newest name first
+-- the names of open elements; the elements have the oldest first, the names the newest
 abbrev pub names_in : {H : Type 0} → (H → ℕ) → Forest → List (OpenElement H) → List QualName
 names_in node f elements = map (name_in f) (reverse (map (open_node node) elements))
 
--- the elements' numbers are those of their names
+-- the stored numbers are those of the elements' names
 abbrev pub AreNumbered : {H : Type 0} → (H → ℕ) → Forest → OpenElements H → Type 0
 AreNumbered node f open_elems = map Some (reverse (numbers open_elems.elements)) ≡ map (name_number open_elems.numbers) (names_in node f (values open_elems.elements))
 
@@ -23,7 +23,7 @@ AreNumbered node f open_elems = map Some (reverse (numbers open_elems.elements))
 abbrev pub StayNumbered : NameNumbers → NameNumbers → Type 0
 StayNumbered old new = (name : QualName) (number : ℕ) → name_number old name ≡ Some number → name_number new name ≡ Some number
 
--- a node stands at a place, with its number and a stamp, and with what is kept of it above those that are older
+-- a node is at a place, with its number, a stamp, and the right summary over the older elements
 pub record IsPut {H : Type 0} (node : H → ℕ) (f : Forest) (n place stamp : ℕ) (old new : OpenElements H) : Type 0 where
   pub element : OpenElement H
   pub number : ℕ

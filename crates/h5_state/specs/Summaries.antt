@@ -1,4 +1,4 @@
--- What is kept beside the open elements, by their names.
+-- What is stored with the open elements, by their names.
 use Rattle.std.specs.Prelude.{◌≡◌, ◌<◌, ◌^◌, ◌||◌, ℕ, List, [], ◌∷◌, Some, codes, length, map, reverse}
 use Rattle.std.specs.List.{count_by}
 use Rattle.h5_names.specs.declared.qualified.QualName.{QualName}
@@ -18,11 +18,11 @@ use Rattle.h5_state.specs.declared.open_element.OpenElement.{OpenElement}
 use Rattle.h5_state.specs.declared.open_element.OpenElements.{OpenElements}
 use Rattle.h5_state.specs.declared.open_element.Summary.{Summary}
 
--- how many open elements are HTML `template`s
+-- the number of open HTML `template`s
 abbrev pub open_templates : List QualName → ℕ
 open_templates = count_by is_html_template
 
--- what is known of all open elements by their names, the newest first
+-- what is known about all open elements by their names, the newest first
 abbrev pub all_open : List QualName → AllOpen
 all_open names = record {
   unclosed = has_unclosed names;
@@ -36,24 +36,23 @@ all_open names = record {
   oldest_option = oldest_where (is_html_named (codes "option")) names;
 }
 
--- these sets hold an element of this name, of those that what is known of all open elements is made of
+-- the sets hold an element of this name, as far as `all_open` needs them
 pub record AreSetsOf (name : QualName) (sets : NameSets) : Type 0 where
   pub special : has_flag sets.flags set.Special ≡ is_special name
   pub scope : has_flag sets.flags set.DefaultScope ≡ is_default_scope name
   pub button : (has_flag sets.flags set.DefaultScope || has_flag sets.flags set.ButtonScope) ≡ is_button_scope name
   pub body_end : has_flag sets.flags set.BodyEndOk ≡ is_body_end_ok name
 
--- what is kept of an element of this name, above older ones of these names
+-- the summary of an element of this name, over older ones of these names
 abbrev pub summary_of : QualName → List QualName → Summary
 summary_of name older = record { special = is_special name; implied = is_implied name; all = all_open (name ∷ older) }
 
--- and what is kept of all
+-- the summaries of all
 abbrev pub summaries : List QualName → List Summary
 summaries [] = []
 summaries (name ∷ older) = summary_of name older ∷ summaries older
 
--- what is kept beside open elements of these names, the newest first, is what the names say, and so are their numbers;
--- places are numbers of 32 bits
+-- the summaries and numbers stored with open elements of these names, the newest first, are right; places fit 32 bits
 pub record IsKept {H : Type 0} (open_elems : OpenElements H) (names : List QualName) : Type 0 where
   pub summarized : reverse (map (λ (element : OpenElement H). element.summary) (values open_elems.elements)) ≡ summaries names
   pub numbered : map Some (reverse (numbers open_elems.elements)) ≡ map (name_number open_elems.numbers) names

@@ -1,4 +1,4 @@
--- What a turn did, as contracts of rules say it.
+-- Turns, as contracts of rules describe them.
 use Rattle.std.specs.Prelude.{Result, IfOk}
 use Rattle.std.specs.declared.alloc.AllocError.{AllocError}
 use Rattle.h5_token.specs.TokenText.{TagText, tag_text}
@@ -15,23 +15,23 @@ use Rattle.h5_rules.specs.World.{World}
 use Rattle.h5_state.specs.Steps.{Becomes, IsSound, errors_of, world_of}
 use Rattle.h5_state.specs.declared.state.State.{State}
 
--- how a turn ended: the token that takes another turn, and the answer, stand in the state
+-- the end of a turn: the token that is reprocessed, and the reply, are in the state
 abbrev pub turn_result : {H : Type 0} → ProcessResult → State H → TurnResult H
 turn_result ended.Done state = results.Done
 turn_result ended.DoneAckSelfClosing state = results.DoneAckSelfClosing
 turn_result (ended.Reprocess mode) state = results.Reprocess mode state.again
 turn_result ended.Answer state = results.Answer state.answer
 
--- the state changed in nothing that the world shows
+-- the state changes in nothing that the world shows
 abbrev pub KeepsWorld : {S H O : Type 0} → Ghosts S H O → S → State H → State H → Type 0
 KeepsWorld law sink old_state new_state = Becomes law (λ w. w) sink old_state sink new_state
 
--- a turn for a token followed a rule, unless it was refused memory; what there is then is sound, too
+-- a turn for a token that follows a rule, if no allocation failed; the state is sound in any case
 pub record FollowsRule {S H O : Type 0} (law : Ghosts S H O) (rule : World → Row) (token : TurnText) (old_sink : S) (old_state : State H) (new_sink : S) (new_state : State H) (result : Result ProcessResult AllocError) : Type 0 where
   pub follows : IfOk result (λ r. Follows law.choices law.node (rule (world_of law old_sink old_state)) token (world_of law old_sink old_state) (world_of law new_sink new_state) (errors_of law old_sink) (errors_of law new_sink) (turn_result r new_state))
   pub sound : IsSound law new_sink new_state
 
--- a tag, or any token, was taken by this rule
+-- a tag, or any token, is handled by this rule
 abbrev pub TakesTag : {S H O : Type 0} → Ghosts S H O → (TagText → World → Row) → Tag → S → State H → S → State H → Result ProcessResult AllocError → Type 0
 TakesTag law rule tag old_sink old_state new_sink new_state result = FollowsRule law (rule (tag_text tag)) (TagTurn (tag_text tag)) old_sink old_state new_sink new_state result
 

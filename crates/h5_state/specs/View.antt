@@ -1,4 +1,4 @@
--- What a builder's state and its sink mean together.
+-- The world of a builder's state and its sink.
 use Rattle.std.specs.Prelude.{◌≡◌, ℕ, List, ◌++◌, drop, map, reverse, take, option_map}
 use Rattle.h5_names.specs.declared.qualified.QualName.{QualName}
 use Rattle.h5_interface.specs.Forest.{Forest}
@@ -16,7 +16,7 @@ use Rattle.h5_state.specs.declared.state.State.{State}
 abbrev pub open_node : {H : Type 0} → (H → ℕ) → OpenElement H → ℕ
 open_node node element = node element.handle
 
--- that of a listed one
+-- the node of a listed element
 abbrev pub listed_node : {H : Type 0} → (H → ℕ) → Listed H → ℕ
 listed_node node listed = node listed.handle
 
@@ -24,7 +24,7 @@ listed_node node listed = node listed.handle
 abbrev pub elements_of : {H : Type 0} → State H → List (OpenElement H)
 elements_of state = values state.open_elems.elements
 
--- lists that grow at their end are seen with the newest first
+-- the world; lists that grow at their end are seen with the newest first
 unfoldable pub world : {S H : Type 0} → (S → Seen) → (H → ℕ) → S → State H → World
 world sees node sink state = record {
   forest = (sees sink).forest;
@@ -45,24 +45,24 @@ world sees node sink state = record {
   context = option_map node state.context_elem;
 }
 
--- the names of the oldest open elements, so many of them, the newest first
+-- the names of the `count` oldest open elements, the newest first
 unfoldable pub names_under : {S H : Type 0} → (S → Seen) → (H → ℕ) → S → State H → ℕ → List QualName
 names_under sees node sink state count =
     map (name_in (sees sink).forest) (reverse (map (open_node node) (take count (elements_of state))))
 
--- those elements
+-- the nodes of those elements
 unfoldable pub stack_under : {H : Type 0} → (H → ℕ) → State H → ℕ → List ℕ
 stack_under node state count = reverse (map (open_node node) (take count (elements_of state)))
 
--- the others, which stand above those
+-- the nodes of all other elements, which are newer
 unfoldable pub stack_over : {H : Type 0} → (H → ℕ) → State H → ℕ → List ℕ
 stack_over node state count = reverse (map (open_node node) (drop count (elements_of state)))
 
--- what is kept beside the oldest ones, so many of them
+-- the summaries of the `count` oldest open elements
 unfoldable pub kept_under : {H : Type 0} → State H → ℕ → List Summary
 kept_under state count = reverse (map (λ element. element.summary) (take count (elements_of state)))
 
--- what is kept beside open elements, the oldest first, is right above older ones of these names
+-- the summaries of open elements, the oldest first, are right over older ones of these names
 abbrev pub IsKeptOver : {H : Type 0} → (H → ℕ) → Forest → List (OpenElement H) → List QualName → Type 0
 IsKeptOver {H} node f elements older =
     reverse (map (λ (element : OpenElement H). element.summary) elements) ++ summaries older

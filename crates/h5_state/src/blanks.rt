@@ -1,4 +1,4 @@
-//! Blanks, and the runs of a text (Infra standard: ASCII whitespace).
+//! ASCII whitespace (Infra standard), and the runs of a text.
 ghost use Rattle.std.specs.Prelude.{◌≡◌, ◌≢◌, ◌<◌, ℕ, [], false, take, slice_index, IsCharBoundary};
 ghost use Rattle.h5_rules.specs.Blanks.{all_blank, is_blank, rest_of};
 ghost use Rattle.h5_rules.specs.Rows.{SetFramesetOkByText};
@@ -15,7 +15,7 @@ fn is_blank_byte(b: u8) -> bool
     b == b' ' || b == b'\n' || b == b'\t' || b == b'\r' || b == 12
 }
 
-/// Whether all of a text is blank.
+/// Returns true if all of a text is ASCII whitespace.
 pub fn is_blank_text(text: &str) -> bool
     ensures { result ≡ all_blank text.now }
 {
@@ -27,7 +27,7 @@ pub fn is_blank_text(text: &str) -> bool
     true
 }
 
-/// The frameset flag goes off if the text has a character that is no blank.
+/// Sets the frameset-ok flag to "not ok" if the text has a character that isn't ASCII whitespace.
 #[tactic(auto, unfolding(crate::specs::View::world, h5_rules::specs::Changes::set_frameset_ok_by_text, h5_rules::specs::World::names_of))]
 pub fn set_frameset_ok_by_text<S: TreeSink>(sink: &S, state: &mut State<S::Handle>, text: &str)
     requires { IsSound S.TreeSink sink.now state.old }
@@ -36,7 +36,7 @@ pub fn set_frameset_ok_by_text<S: TreeSink>(sink: &S, state: &mut State<S::Handl
     state.frameset_ok = state.frameset_ok && is_blank_text(text);
 }
 
-// How many blanks a text begins with.
+// The length of the whitespace at the start of a text.
 fn blank_len(text: &str) -> usize
     ensures boundary { IsCharBoundary text.now result }
     ensures blank { rest_of (take result text.now) ≡ [] }
@@ -50,7 +50,7 @@ fn blank_len(text: &str) -> usize
     text.len()
 }
 
-// How much of a text there is before its first blank.
+// The length of a text before its first whitespace.
 fn solid_len(text: &str) -> usize
     ensures boundary { IsCharBoundary text.now result }
     ensures solid { all_blanks (take result text.now) ≡ [] }
@@ -84,7 +84,7 @@ fn splits_text(mode: InsertionMode) -> bool
     )
 }
 
-/// The first run of a text in a mode, outside foreign content: whether it is blank, and its length.
+/// Returns the length of the first run of a text in a mode, outside foreign content, and if it is whitespace.
 pub fn first_run(mode: InsertionMode, text: &str) -> (SplitStatus, usize)
     requires { text.now ≢ [] }
     ensures boundary { IsCharBoundary text.now result.1 }

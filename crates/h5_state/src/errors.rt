@@ -1,4 +1,4 @@
-//! Parse errors (HTML standard, section 13.2.2, "Parse errors"). What a message says is no part of a contract.
+//! Parse errors (HTML standard, section 13.2.2, "Parse errors"). No contract depends on the text of a message.
 ghost use Rattle.std.specs.Prelude.{◌<◌};
 ghost use Rattle.h5_state.specs.Steps.{TellsErrors, errors_of};
 
@@ -8,7 +8,7 @@ use h5_tables::{Token, TreeError};
 use h5_token::{Tag, TagKind};
 use std::alloc::AllocError;
 
-/// Tells the sink of a parse error, by a text of its own. Nothing else changes.
+/// Reports a parse error with the given message. Changes nothing else.
 #[tactic(auto, unfolding(crate::specs::View::world))]
 pub fn tell_message<S: TreeSink>(sink: &mut S, state: &State<S::Handle>, message: &str)
     ensures told { TellsErrors S.TreeSink sink.old sink.new state.now }
@@ -17,8 +17,8 @@ pub fn tell_message<S: TreeSink>(sink: &mut S, state: &State<S::Handle>, message
     sink.parse_error(message);
 }
 
-/// Tells the sink of a parse error. Nothing else changes.
-pub fn tell_error<S: TreeSink>(sink: &mut S, state: &State<S::Handle>, error: TreeError)
+/// Reports a parse error. Changes nothing else.
+pub fn report_error<S: TreeSink>(sink: &mut S, state: &State<S::Handle>, error: TreeError)
     ensures told { TellsErrors S.TreeSink sink.old sink.new state.now }
     ensures noted { 0 < errors_of S.TreeSink sink.new }
 {
@@ -43,7 +43,7 @@ fn write_token(out: &mut String, token: &Token) -> Result<(), AllocError> {
     }
 }
 
-// The front of an exact message. Nothing, where exact messages aren't asked for, or memory is refused.
+// The prefix of an exact message. `None` if exact messages aren't enabled, or if an allocation fails.
 fn begin_exact<H>(state: &State<H>) -> Option<String> {
     if !state.opts.exact_errors {
         return None;
@@ -53,7 +53,7 @@ fn begin_exact<H>(state: &State<H>) -> Option<String> {
     Some(out)
 }
 
-// The end of one.
+// Completes an exact message.
 fn end_exact<H>(state: &State<H>, message: String) -> Option<String> {
     let mode = state.mode;
     let mut out = message;
@@ -73,25 +73,26 @@ fn exact_token<H>(state: &State<H>, token: &Token) -> Option<String> {
     end_exact(state, out)
 }
 
-/// Tells the sink that a tag wasn't expected; with `exact_errors`, which tag, and in which insertion mode, unless
-/// memory is refused for the message. Nothing else changes.
+/// Reports an unexpected tag; with `exact_errors`, the message names the tag and the insertion mode, unless an
+/// allocation fails. Changes nothing else.
 pub fn unexpected_tag<S: TreeSink>(sink: &mut S, state: &State<S::Handle>, tag: &Tag)
     ensures told { TellsErrors S.TreeSink sink.old sink.new state.now }
     ensures noted { 0 < errors_of S.TreeSink sink.new }
 {
     match exact_tag(state, tag) {
         Some(message) => tell_message(sink, state, message.as_str()),
-        None => tell_error(sink, state, TreeError::UnexpectedToken),
+        None => report_error(sink, state, TreeError::UnexpectedToken),
     }
 }
 
-/// The same of any token.
+/// Reports an unexpected token; with `exact_errors`, the message names the token and the insertion mode, unless an
+/// allocation fails. Changes nothing else.
 pub fn unexpected<S: TreeSink>(sink: &mut S, state: &State<S::Handle>, token: &Token)
     ensures told { TellsErrors S.TreeSink sink.old sink.new state.now }
     ensures noted { 0 < errors_of S.TreeSink sink.new }
 {
     match exact_token(state, token) {
         Some(message) => tell_message(sink, state, message.as_str()),
-        None => tell_error(sink, state, TreeError::UnexpectedToken),
+        None => report_error(sink, state, TreeError::UnexpectedToken),
     }
 }

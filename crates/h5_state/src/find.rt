@@ -1,4 +1,4 @@
-//! An open element is looked for in the stack by its handle.
+//! Finds an open element on the stack by its handle.
 ghost use Rattle.std.specs.Prelude.{◌≡◌, ◌<◌, ◌+◌, ◌∷◌, ℕ, false, true, MatchOption, Some, is_some, length};
 ghost use Rattle.h5_interface.specs.Forest.{IsElement};
 ghost use Rattle.h5_tables.specs.TagSets.{is_default_scope};
@@ -17,7 +17,7 @@ use super::state::State;
 use h5_interface::TreeSink;
 use h5_tables::default_scope;
 
-/// The handle of the open element at a place.
+/// Returns the handle of the open element at a place, which must be less than the number of open elements.
 #[tactic(auto, unfolding(crate::specs::View::world, crate::specs::View::stack_under))]
 pub fn handle_at<'a, S: TreeSink>(
     sink: &S,
@@ -32,8 +32,8 @@ pub fn handle_at<'a, S: TreeSink>(
     &state.open_elems.elements.get(place).handle
 }
 
-// Whether the open element at a place has a lower stamp than this one: then an element that is above all that have isn't open
-// there, nor below.
+// The open element at a place has a lower stamp than `since`. Then an element above all elements with a lower stamp is
+// open neither there nor below.
 #[tactic(auto, unfolding(crate::specs::View::world, crate::specs::View::stack_under))]
 fn is_lower<S: TreeSink>(sink: &S, state: &State<S::Handle>, place: usize, since: u32) -> bool
     requires { place < length (world_of S.TreeSink sink.now state.now).stack }
@@ -42,10 +42,11 @@ fn is_lower<S: TreeSink>(sink: &S, state: &State<S::Handle>, place: usize, since
     state.open_elems.elements.get(place).stamp < since
 }
 
-// So few open elements are all compared with one: it takes less than to ask for its name and the number of that.
+// With at most this many open elements, each is compared: that takes less than getting the name and its number.
 const FEW: usize = 16;
 
-// Where an element is open; the walk begins at the current node, and ends where an element has a lower stamp than this one.
+// The place of an open element; the walk begins at the current node, and ends at an element with a lower stamp than
+// `since`.
 #[tactic(auto, using(h5_rules::proofs::changes::SoundLaws::element_is_node))]
 fn find_among_all<S: TreeSink>(
     sink: &S,
@@ -73,8 +74,8 @@ fn find_among_all<S: TreeSink>(
     None
 }
 
-// Where an element is open whose name has this number: the walk goes from the newest open element of the number to ever
-// older ones, and ends where one has a lower stamp than this one.
+// The place of an open element whose name has this number: the walk goes from the newest open element of the number to
+// older ones, and ends at one with a lower stamp than `since`.
 #[tactic(auto, using(h5_rules::proofs::changes::SoundLaws::element_is_node))]
 fn find_numbered<S: TreeSink>(
     sink: &S,
@@ -105,8 +106,8 @@ fn find_numbered<S: TreeSink>(
     None
 }
 
-// Where an element is open, that is above all elements which have a lower stamp than this one. Where many are open, only
-// those that share the number of its name are compared with it.
+// The place of an open element above which no element has a lower stamp than `since`. If many are open, only those that
+// share the number of its name are compared with it.
 fn find_since<S: TreeSink>(
     sink: &S,
     state: &State<S::Handle>,
@@ -126,13 +127,13 @@ fn find_since<S: TreeSink>(
     match state.open_elems.numbers.find(sink.elem_name(handle)) {
         Ok(Some(number)) => find_numbered(sink, state, handle, number, since),
         Ok(None) => None,
-        // Without memory for the name in lower case.
+        // There is no memory for the name in lower case.
         Err(_) => find_among_all(sink, state, handle, since),
     }
 }
 
-/// Where an element is open, counted from the root. Where many are, only those that share the number of its name are compared
-/// with it.
+/// Returns the place of an open element, counted from the root. If many are open, only those that share the number of
+/// its name are compared with it.
 pub fn find_open<S: TreeSink>(
     sink: &S,
     state: &State<S::Handle>,
@@ -147,7 +148,7 @@ pub fn find_open<S: TreeSink>(
     find_since(sink, state, handle, 0)
 }
 
-// Whether an element stands at a place, which may be none of the stack.
+// The element is at this place, which may be past the end of the stack.
 #[tactic(auto, using(h5_rules::proofs::changes::SoundLaws::element_is_node))]
 fn stands_at<S: TreeSink>(
     sink: &S,
@@ -166,10 +167,10 @@ fn stands_at<S: TreeSink>(
     sink.same_node(handle_at(sink, state, place), handle)
 }
 
-// At so many places an element is looked for: it stands lower than it did where one left that stood below it.
+// The number of places at which an element is searched first: it moves down when an element below it is removed.
 const NEAR: usize = 3;
 
-// Where an element stands, if that is a place or right below.
+// The place of an element, if it is `place` or right below.
 fn find_near<S: TreeSink>(
     sink: &S,
     state: &State<S::Handle>,
@@ -190,9 +191,9 @@ fn find_near<S: TreeSink>(
     None
 }
 
-/// Where an element is open that is listed as a formatting element, counted from the root. It is looked for first where it
-/// came to stand when it was listed, and right below, and else not below an element that has a lower stamp: so it takes few
-/// steps where it stands there still, and where it is closed.
+/// Returns the place of an open element that is listed as a formatting element, counted from the root. It is searched
+/// first at the place where it was when it was listed and right below, and then not below an element with a lower
+/// stamp: so it takes few steps if the element is still there, and if it is closed.
 pub fn find_listed<S: TreeSink>(
     sink: &S,
     state: &State<S::Handle>,
@@ -211,7 +212,7 @@ pub fn find_listed<S: TreeSink>(
     find_since(sink, state, &listed.handle, listed.stamp)
 }
 
-/// Whether this element is open and in scope.
+/// Returns true if this element is open and in scope.
 #[tactic(auto, using(h5_rules::proofs::changes::SoundLaws::element_is_node))]
 pub fn is_node_in_scope<S: TreeSink>(sink: &S, state: &State<S::Handle>, handle: &S::Handle) -> bool
     requires sound { IsSound S.TreeSink sink.now state.now }

@@ -1,4 +1,4 @@
-//! The list.
+//! The list of active formatting elements.
 ghost use Rattle.std.specs.Prelude.{◌≡◌, ◌<◌, ◌≤◌, ◌↔◌, ◌∷◌, ◌++◌, [], ℕ, IsSome, MatchOption, OnErr, OnOk, is_some, length, slice_index_or, vec_len};
 ghost use Rattle.std.specs.List.{insert, remove};
 ghost use Rattle.std.specs.Option.{option_to_list};
@@ -17,7 +17,7 @@ use h5_token::Tag;
 use std::alloc::{AllocError, Global};
 use std::marker::Model;
 
-// The entry at a place becomes that of another element, with its tag.
+// The entry at a place gets another element, and keeps its tag.
 fn set_element<Handle: Drop>(entries: &mut Vec<FormatEntry<Handle>>, place: usize, handle: Handle)
     requires { place < vec_len entries.old }
     ensures { IsHandedOver handle place entries.old.items entries.new.items }
@@ -27,11 +27,11 @@ fn set_element<Handle: Drop>(entries: &mut Vec<FormatEntry<Handle>>, place: usiz
     }
 }
 
-// So many entries after the last marker may be alike.
+// At most this many entries after the last marker may be alike.
 const MOST_ALIKE: usize = 3;
 
-/// The list of active formatting elements. A long one has an index: of each name it knows where its newest entry stands, and
-/// of each entry which others may be alike.
+/// The list of active formatting elements. A long list has an index, with the place of the newest entry of each name,
+/// and with the entries that may be alike to an entry.
 ///
 /// Contracts see it as the list of its entries, the oldest first. Places are counted from the oldest.
 pub struct FormattingList<Handle> {
@@ -63,7 +63,7 @@ impl<Handle> Model for FormattingList<Handle> {
 impl<Handle> FormattingList<Handle> {
     ghost use Rattle.h5_tables.specs.declared.entry.FormatEntry.{FormatEntry as EntryAt};
 
-    /// An empty list.
+    /// Returns an empty list.
     pub fn new(alloc: Global) -> FormattingList<Handle>
         ensures { result ≡ [] }
     {
@@ -73,14 +73,14 @@ impl<Handle> FormattingList<Handle> {
         }
     }
 
-    /// How many entries there are.
+    /// Returns the number of entries.
     pub fn len(&self) -> usize
         ensures { result ≡ length self.now }
     {
         self.entries.len()
     }
 
-    /// The entry at a place.
+    /// Returns the entry at a place, which must be less than `len`.
     pub fn get(&self, place: usize) -> &FormatEntry<Handle>
         requires { place < length self.now }
         ensures { result.now ≡ slice_index_or self.now place result.now }
@@ -88,14 +88,14 @@ impl<Handle> FormattingList<Handle> {
         &self.entries[place]
     }
 
-    /// All entries, the oldest first.
+    /// Returns all entries, the oldest first.
     pub fn as_slice(&self) -> &[FormatEntry<Handle>]
         ensures { result.now ≡ self.now }
     {
         self.entries.as_slice()
     }
 
-    /// An entry becomes the newest. It is refused where memory is.
+    /// Adds an entry as the newest. Fails with `AllocError` if an allocation fails; then the list is unchanged.
     pub fn push(&mut self, entry: FormatEntry<Handle>) -> Result<(), AllocError>
     where
         Handle: Drop,
@@ -111,7 +111,7 @@ impl<Handle> FormattingList<Handle> {
         Ok(())
     }
 
-    /// The newest entry is taken off.
+    /// Removes the newest entry, and returns it.
     pub fn pop(&mut self) -> Option<FormatEntry<Handle>>
         ensures some { IsSome result ↔ (0 < length self.old) }
         ensures value { self.old ≡ self.new ++ option_to_list result }
@@ -123,7 +123,7 @@ impl<Handle> FormattingList<Handle> {
         self.entries.pop()
     }
 
-    /// The entry at a place is taken out, and those above it move down by one.
+    /// Removes the entry at a place, which must be less than `len`, and returns it. The entries above move down by one.
     pub fn remove(&mut self, place: usize) -> FormatEntry<Handle>
         requires { place < length self.old }
         ensures value { result ≡ slice_index_or self.old place result }
@@ -133,8 +133,8 @@ impl<Handle> FormattingList<Handle> {
         self.entries.remove(place)
     }
 
-    /// The entry at a place comes to stand at another one, which isn't lower, and those between move down by one. It takes no
-    /// memory.
+    /// Moves the entry at a place to another one, which must not be lower; those between move down by one. It doesn't
+    /// allocate.
     pub fn move_up(&mut self, from: usize, to: usize)
     where
         Handle: Drop,
@@ -146,7 +146,7 @@ impl<Handle> FormattingList<Handle> {
         move_up(&mut self.entries, from, to);
     }
 
-    /// The element of the entry at a place is another one, and its tag stays. A marker stays what it is.
+    /// Replaces the element of the entry at a place, and keeps its tag. A marker stays as it is.
     pub fn set_handle(&mut self, place: usize, handle: Handle)
     where
         Handle: Drop,
@@ -156,8 +156,8 @@ impl<Handle> FormattingList<Handle> {
         set_element(&mut self.entries, place, handle);
     }
 
-    /// Where the newest entry of a name stands, of those after the last marker. In a long list it takes one step for a name that
-    /// HTML knows.
+    /// Returns the place of the newest entry of a name after the last marker. In a long list this takes one step for a
+    /// name that HTML knows.
     pub fn find_newest_named(&self, name: &LocalName) -> Option<usize>
         ensures found { (node : Handle → ℕ) → is_some result ≡ is_some (newest_named name.now (entries_of node self.now)) }
         ensures place { (node : Handle → ℕ) → MatchOption result (Unit {0}) (λ place. IsNewestNamedAt name.now place (entries_of node self.now)) }
@@ -166,8 +166,9 @@ impl<Handle> FormattingList<Handle> {
         find_newest_named(&self.entries, &self.index, name)
     }
 
-    /// A place with no entry of a name from there up to another one. In a long list, where the other one is its end or has that
-    /// name, the entry right below it has the name, if HTML knows it, and it takes one step.
+    /// Returns a place such that no entry from there up to `below` has the name. In a long list, if `below` is its end
+    /// or has that name, and HTML knows the name, the entry right below the place has the name, and this takes one
+    /// step.
     pub fn pass_others(&self, name: &LocalName, below: usize) -> usize
         requires { below ≤ length self.now }
         ensures within { result ≤ below }
@@ -176,8 +177,8 @@ impl<Handle> FormattingList<Handle> {
         pass_others(&self.entries, &self.index, name, below)
     }
 
-    /// The place of the earliest entry after the last marker that is alike to a tag, if as many are as may be. In a long list
-    /// those are passed over that have other keys.
+    /// Returns the place of the earliest entry after the last marker that is alike to a tag, if there are as many as
+    /// allowed. In a long list entries with other keys are skipped.
     pub fn find_surplus(&self, tag: &Tag) -> Option<usize>
         ensures within { MatchOption result (Unit {0}) (λ place. place < length self.now) }
         ensures few { (node : Handle → ℕ) → MatchOption result (count_alike (tag_text tag.now) (entries_of node self.now) < 3)

@@ -1,6 +1,6 @@
 //! The index of a long list: the numbers of its entries, by names and by keys.
 //!
-//! A short list has none: to walk over it takes less than to keep an index.
+//! A short list has none: walking over it takes less than keeping an index.
 ghost use Rattle.std.specs.Prelude.{◌≡◌, ◌<◌, ◌≤◌, ◌∷◌, ◌++◌, [], List, IfOk, OnErr, OnOk, length, slice_index_or, take, vec_len};
 ghost use Rattle.std.specs.List.{insert, remove};
 ghost use Rattle.h5_state.specs.Numbered.{Numbered};
@@ -14,21 +14,21 @@ use crate::NumberedStack;
 use h5_tables::FormatEntry;
 use std::alloc::AllocError;
 
-// So many entries make a list long.
+// A list of this many entries is long.
 const MANY: usize = 16;
 
 /// The numbers of the entries of a list.
 #[derive(Drop)]
 pub struct Index {
-    /// By their names.
+    /// The numbers by names.
     pub(super) numbers: NumberedStack<()>,
-    /// By their keys.
+    /// The numbers by keys.
     pub(super) keys: NumberedStack<()>,
     pub(super) key_numbers: KeyNumbers,
 }
 
 impl Index {
-    // An entry becomes the newest. It is refused where memory is.
+    // An entry is added as the newest.
     fn push<Handle>(&mut self, entry: &FormatEntry<Handle>) -> Result<(), AllocError>
         ensures ok { OnOk result ((items : List (EntryAt Handle)) → IsIndexOf self.old items → IsIndexOf self.new (items ++ entry.now ∷ [])) }
         ensures err { OnErr result ((items : List (EntryAt Handle)) → IsIndexOf self.old items → IsIndexOf self.new items) }
@@ -42,7 +42,7 @@ impl Index {
         Ok(())
     }
 
-    // The oldest entries stay, so many of them.
+    // The `count` oldest entries stay.
     fn truncate(&mut self, count: usize)
         ensures numbers { self.new.numbers ≡ take count self.old.numbers }
         ensures keys { self.new.keys ≡ take count self.old.keys }
@@ -52,7 +52,7 @@ impl Index {
         self.keys.truncate(count);
     }
 
-    // The entry at a place is taken out.
+    // The entry at a place is removed.
     fn remove(&mut self, place: usize)
         requires numbers { place < length self.old.numbers }
         requires keys { place < length self.old.keys }
@@ -64,7 +64,7 @@ impl Index {
         self.keys.remove(place);
     }
 
-    // The entry at a place comes to stand at another one, which isn't lower.
+    // The entry at a place moves to another one, which isn't lower.
     fn move_up(&mut self, from: usize, to: usize)
         requires order { from ≤ to }
         requires numbers { to < length self.old.numbers }
@@ -77,7 +77,7 @@ impl Index {
         self.keys.move_up(from, to);
     }
 
-    // The index of these entries. It is refused where memory is.
+    // The index of these entries.
     fn of<Handle>(entries: &Vec<FormatEntry<Handle>>) -> Result<Index, AllocError>
         ensures { IfOk result (λ index. IsIndexOf index entries.now.items) }
     {
@@ -94,7 +94,7 @@ impl Index {
     }
 }
 
-/// An entry becomes the newest of these. It is refused where memory is.
+/// Adds an entry to the index, as the newest. If an allocation fails, the index stays right for the old entries.
 pub(super) fn push_index<Handle>(
     index: &mut Option<Index>,
     entries: &Vec<FormatEntry<Handle>>,
@@ -110,7 +110,7 @@ pub(super) fn push_index<Handle>(
     }
 }
 
-/// The oldest of these entries stay, so many of them. An empty list has no index.
+/// Keeps the `count` oldest entries. An empty list has no index.
 pub(super) fn truncate_index<Handle>(
     index: &mut Option<Index>,
     entries: &Vec<FormatEntry<Handle>>,
@@ -126,7 +126,7 @@ pub(super) fn truncate_index<Handle>(
     }
 }
 
-/// The entry at a place is taken out of these.
+/// Removes the entry at a place from the index.
 pub(super) fn remove_index<Handle>(
     index: &mut Option<Index>,
     entries: &Vec<FormatEntry<Handle>>,
@@ -141,7 +141,7 @@ pub(super) fn remove_index<Handle>(
     }
 }
 
-/// The entry at a place comes to stand at another one among these, which isn't lower.
+/// Moves the entry at a place to another one, which isn't lower.
 pub(super) fn move_index<Handle>(
     index: &mut Option<Index>,
     entries: &Vec<FormatEntry<Handle>>,
@@ -158,7 +158,7 @@ pub(super) fn move_index<Handle>(
     }
 }
 
-/// These entries get an index where they are many. Where memory is refused for it, they stay without one.
+/// Builds an index if there are many entries. If an allocation fails, they stay without one.
 pub(super) fn build_index<Handle>(index: &mut Option<Index>, entries: &Vec<FormatEntry<Handle>>)
     requires { IsIndexed index.old entries.now.items }
     ensures { IsIndexed index.new entries.now.items }

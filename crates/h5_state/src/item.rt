@@ -1,6 +1,6 @@
-//! A value of a stack, with what is kept beside it.
+//! A value of a stack, with what the stack stores with it.
 
-// A value, its number, and the place of the next older value of its number: one more than that, and 0 where there is none.
+// A value, its number, and one more than the place of the next older value with the same number, or 0 if there is none.
 #[derive(Drop)]
 pub(super) struct Item<T> {
     pub(super) value: T,

@@ -1,4 +1,4 @@
-//! The numbers of keys. Entries whose tags are alike have the same key, so an entry with another isn't alike.
+//! The numbers of keys. Entries whose tags are alike have the same key, so an entry with another key isn't alike.
 ghost use Rattle.std.specs.Prelude.{◌≡◌, ◌<◌, IfOk, length};
 ghost use Rattle.h5_state.specs.Numbering.{base_of};
 
@@ -7,17 +7,17 @@ use h5_tables::FormatEntry;
 use h5_token::{Tag, tag_key};
 use std::alloc::{AllocError, Global};
 
-// The number of an entry that has no key.
+// The number of an entry without a key.
 pub(super) const NO_KEY: u32 = 0;
 
-// Keys have numbers from here on.
+// The first number of a key.
 const FIRST_KEY: u32 = 1;
 
-// The number that is looked for where no entry has the key: none has it.
+// The number that is searched if no entry has the key; no entry has it.
 const NO_ENTRY: u32 = 0xffff_ffff;
 
-/// Entries get keys only where so many stand after the last marker: fewer are compared one by one. So no memory is taken
-/// for keys on a page that has few formatting elements open at a time.
+/// Entries get keys only if at least this many are after the last marker: fewer are compared one by one. So no memory
+/// is used for keys on a page with few formatting elements open at a time.
 pub(super) const FEW: usize = 10;
 
 /// Gives each key a number.
@@ -31,14 +31,14 @@ impl KeyNumbers {
     ghost use Rattle.h5_token.specs.TokenText.{tag_text};
     ghost use Rattle.h5_state.specs.Keys.{HasKeyNumber, IsKeyed, IsNumberOfAlike, StayKeyed};
 
-    /// No key has a number yet.
+    /// Returns a value without any key.
     pub(super) fn new(alloc: Global) -> KeyNumbers {
         KeyNumbers {
             texts: Numbering::new(alloc, FIRST_KEY),
         }
     }
 
-    /// The number that the key of a tag has, or one that no entry has. It is refused where memory is.
+    /// Returns the number of a tag's key, or a number that no entry has if the key has none.
     pub(super) fn find(&self, tag: &Tag) -> Result<u32, AllocError>
         ensures { IfOk result (λ number. IsNumberOfAlike self.now (tag_text tag.now) number) }
     {
@@ -49,7 +49,7 @@ impl KeyNumbers {
         }
     }
 
-    // The number of the key of a tag, which gets one where it has none.
+    // The number of a tag's key, which gets a new one if it has none.
     fn number_tag(&mut self, tag: &Tag) -> Result<u32, AllocError>
         ensures ok { IfOk result (λ number. HasKeyNumber self.new (tag_text tag.now) number) }
         ensures stay { StayKeyed self.old self.new }
@@ -58,7 +58,8 @@ impl KeyNumbers {
         self.texts.number(key.as_str())
     }
 
-    /// The number of an entry that is pushed, where so many stand after the last marker. It is refused where memory is.
+    /// Returns the number of an entry that is pushed, if there are enough entries after the last marker; otherwise
+    /// `NO_KEY`.
     pub(super) fn number<Handle>(
         &mut self,
         entry: &FormatEntry<Handle>,

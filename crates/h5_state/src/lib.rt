@@ -1,33 +1,18 @@
-//! The state of a tree builder, and single steps over it (HTML standard, section 13.2.4, "Parse state").
+//! The state of a tree builder, and single steps over it (HTML standard, section 13.2.4, "Parse state"). The crate
+//! depends on the definitions in `h5_rules`. Begin with `specs/View.antt` (the world of a state and a sink),
+//! `specs/Steps.antt` (the effect of a step on it), `src/state.rt` and `src/steps.rt`.
 //!
-//! `state` has the state, and `open_element` an open element with what is kept beside it, so that questions about all
-//! open elements need no walk; `push` opens one, `replace` has some stand where others stood, and `renew` makes anew what is
-//! kept. `name_numbers` has the numbers of names, `newest` where the newest element of a kind stands, `name_test` and
-//! `set_test` what is asked of a name, and `scopes` what is in scope (section 13.2.4.2). `open_elems` and `find` ask of the
-//! stack of open elements besides, and pop from it. `steps` changes one field or the current node, and `turn` what a turn
-//! leaves for what follows it; `errors` tells parse errors (section 13.2.2), `blanks` cuts texts into runs, and
-//! `pending_text` keeps text of a table back (section 13.2.6.4.10).
+//! The stack of open elements: `open_element` has an open element with its summary, by which tests of all open elements
+//! need no walk (`push`, `replace`, `renew` keep it right); `newest`, `scopes`, `open_elems` and `find` test and search
+//! the stack, `name_test` and `set_test` a name; `name_numbers` numbers the names. `turn` has what a turn leaves,
+//! `errors` reports parse errors, `blanks` splits texts into runs, and `pending_text` buffers text of a table.
 //!
-//! `formatting_list` has the list of active formatting elements (section 13.2.4.3). A long one has an index, in `index`: of
-//! each name it knows where its newest entry stands, and of each entry which others may be alike, without a walk over all
-//! entries. `numbers` has the numbers by which entries are found: each has that of its tag's name, and a marker one of its own.
-//! `keys` has the numbers of keys: entries that are alike have the same key, so where many entries stand after the last
-//! marker most are told from a tag without a comparison. `named` finds the newest entry of a name, and `surplus` those
-//! that are alike to a tag, each by the index and in a walk. Two stacks of numbers (`stacks`) are the index, in each a
-//! number for each entry.
+//! The list of active formatting elements: `formatting_list`; begin with `specs/Listed.antt`. A long list has an
+//! `index` of two stacks of numbers (`stacks`): by `numbers` of names `named` finds the newest entry of a name; by
+//! `keys` (alike entries have the same key) `surplus` finds those that are alike to a tag.
 //!
-//! Under both, `numbered_stack` has a stack of numbered values, which knows of each number where its newest value stands,
-//! without a walk, and `item` a value with what is kept beside it. `places` keeps the places right: it takes items from
-//! the table of places, the newest first, and puts them back, the oldest first; one that gets another number needs no more
-//! than the next newer ones of both. `numbering` gives texts their numbers. `moves` moves a value within a vector.
-//!
-//! It stands on the definitions in `h5_rules`. `h5_insertion` stands on it, and so do all crates with code of rules, and
-//! the builder. Begin with `specs/View.antt` (what state and sink mean together) and `specs/Steps.antt` (what a step does
-//! to that world), then `src/state.rt` and `src/steps.rt`. Of the list begin with `specs/Listed.antt` (what contracts see
-//! of an entry) and `src/formatting_list.rt`; then `specs/ListNumbers.antt` and `specs/Keys.antt`. Of numbered stacks begin
-//! with `specs/Numbered.antt` (what contracts see of a stack, and where the newest value of a number stands) and
-//! `src/numbered_stack.rt`; then `specs/Places.antt`, `specs/Replacing.antt` and `src/places.rt`. Callers' proofs find in
-//! `proofs/NumberedNewestLaws.antt` what it says that the newest value of a number stands at a place.
+//! Below both: `numbered_stack`, a stack that has the place of the newest value of each number (begin with
+//! `specs/Numbered.antt`), its `item`s and `places`, the `numbering` of texts, and `moves` within a vector.
 #![tactic(auto)]
 
 mod blanks;
@@ -61,7 +46,7 @@ mod surplus;
 mod turn;
 
 pub use blanks::{first_run, is_blank_text, set_frameset_ok_by_text};
-pub use errors::{tell_error, tell_message, unexpected, unexpected_tag};
+pub use errors::{report_error, tell_message, unexpected, unexpected_tag};
 pub use find::{find_listed, find_open, handle_at, is_node_in_scope};
 pub use formatting_list::FormattingList;
 pub use moves::move_up;

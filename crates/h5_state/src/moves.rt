@@ -1,8 +1,9 @@
-//! A value that moves within a vector.
+//! Moves a value within a vector.
 ghost use Rattle.std.specs.Prelude.{◌≡◌, ◌<◌, ◌≤◌, length, slice_index_or, vec_len};
 ghost use Rattle.std.specs.List.{insert, remove};
 
-/// The value at a place comes to stand at another one, which isn't lower; those between move down by one. It takes no memory.
+/// Moves the value at a place to another one, which must not be lower; those between move down by one. It doesn't
+/// allocate.
 pub fn move_up<T: Drop>(items: &mut Vec<T>, from: usize, to: usize)
     requires order { from ≤ to }
     requires inside { to < vec_len items.old }

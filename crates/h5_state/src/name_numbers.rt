@@ -9,16 +9,16 @@ use crate::Numbering;
 use h5_names::{KnownName, LocalName, QualName};
 use std::alloc::{AllocError, Global};
 
-// Texts have numbers from here on. Elements have twice those, or one more: the numbers below are those of the names that HTML
-// knows.
+// The first number of a text. An element has twice the number of its text, or one more; lower numbers are those of the
+// known names.
 const FIRST_TEXT: u32 = 128;
 
-// Texts have numbers below this one, so that those of elements fit 32 bits.
+// Numbers of texts are below this one, so that those of elements fit 32 bits.
 const END_OF_TEXTS: u32 = 0x8000_0000;
 
-/// Gives the HTML elements of each local name a number of their own: of a name that HTML knows it is that name's number,
-/// another gets one when an element of it is opened first. Elements of MathML and SVG share one for each local name in any
-/// case of ASCII letters.
+/// Gives the HTML elements of each local name a number: of a known name that name's number; any other name gets one
+/// when an element of it is opened first. Elements of MathML and SVG share one for each local name, in any case of
+/// ASCII letters.
 #[derive(Drop)]
 pub struct NameNumbers {
     texts: Numbering,
@@ -39,7 +39,7 @@ fn in_lower_case(alloc: Global, local: &LocalName) -> Result<String, AllocError>
 impl NameNumbers {
     ghost use Rattle.h5_state.specs.Numbers.{foreign_number, html_number, is_html_number, name_number};
 
-    /// The names that HTML knows have numbers.
+    /// Returns a value in which only known names have numbers.
     pub fn new(alloc: Global) -> NameNumbers {
         NameNumbers {
             texts: Numbering::new(alloc, FIRST_TEXT),
@@ -47,7 +47,8 @@ impl NameNumbers {
         }
     }
 
-    /// Whether an element with this number is one of HTML: names that HTML knows have the least numbers, other names even ones.
+    /// Returns true if an element with this number is one of HTML: known names have the least numbers, other names of
+    /// HTML even ones.
     pub fn is_html(number: u32) -> bool
         ensures { result ≡ is_html_number number }
     {
@@ -62,7 +63,7 @@ impl NameNumbers {
         self.texts.find(text)
     }
 
-    // The number of a text, which gets one where it has none.
+    // The number of a text, which gets a new one if it has none.
     fn number_text(&mut self, text: &str) -> Result<u32, AllocError>
         ensures ok { IfOk result (λ number. number_of self.new.texts text.now ≡ Some number) }
         ensures few { IfOk result (λ number. number < 2 ^ 31) }
@@ -74,7 +75,7 @@ impl NameNumbers {
         self.texts.number(text)
     }
 
-    /// The number of the HTML elements of a local name, if it has one.
+    /// Returns the number of the HTML elements of a local name, if it has one.
     #[tactic(auto, unfolding(crate::specs::Numbers::html_number))]
     pub fn html(&self, local: &LocalName) -> Option<u32>
         ensures { result ≡ html_number self.now local.now }
@@ -88,8 +89,8 @@ impl NameNumbers {
         }
     }
 
-    /// The number of the elements of MathML and SVG of a local name in any case of ASCII letters, if it has one. It is refused
-    /// where memory is.
+    /// Returns the number of the elements of MathML and SVG of a local name, in any case of ASCII letters, if it has
+    /// one. Fails with `AllocError` if an allocation fails.
     #[tactic(auto, unfolding(crate::specs::Numbers::foreign_number))]
     pub fn foreign(&self, local: &LocalName) -> Result<Option<u32>, AllocError>
         ensures { IfOk result (λ number. number ≡ foreign_number self.now local.now) }
@@ -101,7 +102,7 @@ impl NameNumbers {
         }
     }
 
-    /// The number of a name, if it has one. It is refused where memory is.
+    /// Returns the number of a name, if it has one. Fails with `AllocError` if an allocation fails.
     #[tactic(auto, unfolding(crate::specs::Numbers::name_number, h5_tables::specs::TagSets::html_namespace))]
     pub fn find(&self, name: &QualName) -> Result<Option<u32>, AllocError>
         ensures { IfOk result (λ number. number ≡ name_number self.now name.now) }
@@ -113,7 +114,7 @@ impl NameNumbers {
         }
     }
 
-    // The number of the HTML elements of a local name, which gets one where it has none.
+    // The number of the HTML elements of a local name, which gets a new one if it has none.
     #[tactic(auto, unfolding(crate::specs::Numbers::html_number))]
     fn number_html(&mut self, local: &LocalName) -> Result<u32, AllocError>
         ensures ok { IfOk result (λ number. html_number self.new local.now ≡ Some number) }
@@ -128,7 +129,7 @@ impl NameNumbers {
         }
     }
 
-    // The number of the elements of MathML and SVG of a local name, which gets one where it has none.
+    // The number of the elements of MathML and SVG of a local name, which gets a new one if it has none.
     #[tactic(auto, unfolding(crate::specs::Numbers::foreign_number))]
     fn number_foreign(&mut self, local: &LocalName) -> Result<u32, AllocError>
         ensures ok { IfOk result (λ number. foreign_number self.new local.now ≡ Some number) }
@@ -139,7 +140,8 @@ impl NameNumbers {
         Ok(2 * number + 1)
     }
 
-    /// The number of a name, which gets one where it has none. All others keep theirs. It is refused where memory is.
+    /// Returns the number of a name, which gets a new one if it has none. All others keep theirs. Fails with
+    /// `AllocError` if an allocation fails.
     #[tactic(auto, unfolding(crate::specs::Numbers::name_number, h5_tables::specs::TagSets::html_namespace))]
     pub fn number(&mut self, name: &QualName) -> Result<u32, AllocError>
         ensures ok { IfOk result (λ number. name_number self.new name.now ≡ Some number) }

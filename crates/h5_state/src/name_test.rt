@@ -1,4 +1,4 @@
-//! Questions about the names of elements.
+//! Tests of the names of elements.
 ghost use Rattle.std.specs.Prelude.{◌≡◌, ◌<◌, ◌+◌, Bool, false, length};
 ghost use Rattle.h5_names.specs.declared.qualified.QualName.{QualName as NameText};
 ghost use Rattle.h5_names.specs.KnownNames.{name_text};
@@ -17,17 +17,17 @@ use h5_interface::TreeSink;
 use h5_names::{KnownName, LocalName, QualName};
 use h5_tables::{cursory_implied_end, is_html_known, is_html_local};
 
-/// A question about the name of an element.
+/// A test of the name of an element.
 pub trait NameTest {
-    // Whether a name passes.
+    // The names that pass.
     ghost holds: { Self → NameText → Bool };
 
-    /// Whether a name passes.
+    /// Returns true if a name passes.
     fn test(&self, name: &QualName) -> bool
         ensures { result ≡ holds self.now name.now };
 
-    /// Whether the name of the open element at a place passes. The sink is asked for the name only where what is kept
-    /// beside the element doesn't tell.
+    /// Returns true if the name of the open element at a place passes. Gets the name from the sink only if the summary
+    /// of the element doesn't decide.
     fn test_open<S: TreeSink>(&self, sink: &S, state: &State<S::Handle>, place: usize) -> bool
         requires place { place < length (world_of S.TreeSink sink.now state.now).stack }
         requires sound { IsSound S.TreeSink sink.now state.now }
@@ -37,15 +37,15 @@ pub trait NameTest {
     }
 }
 
-/// A question about names, of which it is known where the newest open element stands whose name passes.
+/// A test of names for which the place of the newest open element that passes is known without a walk.
 pub trait NewestTest: NameTest {
-    /// Where the newest open element whose name passes stands: one more than its place, 0 where none is open.
+    /// Returns one more than the place of the newest open element whose name passes, or 0 if none passes.
     fn newest<S: TreeSink>(&self, sink: &S, state: &State<S::Handle>) -> usize
         requires { IsSound S.TreeSink sink.now state.now }
         ensures { result ≡ newest_where (Self.holds self.now) (names_of (world_of S.TreeSink sink.now state.now)) };
 }
 
-/// Whether this is the name of an HTML element of this known name.
+/// An HTML element of this known name passes.
 #[derive(Clone, Copy)]
 pub struct Known(pub KnownName);
 
@@ -63,7 +63,7 @@ impl NewestTest for Known {
     }
 }
 
-/// Whether this is the name of an HTML element of this local name.
+/// An HTML element of this local name passes.
 #[derive(Clone, Copy)]
 pub struct Local<'a>(pub &'a LocalName);
 
@@ -74,7 +74,7 @@ impl NameTest for Local<'_> {
         is_html_local(name, self.0)
     }
 
-    // The number of its name is kept beside an open element.
+    // The number of its name is stored with an open element.
     fn test_open<S: TreeSink>(&self, sink: &S, state: &State<S::Handle>, place: usize) -> bool {
         is_named(sink, state, place, self.0)
     }
@@ -86,7 +86,7 @@ impl NewestTest for Local<'_> {
     }
 }
 
-/// Whether the end tag of an element is implied, and it is no HTML element of this local name.
+/// An element with an implied end tag passes, unless it is an HTML element of this local name.
 #[derive(Clone, Copy)]
 pub struct ImpliedBut<'a>(pub &'a LocalName);
 
@@ -102,7 +102,7 @@ impl NameTest for ImpliedBut<'_> {
     }
 }
 
-/// Whether an element decides where content is foster-parented.
+/// An element that decides where content is foster-parented passes.
 #[derive(Clone, Copy)]
 pub struct FosterParent;
 

@@ -1,4 +1,4 @@
-//! Where entries of a name stand: the newest after the last marker, and what may be passed over where others are looked for.
+//! Finds entries by name: the newest after the last marker, and entries that a search may skip.
 ghost use Rattle.std.specs.Prelude.{◌≡◌, ◌<◌, ◌≤◌, ℕ, MatchOption, is_some, vec_len};
 ghost use Rattle.h5_rules.specs.formatting.Adoption.{newest_named};
 ghost use Rattle.h5_state.specs.Keys.{IsIndexOf, IsIndexed};
@@ -10,7 +10,7 @@ use super::numbers::{MARKER, after_markers, is_named, name_number};
 use h5_names::LocalName;
 use h5_tables::FormatEntry;
 
-// By the index, from the newest entry of the name's number to ever older ones.
+// By the index, from the newest entry of the name's number to older ones.
 fn find_numbered<Handle>(
     entries: &Vec<FormatEntry<Handle>>,
     index: &Index,
@@ -33,7 +33,7 @@ fn find_numbered<Handle>(
     None
 }
 
-// In a walk over all of them.
+// By a walk over all of them.
 fn find_among_all<Handle>(
     entries: &Vec<FormatEntry<Handle>>,
     end: usize,
@@ -54,7 +54,7 @@ fn find_among_all<Handle>(
     None
 }
 
-/// Where the newest entry of a name stands, of those after the last marker.
+/// Returns the place of the newest entry of a name after the last marker.
 pub(super) fn find_newest_named<Handle>(
     entries: &Vec<FormatEntry<Handle>>,
     index: &Option<Index>,
@@ -71,7 +71,7 @@ pub(super) fn find_newest_named<Handle>(
     }
 }
 
-// By the index, where the newest of all is asked for, or that below one of the name.
+// By the index, if `below` is the end, or the place of an entry of the name.
 fn pass_numbered<Handle>(
     entries: &Vec<FormatEntry<Handle>>,
     index: &Index,
@@ -93,7 +93,7 @@ fn pass_numbered<Handle>(
     }
 }
 
-/// A place with no entry of a name from there up to another one.
+/// Returns a place such that no entry from there up to `below` has the name.
 pub(super) fn pass_others<Handle>(
     entries: &Vec<FormatEntry<Handle>>,
     index: &Option<Index>,

@@ -1,5 +1,5 @@
-//! Where the newest open element of a kind stands, by what is kept beside the open elements: one more than its place, 0
-//! where none is open.
+//! The newest open element of a kind, by the summaries of the open elements. Each function returns one more than its
+//! place, or 0 if there is none.
 ghost use Rattle.std.specs.Prelude.{◌≡◌, IfOk, map};
 ghost use Rattle.h5_names.specs.KnownNames.{name_text};
 ghost use Rattle.h5_tables.specs.TagSets.{is_default_scope, is_html_named};
@@ -27,8 +27,8 @@ pub fn newest_named<S: TreeSink>(sink: &S, state: &State<S::Handle>, local: &Loc
     }
 }
 
-/// The newest element of MathML or SVG of a local name, in any case of ASCII letters, by the number of the name. It is refused
-/// where memory is.
+/// The newest element of MathML or SVG of a local name, in any case of ASCII letters, by the number of the name. Fails
+/// with `AllocError` if an allocation fails.
 #[tactic(auto, unfolding(crate::specs::View::world))]
 pub fn newest_foreign<S: TreeSink>(
     sink: &S,
@@ -51,7 +51,7 @@ pub fn newer(one: usize, other: usize) -> usize
     if one < other { other } else { one }
 }
 
-/// The newest HTML element of these names that HTML knows.
+/// The newest HTML element of these known names.
 pub fn newest_among<S: TreeSink>(sink: &S, state: &State<S::Handle>, names: &[KnownName]) -> usize
     requires { IsSound S.TreeSink sink.now state.now }
     ensures { result ≡ newest_where (is_html_among (map name_text names.now)) (names_of (world_of S.TreeSink sink.now state.now)) }

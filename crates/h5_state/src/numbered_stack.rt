@@ -10,17 +10,18 @@ use super::places::{put_back, reach, renumber, take_back};
 use std::alloc::{AllocError, Global};
 use std::marker::Model;
 
-/// So many values a stack can hold, that places are numbers of 32 bits.
+/// The maximal number of values, so that places fit 32 bits.
 pub const MAX_LEN: usize = 0xffff_ffff;
 
-/// A stack of values, each with a number. Of each number it knows where its newest value stands, without a walk.
+/// A stack of values, each with a number. It has the place of the newest value of each number, without a walk.
 ///
 /// Contracts see it as the list of its values with their numbers, the oldest first. Places are counted from the oldest.
-/// It keeps a table with an entry for each number up to the largest that came, so numbers are best small.
+/// A table has an entry for each number up to the largest, so numbers should be small.
 #[derive(Drop)]
 pub struct NumberedStack<T> {
     items: Vec<Item<T>>,
-    // By number, one more than the place of the newest value of that number, 0 where there is none. What is past its end has none.
+    // By number, one more than the place of the newest value of that number, or 0 if there is none. A number past the
+    // end has none.
     table: Vec<u32>,
 }
 
@@ -37,7 +38,7 @@ impl<T> Model for NumberedStack<T> {
 }
 
 impl<T> NumberedStack<T> {
-    /// An empty stack.
+    /// Returns an empty stack.
     pub fn new(alloc: Global) -> NumberedStack<T>
         ensures { result ≡ [] }
     {
@@ -47,7 +48,7 @@ impl<T> NumberedStack<T> {
         }
     }
 
-    /// How many values there are.
+    /// Returns the number of values.
     pub fn len(&self) -> usize
         ensures count { result ≡ length self.now }
         ensures few { result < 2 ^ 32 }
@@ -55,14 +56,14 @@ impl<T> NumberedStack<T> {
         self.items.len()
     }
 
-    /// Whether there is none.
+    /// Returns true if there are no values.
     pub fn is_empty(&self) -> bool
         ensures { result ≡ (length self.now == 0) }
     {
         self.len() == 0
     }
 
-    /// The place that the next value takes, where one more can come. It is refused where there are `MAX_LEN` values.
+    /// Returns the place of the next value. Fails with `AllocError` if there are `MAX_LEN` values.
     pub fn next_place(&self) -> Result<u32, AllocError>
         ensures place { IfOk result (λ place. place ≡ length self.now) }
         ensures few { IfOk result (λ place. place + 1 < 2 ^ 32) }
@@ -74,7 +75,7 @@ impl<T> NumberedStack<T> {
         Ok(place as u32)
     }
 
-    /// The value at a place.
+    /// Returns the value at a place, which must be less than `len`.
     pub fn get(&self, place: usize) -> &T
         requires { place < length self.now }
         ensures { result.now ≡ slice_index_or (values self.now) place result.now }
@@ -82,7 +83,7 @@ impl<T> NumberedStack<T> {
         &self.items[place].value
     }
 
-    /// The oldest value.
+    /// Returns the oldest value.
     pub fn first(&self) -> Option<&T>
         ensures { option_copied result ≡ slice_get (values self.now) 0 }
     {
@@ -92,7 +93,7 @@ impl<T> NumberedStack<T> {
         Some(self.get(0))
     }
 
-    /// The newest value.
+    /// Returns the newest value.
     pub fn last(&self) -> Option<&T>
         ensures { option_copied result ≡ slice_get (values self.now) (length (values self.now) - 1) }
     {
@@ -102,7 +103,7 @@ impl<T> NumberedStack<T> {
         Some(self.get(self.len() - 1))
     }
 
-    /// The number of the value at a place.
+    /// Returns the number of the value at a place, which must be less than `len`.
     pub fn number_at(&self, place: usize) -> u32
         requires { place < length self.now }
         ensures { result ≡ slice_index (numbers self.now) place }
@@ -110,7 +111,7 @@ impl<T> NumberedStack<T> {
         self.items[place].number
     }
 
-    /// One more than the place of the newest value of a number, 0 where there is none. It takes one step.
+    /// Returns one more than the place of the newest value of a number, or 0 if there is none. It takes one step.
     pub fn newest(&self, number: u32) -> usize
         ensures newest { result ≡ newest_of number (reverse (numbers self.now)) }
         ensures within { result ≤ length self.now }
@@ -123,8 +124,8 @@ impl<T> NumberedStack<T> {
         }
     }
 
-    /// One more than the place of the next older value of the number of the value at a place, 0 where there is none. It
-    /// takes one step.
+    /// Returns one more than the place of the next older value with the same number as the value at a place, or 0 if
+    /// there is none. It takes one step.
     pub fn older(&self, place: usize) -> usize
         requires { place < length self.now }
         ensures older { result ≡ newest_under (slice_index (numbers self.now) place) self.now place }
@@ -133,7 +134,7 @@ impl<T> NumberedStack<T> {
         self.items[place].older as usize
     }
 
-    /// Another value stands at a place, with the same number.
+    /// Replaces the value at a place, and keeps its number.
     pub fn set(&mut self, place: usize, value: T)
     where
         T: Drop,
@@ -143,9 +144,9 @@ impl<T> NumberedStack<T> {
         self.items[place].value = value;
     }
 
-    /// Another value stands at a place, with another number. It takes a step for each value up to the next newer one of the
-    /// number that goes, and of that which comes. It is refused where memory is, which a number takes that is larger than all
-    /// before.
+    /// Replaces the value at a place, and its number. It takes a step for each value up to the next newer one of the
+    /// old number, and of the new one. Fails with `AllocError` if an allocation fails; only a number that is larger
+    /// than all before needs one.
     pub fn replace(&mut self, place: usize, number: u32, value: T) -> Result<(), AllocError>
     where
         T: Drop,
@@ -159,7 +160,8 @@ impl<T> NumberedStack<T> {
         Ok(())
     }
 
-    /// A value becomes the newest. It is refused where memory is, and where there are `MAX_LEN` values.
+    /// Adds a value as the newest. Fails with `AllocError` if an allocation fails, or if there are `MAX_LEN` values;
+    /// then the stack is unchanged.
     pub fn push(&mut self, number: u32, value: T) -> Result<(), AllocError>
     where
         T: Drop,
@@ -177,7 +179,7 @@ impl<T> NumberedStack<T> {
         Ok(())
     }
 
-    /// The newest value is taken off.
+    /// Removes the newest value, and returns it.
     pub fn pop(&mut self) -> Option<T>
         ensures some { IsSome result ↔ (0 < length self.old) }
         ensures value { values self.old ≡ values self.new ++ option_to_list result }
@@ -193,7 +195,7 @@ impl<T> NumberedStack<T> {
         }
     }
 
-    /// The oldest values stay, so many of them. It takes one step for each value that goes.
+    /// Keeps the `count` oldest values. It takes one step for each value that is removed.
     pub fn truncate(&mut self, count: usize)
     where
         T: Drop,
@@ -205,8 +207,8 @@ impl<T> NumberedStack<T> {
         }
     }
 
-    /// The value at a place is taken out, and those above it move down by one. It takes a step or two for each of them, and
-    /// no memory.
+    /// Removes the value at a place, which must be less than `len`, and returns it. Those above move down by one. It
+    /// takes a step or two for each of them, and doesn't allocate.
     pub fn remove(&mut self, place: usize) -> T
         requires { place < length self.old }
         ensures value { result ≡ slice_index_or (values self.old) place result }
@@ -218,8 +220,8 @@ impl<T> NumberedStack<T> {
         item.value
     }
 
-    /// The value at a place comes to stand at another one, which isn't lower, with its number; those between move down by one.
-    /// It takes a step or two for each value from there on, and no memory.
+    /// Moves the value at a place, with its number, to another one, which must not be lower; those between move down by
+    /// one. It takes a step or two for each value from there on, and doesn't allocate.
     pub fn move_up(&mut self, from: usize, to: usize)
     where
         T: Drop,

@@ -6,7 +6,7 @@ ghost use Rattle.h5_state.specs.Numberings.{IsNumbering};
 use std::alloc::{AllocError, Global};
 use std::collections::BTreeMap;
 
-/// Gives each text a number, the first time that it comes: from a base on, one after the other.
+/// Gives each text a number when it first occurs: consecutive numbers from a base on.
 #[derive(Drop)]
 pub struct Numbering {
     numbers: BTreeMap<String, u32>,
@@ -19,7 +19,7 @@ pub struct Numbering {
 impl Numbering {
     ghost use Rattle.h5_state.specs.Numbering.{KeepsApart, base_of, next_of, number_of};
 
-    /// No text has a number yet.
+    /// Returns a numbering without texts.
     pub fn new(alloc: Global, base: u32) -> Numbering
         ensures base { base_of result ≡ base }
         ensures next { next_of result ≡ base }
@@ -32,7 +32,7 @@ impl Numbering {
         }
     }
 
-    /// The number of a text, where it has one.
+    /// Returns the number of a text, if it has one.
     pub fn find(&self, text: &str) -> Option<u32>
         ensures number { result ≡ number_of self.now text.now }
         ensures above { IfSome result (λ number. base_of self.now ≤ number) }
@@ -42,14 +42,14 @@ impl Numbering {
         self.numbers.get(text).copied()
     }
 
-    /// The number that the next text gets.
+    /// Returns the number that the next text gets.
     pub fn next(&self) -> u32
         ensures { result ≡ next_of self.now }
     {
         self.base + self.numbers.len() as u32
     }
 
-    // The next number becomes that of a text, which has none.
+    // A text without a number gets the next one.
     fn add(&mut self, text: &str) -> Result<u32, AllocError>
         requires { number_of self.old text.now ≡ None }
         ensures ok { IfOk result (λ number. number_of self.new text.now ≡ Some number) }
@@ -71,8 +71,8 @@ impl Numbering {
         Ok(number)
     }
 
-    /// The number of a text, which gets the next one where it has none. It is refused where memory is, and where no number of
-    /// 32 bits is left. All other texts keep theirs.
+    /// Returns the number of a text, which gets the next one if it has none. All other texts keep theirs. Fails with
+    /// `AllocError` if an allocation fails, or if no number of 32 bits is left.
     pub fn number(&mut self, text: &str) -> Result<u32, AllocError>
         ensures ok { IfOk result (λ number. number_of self.new text.now ≡ Some number) }
         ensures next { number_of self.old text.now ≡ None → IfOk result (λ number. number ≡ next_of self.old) }

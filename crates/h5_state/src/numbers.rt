@@ -9,7 +9,7 @@ use h5_tables::FormatEntry;
 // The number of markers.
 pub(super) const MARKER: u32 = 0;
 
-// A number of a name. Names that HTML doesn't know share one.
+// The number of a name. Names that HTML doesn't know share one.
 #[tactic(auto, unfolding(crate::specs::ListNumbers::name_number))]
 pub(super) fn name_number(name: &LocalName) -> u32
     ensures { result ≡ name_number name.now }
@@ -26,7 +26,7 @@ pub(super) fn entry_number<Handle>(entry: &FormatEntry<Handle>) -> u32
     }
 }
 
-// Whether an entry is that of an element whose tag has this name.
+// The entry is that of an element whose tag has this name.
 pub(super) fn is_named<Handle>(entry: &FormatEntry<Handle>, name: &LocalName) -> bool
     ensures { result ≡ is_named name.now entry.now }
 {
@@ -36,8 +36,8 @@ pub(super) fn is_named<Handle>(entry: &FormatEntry<Handle>, name: &LocalName) ->
     }
 }
 
-/// The place right after the last marker, or that of the oldest entry where there is no marker, in a walk from the newest entry
-/// on.
+/// Returns the place right after the last marker, or that of the oldest entry if there is no marker, by a walk from the
+/// newest entry on.
 pub(super) fn after_markers<Handle>(entries: &Vec<FormatEntry<Handle>>) -> usize
     ensures { IsAfterMarkers result entries.now.items }
 {

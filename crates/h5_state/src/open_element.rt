@@ -1,5 +1,5 @@
-//! An open element, and what is kept beside it: what is asked of all open elements is known then without a walk over
-//! them (HTML standard, section 13.2.4.2, "The stack of open elements").
+//! An open element with its summary, by which tests of all open elements need no walk (HTML standard, section 13.2.4.2,
+//! "The stack of open elements").
 ghost use Rattle.std.specs.Prelude.{◌≡◌, ◌==◌, ◌&&◌, ◌<◌, ◌≤◌, ◌+◌, ◌^◌, ◌∷◌, if◌then◌else◌, List, [], false, length, true};
 ghost use Rattle.h5_names.specs.declared.qualified.QualName.{QualName as NameText};
 ghost use Rattle.h5_tables.specs.TagSets.{is_special};
@@ -12,32 +12,32 @@ use h5_names::{KnownName, QualName};
 use h5_tables::{NameSet, NameSets, sets_of};
 use std::alloc::Global;
 
-/// What is known of some open elements, from the root up to one of them. Places are counted from the root: what stands
-/// here of a place is one more than it, and 0 where there is none.
+/// What is known about the open elements from the root up to one of them. Places are counted from the root; a field
+/// with a place has one more than it, or 0 if there is none.
 #[derive(Clone, Copy, PartialEq, Eq)]
 pub struct AllOpen {
-    /// Whether one may not be open where the body ends.
+    /// An element is open that may not be when the body ends.
     pub unclosed: bool,
-    /// Whether an HTML `body` is in scope.
+    /// An HTML `body` is in scope.
     pub body_in_scope: bool,
-    /// Whether an HTML `p` is in button scope.
+    /// An HTML `p` is in button scope.
     pub p_in_button_scope: bool,
-    /// How many are HTML `template`s.
+    /// The number of HTML `template`s.
     pub templates: u32,
-    /// The newest special one.
+    /// The newest special element.
     pub special: u32,
-    /// The newest that ends the search for an item of a list.
+    /// The newest element that ends the search for a list item.
     pub item_end: u32,
-    /// The newest that ends a scope.
+    /// The newest element that ends a scope.
     pub scope_end: u32,
-    /// The newest of HTML.
+    /// The newest HTML element.
     pub html: u32,
     /// The oldest HTML `option`.
     pub oldest_option: u32,
 }
 
 impl AllOpen {
-    /// What is known where none is open.
+    /// Returns the value for no open elements.
     pub fn none() -> AllOpen
         ensures { result ≡ all_open [] }
     {
@@ -54,7 +54,7 @@ impl AllOpen {
         }
     }
 
-    // What is known with one more, the newest, of this name at this place; these sets hold it.
+    // The value with one more element, the newest, of this name at this place; the sets are those of the name.
     #[inline(always)]
     fn with_newest(self, name: &QualName, sets: NameSets, place: u32) -> AllOpen
         requires few { place + 1 < 2 ^ 32 }
@@ -88,19 +88,20 @@ impl AllOpen {
     }
 }
 
-/// What is kept beside an open element.
+/// What is stored with an open element.
 #[derive(Clone, Copy)]
 pub struct Summary {
-    /// Whether it is special.
+    /// The element is special.
     pub special: bool,
-    /// Whether its end tag is implied.
+    /// Its end tag is implied.
     pub implied: bool,
-    /// What is known of it and all older ones.
+    /// What is known about it and all older ones.
     pub all: AllOpen,
 }
 
 impl Summary {
-    /// What is kept of an element of this name at this place, where this is known of all older ones.
+    /// Returns the summary of an element of this name at this place. `older` must be what is known about all older
+    /// ones.
     #[inline(always)]
     pub fn new(name: &QualName, older: AllOpen, place: u32) -> Summary
         requires few { place + 1 < 2 ^ 32 }
@@ -121,35 +122,35 @@ impl Summary {
 pub struct OpenElement<Handle> {
     pub handle: Handle,
     pub summary: Summary,
-    /// No stamp that was given before it was pushed is higher.
+    /// No stamp that was assigned before it was pushed is higher.
     pub stamp: u32,
 }
 
-/// An element that is listed as a formatting element. Where it is open, neither it nor a newer one has a lower stamp: so it
-/// isn't sought below one that has.
+/// An element that is listed as a formatting element. If it is open, neither it nor a newer one has a lower stamp: so
+/// it isn't searched below one that has.
 #[derive(Drop)]
 pub struct Listed<Handle> {
     pub handle: Handle,
     pub stamp: u32,
-    /// Where it came to stand when it was listed, counted from the root: it is looked for there first. It may be closed since,
-    /// or stand elsewhere.
+    /// Its place when it was listed, counted from the root: it is searched there first. It may have been closed or
+    /// moved since.
     pub place: usize,
 }
 
-/// The stack of open elements, the root first: each stands there with the number of its name, and of each number the
-/// stack knows the newest element.
+/// The stack of open elements, the root first, each with the number of its name; the stack has the place of the newest
+/// element of each number.
 #[derive(Drop)]
 pub struct OpenElements<Handle> {
     pub elements: NumberedStack<OpenElement<Handle>>,
     pub numbers: NameNumbers,
-    /// The last stamp that was given. None is higher.
+    /// The last assigned stamp. None is higher.
     pub last: u32,
 }
 
 impl<Handle> OpenElements<Handle> {
     ghost use Rattle.h5_state.specs.Summaries.{IsKept};
 
-    /// None is open.
+    /// Returns a stack without elements.
     pub fn new(alloc: Global) -> OpenElements<Handle>
         ensures none { result.elements ≡ [] }
         ensures kept { IsKept result [] }
@@ -169,14 +170,14 @@ impl<Handle> OpenElements<Handle> {
     }
 }
 
-// Whether something is in scope above an element, which is it or ends the scope, where it is in scope below or not.
+// An element is in scope after another is pushed, which is such an element or ends the scope.
 fn still_in_scope(is: bool, ends: bool, below: bool) -> bool
     ensures { result ≡ (if is then true else (if ends then false else below)) }
 {
     is || !ends && below
 }
 
-// The newest, counted with one more, which is one or not.
+// One more than the place of the newest one, with one more element, which may be such a one.
 fn newest(is: bool, place: u32, below: u32) -> u32
     requires { place + 1 < 2 ^ 32 }
     ensures { result ≡ (if is then place + 1 else below) }
@@ -184,7 +185,7 @@ fn newest(is: bool, place: u32, below: u32) -> u32
     if is { place + 1 } else { below }
 }
 
-// The oldest, counted with one more, which is one or not.
+// One more than the place of the oldest one, with one more element, which may be such a one.
 fn oldest(is: bool, place: u32, below: u32) -> u32
     requires { place + 1 < 2 ^ 32 }
     ensures { result ≡ (if (below == 0) && is then place + 1 else below) }
@@ -192,8 +193,7 @@ fn oldest(is: bool, place: u32, below: u32) -> u32
     if below == 0 && is { place + 1 } else { below }
 }
 
-// Whether an element of this name, which is special or not, ends the search for an item of a list: it is special, and no
-// `address`, `div` or `p`.
+// An element of this name ends the search for a list item: it is special, and not `address`, `div` or `p`.
 #[tactic(auto, unfolding(h5_rules::specs::stack::Closing::passed_names, h5_tables::specs::TagSets::html_namespace))]
 fn ends_item_search(name: &QualName, special: bool) -> bool
     requires { special ≡ is_special name.now }

@@ -1,5 +1,5 @@
-//! Questions about the stack of open elements (HTML standard, section 13.2.4.2, "The stack of open
-//! elements"), and what closes elements.
+//! Tests of the stack of open elements (HTML standard, section 13.2.4.2, "The stack of open elements"), and ways to
+//! close elements.
 ghost use Rattle.std.specs.Prelude.{◌≡◌, ◌<◌, ◌≤◌, ◌+◌, ◌^◌, ◌∷◌, [], ℕ, Bool, List, Some, true, false, length, codes, MatchOption, is_some};
 ghost use Rattle.h5_names.specs.declared.qualified.QualName.{QualName as NameText};
 ghost use Rattle.h5_interface.specs.Forest.{IsElement};
@@ -16,7 +16,7 @@ ghost use Rattle.h5_state.specs.Numbers.{name_number};
 ghost use Rattle.h5_state.specs.Summaries.{IsKept, all_open, open_templates};
 ghost use Rattle.h5_state.specs.View.{names_under, stack_under, with_stack};
 
-use super::errors::tell_error;
+use super::errors::report_error;
 use super::name_numbers::NameNumbers;
 use super::name_test::{ImpliedBut, Local, NameTest};
 use super::newest::newest_named;
@@ -27,7 +27,7 @@ use h5_interface::TreeSink;
 use h5_names::{KnownName, LocalName, QualName};
 use h5_tables::{TreeError, is_html_known, is_html_local};
 
-/// How many elements are open.
+/// Returns the number of open elements.
 #[tactic(auto, unfolding(crate::specs::View::world, crate::specs::View::names_under, crate::specs::View::stack_under, h5_rules::specs::World::names_of))]
 pub fn open_count<S: TreeSink>(sink: &S, state: &State<S::Handle>) -> usize
     ensures count { result ≡ length (world_of S.TreeSink sink.now state.now).stack }
@@ -40,7 +40,7 @@ pub fn open_count<S: TreeSink>(sink: &S, state: &State<S::Handle>) -> usize
     state.open_elems.elements.len()
 }
 
-/// The open element at a place, counted from the root.
+/// Returns the open element at a place, counted from the root; it must be less than the number of open elements.
 #[tactic(auto, unfolding(crate::specs::View::world, crate::specs::View::names_under, crate::specs::View::stack_under))]
 pub fn open_at<'a, S: TreeSink>(
     sink: &S,
@@ -60,7 +60,8 @@ pub fn open_at<'a, S: TreeSink>(
     state.open_elems.elements.get(place)
 }
 
-/// The name of the open element at a place, counted from the root.
+/// Returns the name of the open element at a place, counted from the root; it must be less than the number of open
+/// elements.
 pub fn name_at<'a, S: TreeSink>(
     sink: &'a S,
     state: &'a State<S::Handle>,
@@ -85,7 +86,7 @@ fn number_at<S: TreeSink>(sink: &S, state: &State<S::Handle>, place: usize) -> u
     state.open_elems.elements.number_at(place)
 }
 
-/// Whether the open element at a place is one of HTML, which its number tells.
+/// Returns true if the open element at a place is one of HTML, by the number of its name.
 #[tactic(auto, unfolding(crate::specs::View::world))]
 pub fn is_html_at<S: TreeSink>(sink: &S, state: &State<S::Handle>, place: usize) -> bool
     requires place { place < length (world_of S.TreeSink sink.now state.now).stack }
@@ -95,8 +96,8 @@ pub fn is_html_at<S: TreeSink>(sink: &S, state: &State<S::Handle>, place: usize)
     NameNumbers::is_html(number_at(sink, state, place))
 }
 
-/// Whether the open element at a place is an HTML element of this name. The sink is asked for its name only where HTML
-/// doesn't know this one.
+/// Returns true if the open element at a place is an HTML element of this name. Gets its name from the sink only if
+/// HTML doesn't know this name.
 pub fn is_named<S: TreeSink>(
     sink: &S,
     state: &State<S::Handle>,
@@ -115,7 +116,7 @@ pub fn is_named<S: TreeSink>(
     }
 }
 
-/// Where the first HTML element of this name stands, from the current node on: so many elements are older, none where none
+/// Returns the place of the newest open HTML element of this name, which is the number of older elements, or 0 if none
 /// is open.
 pub fn find_named<S: TreeSink>(sink: &S, state: &State<S::Handle>, local: &LocalName) -> usize
     requires { IsSound S.TreeSink sink.now state.now }
@@ -124,7 +125,7 @@ pub fn find_named<S: TreeSink>(sink: &S, state: &State<S::Handle>, local: &Local
     newest_named(sink, state, local).saturating_sub(1)
 }
 
-/// What is known of all open elements, from the newest of them alone.
+/// Returns what is known about all open elements, from the summary of the newest.
 #[tactic(auto, unfolding(crate::specs::View::world, h5_rules::specs::World::names_of))]
 pub fn all_open<S: TreeSink>(sink: &S, state: &State<S::Handle>) -> AllOpen
     requires { IsSound S.TreeSink sink.now state.now }
@@ -137,7 +138,7 @@ pub fn all_open<S: TreeSink>(sink: &S, state: &State<S::Handle>) -> AllOpen
     }
 }
 
-/// Whether an HTML `body` is in scope.
+/// Returns true if an HTML `body` is in scope.
 pub fn has_body_in_scope<S: TreeSink>(sink: &S, state: &State<S::Handle>) -> bool
     requires { IsSound S.TreeSink sink.now state.now }
     ensures { result ≡ has_body_in_scope (names_of (world_of S.TreeSink sink.now state.now)) }
@@ -145,7 +146,7 @@ pub fn has_body_in_scope<S: TreeSink>(sink: &S, state: &State<S::Handle>) -> boo
     all_open(sink, state).body_in_scope
 }
 
-/// Whether an HTML `p` is in button scope.
+/// Returns true if an HTML `p` is in button scope.
 pub fn has_p_in_button_scope<S: TreeSink>(sink: &S, state: &State<S::Handle>) -> bool
     requires { IsSound S.TreeSink sink.now state.now }
     ensures { result ≡ has_p_in_button_scope (names_of (world_of S.TreeSink sink.now state.now)) }
@@ -153,7 +154,7 @@ pub fn has_p_in_button_scope<S: TreeSink>(sink: &S, state: &State<S::Handle>) ->
     all_open(sink, state).p_in_button_scope
 }
 
-/// How many open elements are HTML `template`s.
+/// Returns the number of open HTML `template`s.
 pub fn open_templates<S: TreeSink>(sink: &S, state: &State<S::Handle>) -> usize
     requires { IsSound S.TreeSink sink.now state.now }
     ensures { result ≡ open_templates (names_of (world_of S.TreeSink sink.now state.now)) }
@@ -161,7 +162,7 @@ pub fn open_templates<S: TreeSink>(sink: &S, state: &State<S::Handle>) -> usize
     all_open(sink, state).templates as usize
 }
 
-/// Whether an HTML `template` is open.
+/// Returns true if an HTML `template` is open.
 pub fn has_open_template<S: TreeSink>(sink: &S, state: &State<S::Handle>) -> bool
     requires { IsSound S.TreeSink sink.now state.now }
     ensures { result ≡ has_template (names_of (world_of S.TreeSink sink.now state.now)) }
@@ -169,7 +170,7 @@ pub fn has_open_template<S: TreeSink>(sink: &S, state: &State<S::Handle>) -> boo
     open_templates(sink, state) > 0
 }
 
-// Whether an element is open that may not be where the body ends.
+// An element is open that may not be when the body ends.
 fn has_unclosed<S: TreeSink>(sink: &S, state: &State<S::Handle>) -> bool
     requires { IsSound S.TreeSink sink.now state.now }
     ensures { result ≡ has_unclosed (names_of (world_of S.TreeSink sink.now state.now)) }
@@ -177,8 +178,8 @@ fn has_unclosed<S: TreeSink>(sink: &S, state: &State<S::Handle>) -> bool
     all_open(sink, state).unclosed
 }
 
-/// Tells a parse error where an element is open that may not be where the body ends (HTML standard, section
-/// 13.2.6.4.7, an end tag "body").
+/// Reports a parse error if an element is open that may not be when the body ends (HTML standard, section 13.2.6.4.7,
+/// an end tag "body").
 pub fn check_body_end<S: TreeSink>(sink: &mut S, state: &State<S::Handle>)
     requires { IsSound S.TreeSink sink.old state.now }
     ensures told { TellsErrors S.TreeSink sink.old sink.new state.now }
@@ -186,11 +187,11 @@ pub fn check_body_end<S: TreeSink>(sink: &mut S, state: &State<S::Handle>)
     ensures quiet { has_unclosed (names_of (world_of S.TreeSink sink.old state.now)) ≡ false → errors_of S.TreeSink sink.new ≡ errors_of S.TreeSink sink.old }
 {
     if has_unclosed(sink, state) {
-        tell_error(sink, state, TreeError::OpenElementAtEndOfBody);
+        report_error(sink, state, TreeError::OpenElementAtEndOfBody);
     }
 }
 
-/// A handle of the root, or of the document where no element is open.
+/// Returns a handle of the root, or of the document if no element is open.
 #[tactic(auto, unfolding(crate::specs::View::world))]
 pub fn root_node<S: TreeSink>(sink: &S, state: &State<S::Handle>) -> S::Handle
     requires { IsSound S.TreeSink sink.now state.now }
@@ -202,7 +203,7 @@ pub fn root_node<S: TreeSink>(sink: &S, state: &State<S::Handle>) -> S::Handle
     }
 }
 
-/// Whether the second open element, from the root on, is an HTML `body`.
+/// Returns true if the second open element, from the root on, is an HTML `body`.
 #[tactic(auto, unfolding(crate::specs::View::world, h5_rules::specs::World::names_of))]
 pub fn has_body_second<S: TreeSink>(sink: &S, state: &State<S::Handle>) -> bool
     requires { IsSound S.TreeSink sink.now state.now }
@@ -218,7 +219,7 @@ pub fn has_body_second<S: TreeSink>(sink: &S, state: &State<S::Handle>) -> bool
     }
 }
 
-/// Whether the name of the current node passes.
+/// Returns true if the name of the current node passes.
 #[inline(always)]
 pub fn is_current<S: TreeSink, Is: NameTest>(sink: &S, state: &State<S::Handle>, is: &Is) -> bool
     requires { IsSound S.TreeSink sink.now state.now }
@@ -231,7 +232,7 @@ pub fn is_current<S: TreeSink, Is: NameTest>(sink: &S, state: &State<S::Handle>,
     is.test_open(sink, state, count - 1)
 }
 
-/// Whether the current node is an HTML element of this name.
+/// Returns true if the current node is an HTML element of this name.
 pub fn is_current_html<S: TreeSink>(sink: &S, state: &State<S::Handle>, local: &LocalName) -> bool
     requires { IsSound S.TreeSink sink.now state.now }
     ensures { result ≡ first_passes (is_html_named local.now) (names_of (world_of S.TreeSink sink.now state.now)) }
@@ -239,8 +240,8 @@ pub fn is_current_html<S: TreeSink>(sink: &S, state: &State<S::Handle>, local: &
     is_current(sink, state, &Local(local))
 }
 
-/// Pops elements while the name of the current node passes. What is older than the first element that another question
-/// finds stays, where no name passes both.
+/// Pops elements while the name of the current node passes. The elements that are older than the newest one of another
+/// test stay, if no name passes both.
 #[inline(always)]
 pub fn pop_while<S: TreeSink, Is: NameTest>(sink: &mut S, state: &mut State<S::Handle>, is: &Is)
     requires { IsSound S.TreeSink sink.old state.old }
@@ -256,8 +257,8 @@ pub fn pop_while<S: TreeSink, Is: NameTest>(sink: &mut S, state: &mut State<S::H
     }
 }
 
-/// Pops elements whose end tags are implied, but no HTML element of this name (HTML standard, section
-/// 13.2.6.3, "generate implied end tags"). What is older than the first of this name stays.
+/// Pops elements whose end tags are implied, except HTML elements of this name (HTML standard, section 13.2.6.3,
+/// "generate implied end tags"). The elements that are older than the newest one of this name stay.
 pub fn generate_implied_end_except<S: TreeSink>(
     sink: &mut S,
     state: &mut State<S::Handle>,
@@ -272,8 +273,8 @@ pub fn generate_implied_end_except<S: TreeSink>(
     pop_while(sink, state, &ImpliedBut(local));
 }
 
-/// Takes elements off the stack until the first HTML element of this name was taken off, which stands at this place. The
-/// sink isn't told.
+/// Removes elements from the stack up to and including the newest HTML element of this name, which must be at this
+/// place. The sink isn't notified.
 pub fn pop_until_named<S: TreeSink>(
     sink: &S,
     state: &mut State<S::Handle>,
@@ -287,7 +288,7 @@ pub fn pop_until_named<S: TreeSink>(
     truncate(sink, state, place);
 }
 
-/// So many elements stay open.
+/// Keeps the `count` oldest open elements.
 #[tactic(auto, unfolding(crate::specs::View::world, crate::specs::View::stack_under))]
 pub fn truncate<S: TreeSink>(sink: &S, state: &mut State<S::Handle>, count: usize)
     requires { IsSound S.TreeSink sink.now state.old }

@@ -1,4 +1,4 @@
-//! Text of a table that is kept back (HTML standard, section 13.2.6.4.10, "In table text").
+//! Buffered text of a table (HTML standard, section 13.2.6.4.10, "In table text").
 ghost use Rattle.std.specs.Prelude.{◌≡◌, ◌==◌, ◌++◌, [], OnErr, OnOk, length, string_bytes};
 ghost use Rattle.h5_rules.specs.Blanks.{all_blank};
 
@@ -7,7 +7,7 @@ use std::alloc::{AllocError, Global};
 use std::marker::Model;
 use std::mem;
 
-/// Text that is kept back, as one text, and whether all of it is blank. A contract sees its bytes.
+/// Buffered text, as one text, and if all of it is ASCII whitespace. Contracts see its bytes.
 #[derive(Drop)]
 pub struct PendingText {
     text: String,
@@ -26,7 +26,7 @@ impl Model for PendingText {
 }
 
 impl PendingText {
-    /// No text. It takes no memory.
+    /// Returns an empty text. It doesn't allocate.
     pub fn new(alloc: Global) -> PendingText
         ensures { result ≡ [] }
     {
@@ -36,22 +36,22 @@ impl PendingText {
         }
     }
 
-    /// Whether nothing is kept back.
+    /// Returns true if nothing is buffered.
     pub fn is_empty(&self) -> bool
         ensures { result ≡ (length self.now == 0) }
     {
         self.text.is_empty()
     }
 
-    /// Whether all of it is blank, without a look at it.
+    /// Returns true if all of it is ASCII whitespace. It doesn't read the text.
     pub fn is_blank(&self) -> bool
         ensures { result ≡ all_blank self.now }
     {
         self.is_blank
     }
 
-    /// Puts a text behind what is kept back; the first one is moved, and takes no memory. Where memory is refused nothing
-    /// changes.
+    /// Appends a text; the first one is moved, without an allocation. Fails with `AllocError` if an allocation fails;
+    /// then nothing changes.
     pub fn append(&mut self, text: String) -> Result<(), AllocError>
         ensures ok { OnOk result (self.new ≡ self.old ++ string_bytes text) }
         ensures err { OnErr result (self.new ≡ self.old) }
@@ -67,7 +67,7 @@ impl PendingText {
         Ok(())
     }
 
-    /// Takes all that is kept back. It takes no memory.
+    /// Removes and returns the buffered text. It doesn't allocate.
     pub fn take(&mut self, alloc: Global) -> PendingText
         ensures taken { result ≡ self.old }
         ensures left { self.new ≡ [] }
@@ -75,7 +75,7 @@ impl PendingText {
         mem::replace(self, PendingText::new(alloc))
     }
 
-    /// The text, which is moved.
+    /// Returns the text, which is moved.
     pub fn into_string(self) -> String
         ensures { string_bytes result ≡ self }
     {

@@ -1,6 +1,6 @@
-//! The places of the values of a stack: each item's link, and the table of the newest by number.
+//! The places of the values of a stack: each item's link, and the table of the newest value by number.
 //!
-//! Items above a place are taken from the table, the newest first, and put back, the oldest first, with what changed
+//! Items above a place are removed from the table, the newest first, and put back, the oldest first, after a change
 //! between.
 ghost use Rattle.std.specs.Prelude.{◌≡◌, ◌<◌, ◌≤◌, ◌+◌, ◌^◌, ℕ, MatchOption, OnOk, length, slice_index, slice_set};
 ghost use Rattle.h5_state.specs.Numbered.{Numbered};
@@ -10,7 +10,7 @@ ghost use Rattle.h5_state.specs.Replacing.{IsNextNewer, links_with, older_by, ta
 use super::item::Item;
 use std::alloc::AllocError;
 
-// The table has an entry for a number. What it says stays.
+// Makes the table have an entry for a number. Its other entries stay.
 pub(super) fn reach(table: &mut Vec<u32>, number: u32) -> Result<(), AllocError>
     ensures same { (n : ℕ) → slice_index table.new.items n ≡ slice_index table.old.items n }
     ensures reached { OnOk result (number < length table.new.items) }
@@ -23,7 +23,7 @@ pub(super) fn reach(table: &mut Vec<u32>, number: u32) -> Result<(), AllocError>
     Ok(())
 }
 
-// The item at a place, the newest in the table, is taken from it.
+// Removes the item at a place, the newest in the table, from it.
 fn leave<T>(items: &Vec<Item<T>>, table: &mut Vec<u32>, place: usize)
     requires place { place < length items.now.items }
     requires linked { AreLinked items.now.items table.old.items (place + 1) }
@@ -34,7 +34,7 @@ fn leave<T>(items: &Vec<Item<T>>, table: &mut Vec<u32>, place: usize)
     table[item.number as usize] = item.older;
 }
 
-// The items from a place on are taken from the table.
+// Removes the items from a place on from the table.
 pub(super) fn take_back<T>(items: &Vec<Item<T>>, table: &mut Vec<u32>, place: usize)
     requires place { place ≤ length items.now.items }
     requires linked { AreLinked items.now.items table.old.items (length items.now.items) }
@@ -48,7 +48,7 @@ pub(super) fn take_back<T>(items: &Vec<Item<T>>, table: &mut Vec<u32>, place: us
     }
 }
 
-// The item at a place, all older ones are in the table, is put into it.
+// Puts the item at a place into the table, which has all older ones.
 fn enter<T>(items: &mut Vec<Item<T>>, table: &mut Vec<u32>, place: usize)
     requires place { place < length items.old.items }
     requires small { length items.old.items < 2 ^ 32 }
@@ -64,7 +64,7 @@ fn enter<T>(items: &mut Vec<Item<T>>, table: &mut Vec<u32>, place: usize)
     table[number] = place as u32 + 1;
 }
 
-// The items from a place on are put into the table, where all older ones are in it.
+// Puts the items from a place on into the table, which has all older ones.
 pub(super) fn put_back<T>(items: &mut Vec<Item<T>>, table: &mut Vec<u32>, place: usize)
     requires place { place ≤ length items.old.items }
     requires small { length items.old.items < 2 ^ 32 }
@@ -81,7 +81,7 @@ pub(super) fn put_back<T>(items: &mut Vec<Item<T>>, table: &mut Vec<u32>, place:
     }
 }
 
-// Where the first item of a number above a place stands, if there is one.
+// The place of the first item of a number above a place, if there is one.
 pub(super) fn next_newer<T>(
     items: &Vec<Item<T>>,
     table: &Vec<u32>,
@@ -107,7 +107,8 @@ pub(super) fn next_newer<T>(
     None
 }
 
-// The newest value of a number below its next newer one: what that one has as its link, or the table where there is none.
+// One more than the place of the newest value of a number below its next newer one: the link of that one, or the entry
+// of the table if there is none.
 pub(super) fn older_of<T>(
     items: &Vec<Item<T>>,
     table: &Vec<u32>,
@@ -124,7 +125,7 @@ pub(super) fn older_of<T>(
     }
 }
 
-// The newest value of a number below its next newer one is said to stand elsewhere.
+// Changes the place of the newest value of a number below its next newer one.
 pub(super) fn set_older<T>(
     items: &mut Vec<Item<T>>,
     table: &mut Vec<u32>,
@@ -144,7 +145,7 @@ pub(super) fn set_older<T>(
     }
 }
 
-// The item at a place gets another number.
+// Gives the item at a place another number.
 pub(super) fn renumber<T>(items: &mut Vec<Item<T>>, table: &mut Vec<u32>, place: usize, number: u32)
     requires place { place < length items.old.items }
     requires reached { number < length table.old.items }

@@ -1,4 +1,4 @@
-//! An element becomes the current node.
+//! Pushes an element onto the stack of open elements.
 ghost use Rattle.std.specs.Prelude.{◌∷◌};
 ghost use Rattle.h5_rules.specs.Sound.{AllStand};
 ghost use Rattle.h5_state.specs.Steps.{BecomesIfOk, IsSound, world_of};
@@ -9,7 +9,7 @@ use super::state::State;
 use h5_interface::TreeSink;
 use std::alloc::AllocError;
 
-/// An element becomes the current node, with what is kept beside it. It is refused where memory is.
+/// Pushes an element, with its summary. Fails with `AllocError` if an allocation fails.
 #[tactic(auto, unfolding(crate::specs::View::world))]
 pub fn push_open<S: TreeSink>(
     sink: &S,

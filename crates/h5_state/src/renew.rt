@@ -1,4 +1,4 @@
-//! What is kept beside open elements is made anew, where the elements below them changed.
+//! Recomputes the summaries of open elements after those below them changed.
 ghost use Rattle.std.specs.Prelude.{◌≡◌, ◌<◌, ◌≤◌, ◌+◌, ◌^◌, List, Some, drop, length, map, reverse};
 ghost use Rattle.h5_names.specs.declared.qualified.QualName.{QualName as NameText};
 ghost use Rattle.h5_state.specs.Numbered.{numbers};
@@ -15,7 +15,7 @@ use super::open_elems::open_count;
 use super::state::State;
 use h5_interface::TreeSink;
 
-/// What is known of the oldest open elements, so many of them.
+/// Returns what is known about the `count` oldest open elements.
 #[tactic(auto, unfolding(crate::specs::View::world, crate::specs::View::names_under))]
 pub fn all_under<S: TreeSink>(sink: &S, state: &State<S::Handle>, count: usize) -> AllOpen
     requires count { count ≤ length (world_of S.TreeSink sink.now state.now).stack }
@@ -30,7 +30,7 @@ pub fn all_under<S: TreeSink>(sink: &S, state: &State<S::Handle>, count: usize) 
     }
 }
 
-// The summary of the open element at a place is made anew, where those of all older ones are right.
+// Recomputes the summary of the open element at a place; those of all older ones must be right.
 fn renew_at<S: TreeSink>(sink: &S, state: &mut State<S::Handle>, place: usize)
     requires sound { Sound (world_of S.TreeSink sink.now state.old) }
     requires place { place < length (world_of S.TreeSink sink.now state.old).stack }
@@ -55,8 +55,8 @@ fn renew_at<S: TreeSink>(sink: &S, state: &mut State<S::Handle>, place: usize)
     state.open_elems.elements.set(place, element);
 }
 
-/// The summaries of the open elements from a place on are made anew, where those of all older ones are right, and so are
-/// the numbers of all.
+/// Recomputes the summaries of the open elements from a place on; those of all older ones, and the numbers of all, must
+/// be right.
 pub fn renew_from<S: TreeSink>(sink: &S, state: &mut State<S::Handle>, first: usize)
     requires sound { Sound (world_of S.TreeSink sink.now state.old) }
     requires first { first ≤ length (world_of S.TreeSink sink.now state.old).stack }
@@ -74,8 +74,9 @@ pub fn renew_from<S: TreeSink>(sink: &S, state: &mut State<S::Handle>, first: us
     }
 }
 
-/// The summaries of the open elements from a place on are made anew, up to one that stays what it was, where those of all
-/// older ones are right, this was known of as many others, and what is kept from there on is right over those.
+/// Recomputes the summaries of the open elements from a place on, up to one that doesn't change. The summaries of all
+/// older ones must be right, `before` must be what was known about as many others, and the summaries from there on must
+/// be right over those.
 pub fn renew_over<S: TreeSink>(
     sink: &S,
     state: &mut State<S::Handle>,

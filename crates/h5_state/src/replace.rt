@@ -1,4 +1,4 @@
-//! Open elements come to stand where others stood.
+//! Replaces open elements.
 ghost use Rattle.std.specs.Prelude.{◌≡◌, ◌<◌, ◌≤◌, ◌+◌, ◌-◌, ◌^◌, ◌++◌, ℕ, All, OnErr, OnOk, drop, length, map, reverse, take, vec_len};
 ghost use Rattle.h5_state.specs.Numbered.{values};
 ghost use Rattle.h5_interface.specs.Forest.{IsElement};
@@ -17,7 +17,7 @@ use super::state::State;
 use h5_interface::TreeSink;
 use std::alloc::AllocError;
 
-// An element stands at a place in place of another, with a stamp, where what is kept of all older ones is right.
+// An element with a stamp replaces the one at a place; the summaries of all older ones are right.
 #[tactic(auto, unfolding(crate::specs::View::world))]
 fn put_at<S: TreeSink>(
     sink: &S,
@@ -50,8 +50,7 @@ fn put_at<S: TreeSink>(
     Ok(())
 }
 
-// Elements stand at the places from one on, in place of as many others, with this stamp; what is kept of those above isn't
-// made anew yet.
+// Elements with this stamp replace as many others, from a place on; the summaries of those above aren't recomputed yet.
 #[tactic(auto, unfolding(crate::specs::View::world))]
 fn put_all<S: TreeSink>(
     sink: &S,
@@ -84,9 +83,9 @@ fn put_all<S: TreeSink>(
     Ok(())
 }
 
-/// Elements come to stand from a place on, in place of as many others; the sink isn't told. They get the stamp of the newest
-/// of those. It takes a step for each of them, and for each above of which something else is known then. It is refused where
-/// memory is: then those below the place are left.
+/// Replaces open elements from a place on by as many others, without notifying the sink. They get the stamp of the
+/// newest of the replaced ones. It takes a step for each of them, and for each one above about which something else is
+/// known then. Fails with `AllocError` if an allocation fails; then only the elements below the place stay.
 #[tactic(auto, unfolding(crate::specs::View::world))]
 pub fn replace_open<S: TreeSink>(
     sink: &S,

@@ -1,5 +1,5 @@
-//! Whether elements are in scope (HTML standard, section 13.2.4.2, "have a particular element in scope"): the newest that
-//! is looked for is compared with the newest that ends the search.
+//! Tests for "have a particular element in scope" (HTML standard, section 13.2.4.2): they compare the newest such
+//! element with the newest one that ends the search.
 ghost use Rattle.std.specs.Prelude.{◌≡◌, ◌<◌, ◌≤◌, ◌&&◌, ◌-◌, ℕ, MatchOption, Some, is_some, length};
 ghost use Rattle.h5_names.specs.KnownNames.{name_text};
 ghost use Rattle.h5_tables.specs.TagSets.{is_default_scope, is_html_named};
@@ -16,8 +16,8 @@ use h5_interface::TreeSink;
 use h5_names::{KnownName, LocalName};
 use h5_tables::ElementSet;
 
-// The place of the newest that is looked for, where the newest that ends the search isn't newer. Both are counted with
-// one more, and are 0 where there is none.
+// The place of the newest such element, if the newest one that ends the search isn't newer. Both arguments are one more
+// than a place, or 0.
 fn place_before(here: usize, end: usize) -> Option<usize>
     ensures { result ≡ place_before here end }
 {
@@ -28,8 +28,8 @@ fn place_before(here: usize, end: usize) -> Option<usize>
     }
 }
 
-/// The place, counted from the root, of the newest open element whose name passes, where none that ends the scope is
-/// newer.
+/// Returns the place, counted from the root, of the newest open element whose name passes, if none that ends the scope
+/// is newer.
 #[inline(always)]
 pub fn find_in_scope<S: TreeSink, Is: NewestTest, Ends: NewestTest>(
     sink: &S,
@@ -44,7 +44,7 @@ pub fn find_in_scope<S: TreeSink, Is: NewestTest, Ends: NewestTest>(
     place_before(is.newest(sink, state), ends.newest(sink, state))
 }
 
-/// Whether an HTML element of this name is in scope.
+/// Returns true if an HTML element of this name is in scope.
 pub fn in_scope_named<S: TreeSink>(sink: &S, state: &State<S::Handle>, name: KnownName) -> bool
     requires { IsSound S.TreeSink sink.now state.now }
     ensures { result ≡ in_scope (is_html_named (name_text name)) is_default_scope (names_of (world_of S.TreeSink sink.now state.now)) }
@@ -52,8 +52,8 @@ pub fn in_scope_named<S: TreeSink>(sink: &S, state: &State<S::Handle>, name: Kno
     find_in_scope(sink, state, &Known(name), &ElementSet::DefaultScope).is_some()
 }
 
-/// Where the first HTML element of this name stands, from the current node on, if it comes before any special element:
-/// so many elements are older.
+/// Returns the place of the newest open HTML element of this name, which is the number of older elements, if no special
+/// element is newer.
 pub fn find_before_special<S: TreeSink>(
     sink: &S,
     state: &State<S::Handle>,

@@ -1,4 +1,4 @@
-//! Questions whether elements are in sets.
+//! Tests for elements in sets.
 ghost use Rattle.h5_tables.specs.ElementSets.{holds_element};
 
 use super::name_test::{NameTest, NewestTest};
@@ -17,7 +17,7 @@ impl NameTest for ElementSet {
         self.holds(name)
     }
 
-    // Whether an end tag is implied is kept beside an open element.
+    // The summary of an open element has the result.
     #[inline(always)]
     fn test_open<S: TreeSink>(&self, sink: &S, state: &State<S::Handle>, place: usize) -> bool {
         match self {
@@ -48,7 +48,7 @@ impl NewestTest for ElementSet {
     }
 }
 
-// The members of each set, which all are HTML elements.
+// The members of each set, all of them HTML elements.
 const LISTS: [KnownName; 2] = [KnownName::Ol, KnownName::Ul];
 
 const TABLE_SCOPE: [KnownName; 3] = [KnownName::Html, KnownName::Table, KnownName::Template];

@@ -1,11 +1,11 @@
-//! The two stacks of numbers beside the entries: they grow together, or not at all.
+//! The two stacks of numbers of an index: they grow together, or not at all.
 ghost use Rattle.std.specs.Prelude.{◌≡◌, ◌∷◌, ◌++◌, [], OnErr, OnOk};
 ghost use Rattle.h5_state.specs.Numbered.{one_of};
 
 use crate::NumberedStack;
 use std::alloc::AllocError;
 
-/// A number becomes the newest of each. Where memory is refused both are what they were.
+/// Pushes a number onto each. If an allocation fails, both stay as they were.
 pub(super) fn push_both(
     numbers: &mut NumberedStack<()>,
     keys: &mut NumberedStack<()>,

@@ -18,7 +18,7 @@ use h5_interface::{QuirksMode, TreeSink};
 use h5_names::KnownName;
 use h5_tables::{InsertionMode, is_html_known};
 
-/// The insertion mode.
+/// Returns the insertion mode.
 #[tactic(auto, unfolding(crate::specs::View::world))]
 pub fn current_mode<S: TreeSink>(sink: &S, state: &State<S::Handle>) -> InsertionMode
     ensures { result ≡ (world_of S.TreeSink sink.now state.now).mode }
@@ -35,7 +35,7 @@ pub fn set_mode<S: TreeSink>(sink: &S, state: &mut State<S::Handle>, mode: Inser
     state.mode = mode;
 }
 
-/// Keeps the insertion mode, to go back to it.
+/// Saves the insertion mode as the one to return to.
 #[tactic(auto, unfolding(crate::specs::View::world, h5_rules::specs::World::names_of))]
 pub fn save_mode<S: TreeSink>(sink: &S, state: &mut State<S::Handle>)
     requires { IsSound S.TreeSink sink.now state.old }
@@ -55,7 +55,7 @@ pub fn set_foster<S: TreeSink>(sink: &S, state: &mut State<S::Handle>, on: bool)
     state.foster_parenting = on;
 }
 
-/// The frameset flag goes off.
+/// Sets the frameset-ok flag to "not ok".
 #[tactic(auto, unfolding(crate::specs::View::world, h5_rules::specs::World::names_of))]
 pub fn set_frameset_not_ok<S: TreeSink>(sink: &S, state: &mut State<S::Handle>)
     requires { IsSound S.TreeSink sink.now state.old }
@@ -64,7 +64,7 @@ pub fn set_frameset_not_ok<S: TreeSink>(sink: &S, state: &mut State<S::Handle>)
     state.frameset_ok = false;
 }
 
-/// A newline that comes next is dropped.
+/// Sets the flag by which a newline that comes next is dropped.
 #[tactic(auto, unfolding(crate::specs::View::world, h5_rules::specs::World::names_of))]
 pub fn set_ignore_lf<S: TreeSink>(sink: &S, state: &mut State<S::Handle>)
     requires { IsSound S.TreeSink sink.now state.old }
@@ -73,7 +73,7 @@ pub fn set_ignore_lf<S: TreeSink>(sink: &S, state: &mut State<S::Handle>)
     state.ignore_lf = true;
 }
 
-/// Builder and sink take a quirks mode.
+/// Sets the quirks mode of builder and sink.
 #[tactic(auto, unfolding(crate::specs::View::world, h5_rules::specs::Changes::set_quirks_mode, h5_rules::specs::World::names_of))]
 pub fn set_quirks_mode<S: TreeSink>(sink: &mut S, state: &mut State<S::Handle>, mode: QuirksMode)
     requires { IsSound S.TreeSink sink.old state.old }
@@ -83,7 +83,7 @@ pub fn set_quirks_mode<S: TreeSink>(sink: &mut S, state: &mut State<S::Handle>, 
     sink.set_quirks_mode(mode);
 }
 
-/// A handle of the current node, or of the document where no element is open.
+/// Returns a handle of the current node, or of the document if no element is open.
 #[tactic(auto, unfolding(crate::specs::View::world))]
 pub fn current_node<S: TreeSink>(sink: &S, state: &State<S::Handle>) -> S::Handle
     requires { IsSound S.TreeSink sink.now state.now }
@@ -109,7 +109,7 @@ fn current_stamp<S: TreeSink>(sink: &S, state: &State<S::Handle>) -> u32
     }
 }
 
-/// The current node, as it may be listed, with a stamp, and with its place.
+/// Returns the current node with a stamp and its place, as it may be listed.
 pub fn current_listed<S: TreeSink>(sink: &S, state: &State<S::Handle>) -> Listed<S::Handle>
     requires { IsSound S.TreeSink sink.now state.now }
     ensures current { S.node result.handle ≡ current (world_of S.TreeSink sink.now state.now) }
@@ -123,7 +123,7 @@ pub fn current_listed<S: TreeSink>(sink: &S, state: &State<S::Handle>) -> Listed
     }
 }
 
-/// The current node leaves the stack of open elements, and the sink is told.
+/// Pops the current node, and notifies the sink.
 #[tactic(auto, unfolding(crate::specs::View::world, h5_rules::specs::Changes::pop))]
 pub fn pop<S: TreeSink>(sink: &mut S, state: &mut State<S::Handle>)
     requires { IsOpen S.TreeSink sink.old state.old }
@@ -134,7 +134,7 @@ pub fn pop<S: TreeSink>(sink: &mut S, state: &mut State<S::Handle>)
     }
 }
 
-/// The current node is noted as a script that has started.
+/// Marks the current node as a script that has started.
 #[tactic(auto, unfolding(crate::specs::View::world, h5_rules::specs::Changes::mark_started))]
 pub fn mark_started<S: TreeSink>(sink: &mut S, state: &State<S::Handle>)
     requires { IsOpen S.TreeSink sink.old state.now }
@@ -144,7 +144,7 @@ pub fn mark_started<S: TreeSink>(sink: &mut S, state: &State<S::Handle>)
     sink.mark_script_already_started(&script);
 }
 
-/// Whether there is a form element.
+/// Returns true if there is a form element.
 #[tactic(auto, unfolding(crate::specs::View::world))]
 pub fn has_form<S: TreeSink>(sink: &S, state: &State<S::Handle>) -> bool
     ensures { result ≡ is_some (world_of S.TreeSink sink.now state.now).form }
@@ -152,7 +152,7 @@ pub fn has_form<S: TreeSink>(sink: &S, state: &State<S::Handle>) -> bool
     state.form_elem.is_some()
 }
 
-/// The form element, which isn't one any more.
+/// Clears the form element, and returns it.
 #[tactic(auto, unfolding(crate::specs::View::world, h5_rules::specs::World::names_of))]
 pub fn take_form<S: TreeSink>(sink: &S, state: &mut State<S::Handle>) -> Option<S::Handle>
     requires { IsSound S.TreeSink sink.now state.old }
@@ -162,7 +162,7 @@ pub fn take_form<S: TreeSink>(sink: &S, state: &mut State<S::Handle>) -> Option<
     state.form_elem.take()
 }
 
-/// Whether a fragment is built.
+/// Returns true if a fragment is built.
 #[tactic(auto, unfolding(crate::specs::View::world))]
 pub fn is_fragment<S: TreeSink>(sink: &S, state: &State<S::Handle>) -> bool
     ensures { result ≡ is_some (world_of S.TreeSink sink.now state.now).context }
@@ -170,7 +170,7 @@ pub fn is_fragment<S: TreeSink>(sink: &S, state: &State<S::Handle>) -> bool
     state.context_elem.is_some()
 }
 
-/// Whether a frameset may still take the place of the body.
+/// Returns true if a frameset may still replace the body.
 #[tactic(auto, unfolding(crate::specs::View::world))]
 pub fn is_frameset_ok<S: TreeSink>(sink: &S, state: &State<S::Handle>) -> bool
     ensures { result ≡ (world_of S.TreeSink sink.now state.now).frameset_ok }
@@ -178,7 +178,7 @@ pub fn is_frameset_ok<S: TreeSink>(sink: &S, state: &State<S::Handle>) -> bool
     state.frameset_ok
 }
 
-/// Whether the context of a fragment is an HTML `select`.
+/// Returns true if the context of a fragment is an HTML `select`.
 #[tactic(auto, unfolding(crate::specs::View::world))]
 pub fn is_select_context<S: TreeSink>(sink: &S, state: &State<S::Handle>) -> bool
     requires { IsSound S.TreeSink sink.now state.now }
@@ -190,7 +190,7 @@ pub fn is_select_context<S: TreeSink>(sink: &S, state: &State<S::Handle>) -> boo
     }
 }
 
-/// Whether the document is that of an `iframe` with `srcdoc`.
+/// Returns true if the document is that of an `iframe` with `srcdoc`.
 #[tactic(auto, unfolding(crate::specs::View::world))]
 pub fn has_srcdoc<S: TreeSink>(sink: &S, state: &State<S::Handle>) -> bool
     ensures { result ≡ (world_of S.TreeSink sink.now state.now).options.iframe_srcdoc }
@@ -198,7 +198,7 @@ pub fn has_srcdoc<S: TreeSink>(sink: &S, state: &State<S::Handle>) -> bool
     state.opts.iframe_srcdoc
 }
 
-/// Whether scripts run.
+/// Returns true if scripting is enabled.
 #[tactic(auto, unfolding(crate::specs::View::world))]
 pub fn is_scripting<S: TreeSink>(sink: &S, state: &State<S::Handle>) -> bool
     ensures { result ≡ (world_of S.TreeSink sink.now state.now).options.scripting_enabled }
@@ -206,7 +206,7 @@ pub fn is_scripting<S: TreeSink>(sink: &S, state: &State<S::Handle>) -> bool
     state.opts.scripting_enabled
 }
 
-/// The mode that was left for a text.
+/// Returns the mode that was left for a text.
 #[tactic(auto, unfolding(crate::specs::View::world))]
 pub fn saved_mode<S: TreeSink>(sink: &S, state: &State<S::Handle>) -> InsertionMode
     ensures { result ≡ saved_mode (world_of S.TreeSink sink.now state.now) }
@@ -214,7 +214,7 @@ pub fn saved_mode<S: TreeSink>(sink: &S, state: &State<S::Handle>) -> InsertionM
     state.orig_mode.unwrap_or(InsertionMode::InTable)
 }
 
-/// Whether the builder is in quirks mode.
+/// Returns true if the builder is in quirks mode.
 #[tactic(auto, unfolding(crate::specs::View::world))]
 pub fn is_in_quirks<S: TreeSink>(sink: &S, state: &State<S::Handle>) -> bool
     ensures { result ≡ is_quirks (world_of S.TreeSink sink.now state.now).quirks }

@@ -1,4 +1,4 @@
-//! Which entries after the last marker are alike to a tag.
+//! The entries after the last marker that are alike to a tag.
 ghost use Rattle.std.specs.Prelude.{◌≡◌, ◌≢◌, ◌<◌, ◌≤◌, ◌+◌, ◌^◌, ◌∷◌, ℕ, List, length};
 ghost use Rattle.h5_state.specs.Numbered.{numbers};
 ghost use Rattle.h5_token.specs.TokenText.{tag_text};
@@ -14,14 +14,14 @@ use crate::NumberedStack;
 use h5_tables::FormatEntry;
 use h5_token::Tag;
 
-/// How many entries are alike to a tag, and the place of the earliest of them.
+/// The number of entries that are alike to a tag, and the place of the earliest of them.
 #[derive(Clone, Copy)]
 pub(super) struct Alike {
     pub(super) count: usize,
     pub(super) earliest: usize,
 }
 
-// What is found with one more entry, which is older than those before.
+// The result with one more entry, which is older than those before.
 fn with_entry<Handle>(found: Alike, tag: &Tag, entry: &FormatEntry<Handle>, place: usize) -> Alike
     requires { found.count + 1 < 2 ^ 64 }
     ensures found { entry_number entry.now ≢ 0 → (node : Handle → ℕ) (older : List EntryText) → length older ≡ place
@@ -39,7 +39,7 @@ fn with_entry<Handle>(found: Alike, tag: &Tag, entry: &FormatEntry<Handle>, plac
     found
 }
 
-// In a walk over all of them.
+// By a walk over all of them.
 fn find_among_all<Handle>(entries: &Vec<FormatEntry<Handle>>, end: usize, tag: &Tag) -> Alike
     requires { IsAfterMarkers end entries.now.items }
     ensures { (node : Handle → ℕ) → result ≡ alike_from (tag_text tag.now) (entries_of node entries.now.items) none_found }
@@ -56,7 +56,7 @@ fn find_among_all<Handle>(entries: &Vec<FormatEntry<Handle>>, end: usize, tag: &
     found
 }
 
-// A walk over those of them that have the key of the tag, by its number, and those that have none.
+// By a walk over those that have the key of the tag, by its number, and those without a key.
 fn find_by_key<Handle>(
     entries: &Vec<FormatEntry<Handle>>,
     keys: &NumberedStack<()>,
@@ -87,8 +87,8 @@ fn find_by_key<Handle>(
     found
 }
 
-// By the index: where there are many, those with another key are passed over. Where memory is refused for the key of the tag,
-// all are compared with it.
+// By the index: if there are many entries, those with another key are skipped. If an allocation fails for the key of
+// the tag, all are compared with it.
 fn find_by_index<Handle>(entries: &Vec<FormatEntry<Handle>>, index: &Index, tag: &Tag) -> Alike
     requires { IsIndexOf index.now entries.now.items }
     ensures { (node : Handle → ℕ) → result ≡ alike_from (tag_text tag.now) (entries_of node entries.now.items) none_found }
@@ -102,7 +102,7 @@ fn find_by_index<Handle>(entries: &Vec<FormatEntry<Handle>>, index: &Index, tag:
     find_among_all(entries, end, tag)
 }
 
-/// The entries after the last marker that are alike to a tag.
+/// Returns the number of entries after the last marker that are alike to a tag, and the place of the earliest.
 pub(super) fn find_alike<Handle>(
     entries: &Vec<FormatEntry<Handle>>,
     index: &Option<Index>,

@@ -1,4 +1,4 @@
-//! The token that takes another turn, and what is answered: a turn puts them into the state, and they are taken from it.
+//! The token that is reprocessed, and the reply: a turn puts them into the state, from which they are taken.
 ghost use Rattle.std.specs.Prelude.{◌≡◌};
 ghost use Rattle.h5_token.specs.Reply.{reply};
 ghost use Rattle.h5_tables.specs.TurnText.{turn_text};
@@ -11,7 +11,7 @@ use h5_tables::Token;
 use h5_token::TokenSinkResult;
 use std::mem;
 
-/// This token takes another turn.
+/// Sets the token that is reprocessed.
 #[tactic(auto, unfolding(crate::specs::View::world))]
 #[inline(always)]
 pub fn set_again<S: TreeSink>(sink: &S, state: &mut State<S::Handle>, token: Token)
@@ -22,7 +22,7 @@ pub fn set_again<S: TreeSink>(sink: &S, state: &mut State<S::Handle>, token: Tok
     state.again = token;
 }
 
-/// The token that takes another turn.
+/// Takes the token that is reprocessed.
 #[tactic(auto, unfolding(crate::specs::View::world))]
 #[inline(always)]
 pub fn take_again<S: TreeSink>(sink: &S, state: &mut State<S::Handle>) -> Token
@@ -33,7 +33,7 @@ pub fn take_again<S: TreeSink>(sink: &S, state: &mut State<S::Handle>) -> Token
     mem::replace(&mut state.again, Token::Eof)
 }
 
-/// This is answered.
+/// Sets the reply.
 #[tactic(auto, unfolding(crate::specs::View::world))]
 #[inline(always)]
 pub fn set_answer<S: TreeSink>(
@@ -48,7 +48,7 @@ pub fn set_answer<S: TreeSink>(
     state.answer = answer;
 }
 
-/// What is answered.
+/// Takes the reply.
 #[tactic(auto, unfolding(crate::specs::View::world))]
 #[inline(always)]
 pub fn take_answer<S: TreeSink>(

@@ -1,4 +1,4 @@
--- Where the standard looks ahead, what was seen may as well be read again.
+-- When the standard looks ahead, what was seen may be read again.
 use Rattle.std.proofs.Common.{◌≡◌, ℕ, zero, suc, refl, sym, ap, ◌∙◌, true, false, true≢false, not, List, [], ◌∷◌, ◌++◌, Bool, if◌then◌else◌, ◌==◌, ◌||◌, ◌&&◌, codes, subst, inl, inr}
 use Rattle.std.proofs.Math.Seq.{take-length, drop-length}
 use Rattle.std.proofs.lemmas.Bool.{eqb-true, eq-eqb, false≢true}
@@ -16,7 +16,7 @@ use Rattle.h5_states.specs.Comments.{begins_opening}
 use Rattle.h5_states.specs.Doctypes.{begins_keyword}
 use Rattle.h5_states.specs.Ahead.{AreTakenInComment, AreIgnoredInDoctype, LeavesLetters}
 
--- a byte that is none of a word's
+-- a byte that isn't in a word
 abbrev is_apart : (ℕ → ℕ) → ℕ → List ℕ → Bool
 is_apart fold y word = list_all (λ c. not (fold y == fold c)) word
 
@@ -36,7 +36,7 @@ abbrev IsWithout : ℕ → List ℕ → Type 0
 IsWithout y [] = Unit {0}
 IsWithout y (x ∷ xs) = ((x == y) ≡ false) × IsWithout y xs
 
--- what a word begins with has no such byte
+-- the prefixes of a word don't have such a byte
 seen_apart : (fold : ℕ → ℕ) (y : ℕ) (seen word : List ℕ) → is_apart fold y word ≡ true → begins fold seen word ≡ true → IsWithout y seen
 seen_apart fold y [] word apart h = tt
 seen_apart fold y (x ∷ seen) [] apart h = absurd (false≢true h)
@@ -129,7 +129,7 @@ same_text : (xs : List ℕ) → is_same_text xs xs ≡ true
 same_text [] = refl
 same_text (x ∷ xs) = and_true (x == x) _ (eq-eqb x x refl) (same_text xs)
 
--- what is a name
+-- a name
 Stands : List Reference → List ℕ → Type 0
 Stands table seen = (text : List ℕ) × (meaning_of table seen ≡ Some text)
 
@@ -151,7 +151,7 @@ unfolding Stands
 stands_behind r table seen (inl letters) = inl letters
 stands_behind r table seen (inr stands) = inr (stands_later (is_same_text r.0 seen) r.1 stands.0 (meaning_of table seen) stands.1)
 
--- what a name of the table begins with is letters and digits, or a name
+-- the prefixes of a name of the table are letters and digits, or a name
 part_of_table : (table : List Reference) (seen : List ℕ) → are_references table ≡ true → is_beginning table seen ≡ true → Letters seen ⊎ Stands table seen
 part_of_table [] seen all h = absurd (false≢true h)
 part_of_table (r ∷ table) seen all h =
@@ -167,7 +167,7 @@ letters_behind zero seen h = h
 letters_behind (suc n) [] h = refl
 letters_behind (suc n) (x ∷ seen) h = letters_behind n seen (both (is_alphanumeric x) (list_all is_alphanumeric seen) h).1
 
--- where a name is sought whose rest is letters and digits, and otherwise all is
+-- the search for a name: what follows the name is letters and digits; without a name, all is
 leaves_by : (seen : List ℕ) (n : ℕ) (text : Option (List ℕ)) (shorter : Option Longest) → Letters (drop n seen) → LeavesLetters seen shorter → LeavesLetters seen (or_shorter seen n text shorter)
 unfolding Letters
 leaves_by seen n None shorter letters h = h

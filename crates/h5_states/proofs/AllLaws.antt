@@ -1,4 +1,4 @@
--- Any input can be read: what holds where nothing is left, and before a step where it holds behind it, holds everywhere.
+-- Any input can be read: a property of the empty input that holds before a step if it holds after it holds for any input.
 use Rattle.std.proofs.Common.{◌≡◌, ℕ, zero, suc, ◌<◌, Bool, true, false, true≢false, List, [], ◌∷◌, ◌++◌, refl, sym, ◌∙◌, arith, append-nil, append_assoc, if◌then◌else◌}
 use Rattle.h5_token.specs.TokenText.{TokenText, Characters, EndOfFile}
 use Rattle.h5_token.specs.Reply.{Reply, Continues}
@@ -29,7 +29,7 @@ module _ (table : List Reference) {M : Type 0} (reply_to : M → TokenText → R
   again_first p m x xs [] state d e rest = step_first _ _ _ _ _ _ _ _ (quiet_step (again [] state d e passed)) (rest m)
   again_first p m x xs (y ∷ text) state d e rest = step_first _ _ _ _ _ _ _ _ (text_step (again (y ∷ text) state d e passed)) (rest (after m (Characters ((y ∷ text) ++ [])) p.began))
 
-  -- at a byte, where it holds behind it, and from it on in the state that it is reconsumed in
+  -- at a byte, if it holds after it, and before it in the state in which it is reconsumed
   by_outcome : (p : ReaderPlace) (m : M) (x : ℕ) (xs : List ℕ) (d : Outcome) → is_dropped p x ≡ false → outcome table p x ≡ d
       → ((q : ReaderPlace) (n : M) → Holds q n xs)
       → ((text : List ℕ) (state : State) (n : M) → outcome table p x ≡ Reconsumed text state → Holds (in_state state p) n (x ∷ xs))

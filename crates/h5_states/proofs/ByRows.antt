@@ -1,4 +1,4 @@
--- The one way to read an input to its end in which each row's text is handed on by itself.
+-- The one way to read an input to its end in which the text of each row is a separate token.
 use Rattle.std.proofs.Common.{◌≡◌, ℕ, Bool, true, false, true≢false, List, [], ◌∷◌, ◌++◌, refl, sym, ap, ◌∙◌, subst, if◌then◌else◌}
 use Rattle.h5_token.specs.TokenText.{TokenText, EndOfFile}
 use Rattle.h5_token.specs.Reply.{Reply}
@@ -56,7 +56,7 @@ module _ {M : Type 0} (reply_to : M → TokenText → Reply) (after : M → Toke
   pub move_row : (table : List Reference) (p : ReaderPlace) (m : M) (x : ℕ) (d : Outcome) → is_dropped p x ≡ false → outcome table p x ≡ d → move table p m x ≡ moved_by p m x d
   move_row table p m x d e f = ap (λ b. if b then dropped p m else moved_by p m x (outcome table p x)) e ∙ ap (moved_by p m x) f
 
-  -- an input is read so: these tokens are handed on, those of its end too, and this is what there is before the end
+  -- an input is read in this way: the tokens, including those of its end, and the state before the end
   pub data ByRows (table : List Reference) : ReaderPlace → M → List ℕ → List TokenText → ReaderPlace → M → Type 0 where
     ends : {p : ReaderPlace} {m : M} → ByRows table p m [] (last_tokens table p ++ EndOfFile ∷ []) p m
     consumes : {p q : ReaderPlace} {m n : M} {x : ℕ} {xs : List ℕ} {ts : List TokenText} → (move table p m x).is_consumed ≡ true
@@ -66,7 +66,7 @@ module _ {M : Type 0} (reply_to : M → TokenText → Reply) (after : M → Toke
         → ByRows table (move table p m x).place (move table p m x).meaning (x ∷ xs) ts q n
         → ByRows table p m (x ∷ xs) ((move table p m x).tokens ++ ts) q n
 
-  -- the same, by what the move is
+  -- as above, by the kind of the move
   pub consumes_as : (table : List Reference) {p q : ReaderPlace} {m n : M} {x : ℕ} {xs : List ℕ} {ts : List TokenText} (w : Move M) → move table p m x ≡ w → w.is_consumed ≡ true
       → ByRows table w.place w.meaning xs ts q n → ByRows table p m (x ∷ xs) (w.tokens ++ ts) q n
   consumes_as table {p} {q} {m} {n} {x} {xs} {ts} w e =
@@ -85,7 +85,7 @@ module _ {M : Type 0} (reply_to : M → TokenText → Reply) (after : M → Toke
 
 module _ {M : Type 0} (reply_to : M → TokenText → Reply) (after : M → TokenText → ℕ → M) (foreign : M → Bool) (ended : M → M) (alike : M → M → Type 0)
     (blind : IsBlindToCuts reply_to after foreign ended alike) where
-  -- from meanings that are alike the same is done
+  -- from equivalent meanings the same is done
   pub record IsSameMove (a b : Move M) : Type 0 where
     pub tokens : a.tokens ≡ b.tokens
     pub place : a.place ≡ b.place
@@ -117,7 +117,7 @@ module _ {M : Type 0} (reply_to : M → TokenText → Reply) (after : M → Toke
   pub same_move : (table : List Reference) (p : ReaderPlace) (m n : M) (x : ℕ) → alike m n → IsSameMove (move reply_to after foreign table p m x) (move reply_to after foreign table p n x)
   same_move table p m n x h = same_if p m n x (is_dropped p x) (outcome table p x) h
 
-  -- what two such readings came to
+  -- the results of two such readings
   pub record Agree (ts us : List TokenText) (q r : ReaderPlace) (k l : M) : Type 0 where
     pub tokens : ts ≡ us
     pub place : q ≡ r
@@ -139,13 +139,13 @@ module _ {M : Type 0} (reply_to : M → TokenText → Reply) (after : M → Toke
   agree table {p} {m = m} {n = n} h (consumes {x = x} a c) (reconsumes b d) = absurd (true≢false (sym a ∙ (same_move table p m n x h).is_consumed ∙ b))
   agree table {p} {m = m} {n = n} h (reconsumes {x = x} a c) (consumes b d) = absurd (true≢false (sym b ∙ sym (same_move table p m n x h).is_consumed ∙ a))
 
-  -- some such reading, that comes to a meaning that is alike
+  -- such a reading, with an equivalent meaning at its end
   pub record ReadsAlike (table : List Reference) (p : ReaderPlace) (m : M) (xs : List ℕ) (us : List TokenText) (q : ReaderPlace) (l : M) : Type 0 where
     pub meaning : M
     pub rows : ByRows reply_to after foreign table p m xs us q meaning
     pub like : alike meaning l
 
-  -- from a meaning that is alike the same is read
+  -- from an equivalent meaning the same is read
   pub from_alike : (table : List Reference) {p q : ReaderPlace} {m n l : M} {xs : List ℕ} {us : List TokenText} → alike m n
       → ByRows reply_to after foreign table p n xs us q l → ReadsAlike table p m xs us q l
   from_alike table {m = m} h ends = record { meaning = m; rows = ends; like = h }

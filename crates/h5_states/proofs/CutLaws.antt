@@ -1,4 +1,4 @@
--- Whatever is read is read row by row as well, up to cuts of texts.
+-- Whatever is read is also read row by row, except how texts are split.
 use Rattle.std.proofs.Common.{◌≡◌, ℕ, Bool, List, [], ◌∷◌, ◌++◌, refl, sym, ap, ◌∙◌, subst, append-nil, append_assoc}
 use Rattle.h5_token.specs.TokenText.{TokenText, EndOfFile}
 use Rattle.h5_token.specs.Joins.{glue, join}
@@ -21,8 +21,8 @@ told_joins (x ∷ xs) (y ∷ ys) us vs e = ap (glue (x ∷ xs)) e ∙ glue_twice
 
 module _ {M : Type 0} (reply_to : M → TokenText → Reply) (after : M → TokenText → ℕ → M) (foreign : M → Bool) (ended : M → M) (alike : M → M → Type 0)
     (blind : IsBlindToCuts reply_to after foreign ended alike) (table : List Reference) where
-  -- These tokens, and then the others, are those of a reading row by row, up to cuts of texts. It comes to a meaning that
-  -- is alike.
+  -- These tokens, followed by the others, are those of a reading row by row, except how texts are split. Its final meaning is
+  -- equivalent.
   pub record Flat (p : ReaderPlace) (m : M) (xs : List ℕ) (ts us : List TokenText) (q : ReaderPlace) (l : M) : Type 0 where
     pub tokens : List TokenText
     pub meaning : M
@@ -41,7 +41,7 @@ module _ {M : Type 0} (reply_to : M → TokenText → Reply) (after : M → Toke
         joins = refl;
       }
 
-  -- where the rest of the text is told behind a part of it
+  -- the remainder of the text is passed after a part of it
   rest_alike : (m n : M) (t more : List ℕ) (j k : ℕ) → alike (after_text after m (t ++ more) j) n
       → alike (after_text after (after_text after m t k) more j) n
   rest_alike m n t more j k h =
@@ -103,7 +103,7 @@ module _ {M : Type 0} (reply_to : M → TokenText → Reply) (after : M → Toke
         joins = refl;
       }
 
-  -- what is flat behind some tokens is flat with them in front
+  -- what is flat after some tokens is flat with them
   flat_before : {p q r : ReaderPlace} {m k l : M} {xs ys : List ℕ} (ts us vs : List TokenText)
       → (behind : Flat q k ys us vs r l) → Flat p m xs ts behind.tokens r behind.meaning → Flat p m xs (ts ++ us) vs r l
   flat_before {l = l} ts us vs behind flat = record {
@@ -134,7 +134,7 @@ module _ {M : Type 0} (reply_to : M → TokenText → Reply) (after : M → Toke
       subst (λ (r : ReaderPlace). alike (ended (after (after_all after m (last_tokens table p) p.began) EndOfFile p.line)) (ended (after (after_all after n (last_tokens table r) r.began) EndOfFile r.line))) e
       (blind.ends _ _ (blind.kept _ _ EndOfFile p.line p.line (all_alike reply_to after foreign ended alike blind m n (last_tokens table p) p.began p.began h)))
 
-  -- how an input is cut doesn't matter
+  -- how an input is split doesn't matter
   pub cuts_agree : (p : ReaderPlace) (m n : M) (xs : List ℕ) (ts us : List TokenText) (k l : M) → alike m n
       → ReadsToEnd table reply_to after foreign ended p m xs ts k → ReadsToEnd table reply_to after foreign ended p n xs us l
       → (join ts ≡ join us) × alike k l

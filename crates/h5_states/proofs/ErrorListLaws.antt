@@ -1,12 +1,12 @@
--- A list of the first errors that were told goes on.
+-- A list of the first errors that were reported goes on.
 use Rattle.std.proofs.Common.{◌≡◌, ℕ, ◌+◌, List, [], ◌∷◌, ◌++◌, ap, ◌∙◌, sym, arith, append_assoc, append-nil, length-append}
 use Rattle.std.proofs.lemmas.List.{nil_from_length}
 use Rattle.std.specs.Io.Iter.{u64_saturate}
-use Rattle.h5_states.specs.declared.position.ToldError.{ToldError}
+use Rattle.h5_states.specs.declared.position.LocatedError.{LocatedError}
 use Rattle.h5_states.specs.ErrorList.{IsListOf}
 
--- an error is kept where all were kept before
-pub listed_more : (kept told : List ToldError) (more : ℕ) (e : ToldError) → more ≡ 0 → IsListOf kept more told → IsListOf (kept ++ e ∷ []) more (told ++ e ∷ [])
+-- an error is added if all previous ones were
+pub listed_more : (kept told : List LocatedError) (more : ℕ) (e : LocatedError) → more ≡ 0 → IsListOf kept more told → IsListOf (kept ++ e ∷ []) more (told ++ e ∷ [])
 listed_more kept told more e none h =
     let nothing : h.rest ≡ [] = nil_from_length h.rest (omega (arith, none, h.count)) in
     record {
@@ -16,7 +16,7 @@ listed_more kept told more e none h =
     }
 
 -- an error is counted
-pub counted_more : (kept told : List ToldError) (more : ℕ) (e : ToldError) → IsListOf kept more told → IsListOf kept (u64_saturate (more + 1)) (told ++ e ∷ [])
+pub counted_more : (kept told : List LocatedError) (more : ℕ) (e : LocatedError) → IsListOf kept more told → IsListOf kept (u64_saturate (more + 1)) (told ++ e ∷ [])
 counted_more kept told more e h =
     record {
       rest = h.rest ++ e ∷ [];

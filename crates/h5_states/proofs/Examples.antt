@@ -1,4 +1,4 @@
--- Texts, and what is handed on of them, by computing.
+-- Texts, and what they emit, by computing.
 use Rattle.std.proofs.Common.{◌≡◌, true, false, [], ◌∷◌, ◌++◌, refl, codes}
 use Rattle.std.specs.Prelude.{Some, None}
 use Rattle.h5_token.specs.TokenText.{DoctypeIs, CommentIs, Characters, NullCharacter, EndOfFile}
@@ -15,7 +15,7 @@ tags : tokens_from false (Text Data) [] (codes "<P>a</p >b")
 unfolding references lib.Utf8.encode
 tags = refl
 
--- attributes in each form; a name that stands there already
+-- attributes in each form; a name that the tag already has
 attributes : tokens_from false (Text Data) [] (codes "<A B=C d='e' f=" ++ (34 ∷ []) ++ codes "g" ++ (34 ∷ []) ++ codes " h b>")
     ≡ start (codes "a") false (attribute_named (codes "b") (codes "C") ∷ attribute_named (codes "d") (codes "e") ∷ attribute_named (codes "f") (codes "g") ∷ attribute_named (codes "h") [] ∷ []) true
     ∷ EndOfFile ∷ []
@@ -47,19 +47,19 @@ values_with_references : tokens_from false (Text Data) [] (codes "<a b=" ++ (34 
 unfolding references lib.Utf8.encode
 values_with_references = refl
 
--- what begins as a tag and is none
+-- what begins like a tag and isn't one
 no_tags : tokens_from false (Text Data) [] (codes "<3 </ ></><?php><!x>")
     ≡ Characters (codes "<3 ") ∷ CommentIs (codes " ") ∷ CommentIs (codes "?php") ∷ CommentIs (codes "x") ∷ EndOfFile ∷ []
 unfolding references lib.Utf8.encode
 no_tags = refl
 
--- a tag that the end cuts off is dropped
+-- an unfinished tag at the end is dropped
 unfinished_tag : tokens_from false (Text Data) [] (codes "a<b c=" ++ (34 ∷ []) ++ codes "d")
     ≡ Characters (codes "a") ∷ EndOfFile ∷ []
 unfolding references lib.Utf8.encode
 unfinished_tag = refl
 
--- so are no openings
+-- these aren't openings either
 unfinished_openings : tokens_from false (Text Data) [] (codes "</b></")
     ≡ end (codes "b") false [] false ∷ Characters (codes "</") ∷ EndOfFile ∷ []
 unfolding references lib.Utf8.encode
@@ -83,7 +83,7 @@ nested_comments : tokens_from false (Text Data) [] (codes "<!--<!--a<!-b<<!->-->
 unfolding references lib.Utf8.encode
 nested_comments = refl
 
--- a comment that the end cuts off, with a NUL
+-- an unfinished comment at the end, with a NUL
 unfinished_comment : tokens_from false (Text Data) [] (codes "<!--a" ++ (0 ∷ []) ++ codes "-")
     ≡ CommentIs (codes "a" ++ (239 ∷ 191 ∷ 189 ∷ [])) ∷ EndOfFile ∷ []
 unfolding references lib.Utf8.encode
@@ -104,26 +104,26 @@ quirky_doctypes : tokens_from false (Text Data) [] (codes "<!DOCTYPE><!DOCTYPEa 
 unfolding references lib.Utf8.encode
 quirky_doctypes = refl
 
--- identifiers without blanks between them, something behind them, and one that '>' cuts off
+-- identifiers without whitespace between them, something after them, and one that '>' ends
 odd_identifiers : tokens_from false (Text Data) [] (codes "<!DOCTYPE a PUBLIC'b''c'x><!DOCTYPE d SYSTEM 'e>")
     ≡ DoctypeIs (record { name = Some (codes "a"); public_id = Some (codes "b"); system_id = Some (codes "c"); force_quirks = false })
     ∷ DoctypeIs (record { name = Some (codes "d"); public_id = None; system_id = Some (codes "e"); force_quirks = true }) ∷ EndOfFile ∷ []
 unfolding references lib.Utf8.encode
 odd_identifiers = refl
 
--- a doctype that the end cuts off in a keyword
+-- an unfinished doctype at the end, in a keyword
 unfinished_doctype : tokens_from false (Text Data) [] (codes "<!DOCTYPE a PUB")
     ≡ DoctypeIs (record { name = Some (codes "a"); public_id = None; system_id = None; force_quirks = true }) ∷ EndOfFile ∷ []
 unfolding references lib.Utf8.encode
 unfinished_doctype = refl
 
--- openings that are none, or not here
+-- openings that aren't any, or aren't allowed here
 markup_declarations : tokens_from false (Text Data) [] (codes "<!DOC><![CDATA[x]]><!-")
     ≡ CommentIs (codes "DOC") ∷ CommentIs (codes "[CDATA[x]]") ∷ CommentIs (codes "-") ∷ EndOfFile ∷ []
 unfolding references lib.Utf8.encode
 markup_declarations = refl
 
--- a CDATA section where the adjusted current node isn't in the HTML namespace
+-- a CDATA section when the adjusted current node isn't in the HTML namespace
 cdata : tokens_from true (Text Data) [] (codes "<![CDATA[a]b]]c]]]><p>")
     ≡ Characters (codes "a]b]]c]") ∷ start (codes "p") false [] false ∷ EndOfFile ∷ []
 unfolding references lib.Utf8.encode
@@ -135,20 +135,20 @@ unfinished_cdata : tokens_from false (Text CdataSection) [] (codes "a" ++ (0 ∷
 unfolding references lib.Utf8.encode
 unfinished_cdata = refl
 
--- names, the longest, one of two characters, and what is none
+-- names: the longest one, one with two characters, and what isn't a name
 named_references : tokens_from false (Text Data) [] (codes "&amp;&ampx&notit;&notin;&ngE;&x;&;&")
     ≡ Characters (codes "&&x" ++ (194 ∷ 172 ∷ []) ++ codes "it;" ++ (226 ∷ 136 ∷ 137 ∷ 226 ∷ 137 ∷ 167 ∷ 204 ∷ 184 ∷ []) ++ codes "&x;&;&") ∷ EndOfFile ∷ []
 unfolding references lib.Utf8.encode
 named_references = refl
 
--- numbers, those that are replaced, and what is none
+-- numbers, those that are replaced, and what isn't a number
 numbers : tokens_from false (Text Data) [] (codes "&#65;&#x42;&#X43 &#128;&#0;&#xD800;&#x110000;&#;&#x;&#13;&#xFDD0;")
     ≡ Characters (codes "ABC " ++ (226 ∷ 130 ∷ 172 ∷ 239 ∷ 191 ∷ 189 ∷ 239 ∷ 191 ∷ 189 ∷ 239 ∷ 191 ∷ 189 ∷ []) ++ codes "&#;&#x;" ++ (13 ∷ 239 ∷ 183 ∷ 144 ∷ []))
     ∷ EndOfFile ∷ []
 unfolding references lib.Utf8.encode
 numbers = refl
 
--- a number past the end of Unicode, which the end cuts off
+-- a number above the last code point, unfinished at the end
 unfinished_number : tokens_from false (Text Data) [] (codes "&#99999999999999999999")
     ≡ Characters (239 ∷ 191 ∷ 189 ∷ []) ∷ EndOfFile ∷ []
 unfolding references lib.Utf8.encode
@@ -160,19 +160,19 @@ rcdata : tokens_from false (Text Rcdata) (codes "title") (codes "a&lt;<b></titl>
 unfolding references lib.Utf8.encode
 rcdata = refl
 
--- RAWTEXT, with a NUL; an end tag that the end cuts off is text
+-- RAWTEXT, with a NUL; an unfinished end tag at the end is text
 rawtext : tokens_from false (Text Rawtext) (codes "style") (codes "&amp;" ++ (0 ∷ []) ++ codes "</style")
     ≡ Characters (codes "&amp;" ++ (239 ∷ 191 ∷ 189 ∷ []) ++ codes "</style") ∷ EndOfFile ∷ []
 unfolding references lib.Utf8.encode
 rawtext = refl
 
--- a script in what looks like a comment in a script
+-- a script after `<!--` in a script
 script_data : tokens_from false (Text ScriptData) (codes "script") (codes "a<!--<script></script>--></script>")
     ≡ Characters (codes "a<!--<script></script>-->") ∷ end (codes "script") false [] false ∷ EndOfFile ∷ []
 unfolding references lib.Utf8.encode
 script_data = refl
 
--- an end tag in what looks like a comment
+-- an end tag after `<!--`
 escaped_script_data : tokens_from false (Text ScriptData) (codes "script") (codes "<!--a-b</script>")
     ≡ Characters (codes "<!--a-b") ∷ end (codes "script") false [] false ∷ EndOfFile ∷ []
 unfolding references lib.Utf8.encode
@@ -235,7 +235,7 @@ errors_in_attributes : errors_from false (Text Data) [] (codes "<a =b c c d'=e f
 unfolding references lib.Utf8.encode
 errors_in_attributes = refl
 
--- errors of references, and none where a name in a value is text
+-- errors of references, and none if a name in a value is text
 errors_in_references : errors_from false (Text Data) [] (codes "&#;&#0;&#x110000;&#xD800;&#xFFFE;&#1;&x;&amp<a b=&noti")
     ≡ error.AbsenceOfDigitsInNumericCharacterReference ∷ error.NullCharacterReference ∷ error.CharacterReferenceOutsideUnicodeRange
     ∷ error.SurrogateCharacterReference ∷ error.NoncharacterCharacterReference ∷ error.ControlCharacterReference ∷ error.UnknownNamedCharacterReference
@@ -249,13 +249,13 @@ error_of_cdata : errors_from false (Text Data) [] (codes "<![CDATA[")
 unfolding references lib.Utf8.encode
 error_of_cdata = refl
 
--- a CDATA section that the end cuts off
+-- an unfinished CDATA section at the end
 error_in_cdata : errors_from false (Text CdataSection) [] (codes "]")
     ≡ error.EofInCdata ∷ []
 unfolding references lib.Utf8.encode
 error_in_cdata = refl
 
--- what looks like a comment in a script that the end cuts off
+-- an unfinished script at the end, after `<!--`
 error_in_script : errors_from false (Text ScriptData) [] (codes "<!--<")
     ≡ error.EofInScriptHtmlCommentLikeText ∷ []
 unfolding references lib.Utf8.encode

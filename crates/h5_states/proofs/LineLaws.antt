@@ -1,4 +1,4 @@
--- The line that a reading comes to.
+-- The line at the end of a reading.
 use Rattle.std.proofs.Common.{◌≡◌, ℕ, ◌+◌, ◌-◌, ◌^◌, ◌≤◌, Bool, true, false, true≢false, not, ◌&&◌, ◌==◌, List, [], ◌∷◌, ◌++◌, refl, sym, ap, ◌∙◌, subst, arith, append_assoc, if◌then◌else◌}
 use Rattle.std.proofs.lemmas.Bool.{eqb-true, false≢true}
 use Rattle.std.specs.Io.Iter.{u64_saturate}
@@ -28,7 +28,7 @@ counted_twice p xs q ys r zs a b = record {
 counted_none : (p q : ReaderPlace) (xs : List ℕ) → p.line ≤ 2 ^ 64 - 1 → q.line ≡ p.line → q.after_return ≡ p.after_return → IsCounted p xs q xs
 counted_none p q xs le line after_return = record { passed = []; split = refl; line = line ∙ line_none p.line 0 le refl; after_return = after_return }
 
--- the same place but for its state
+-- the same place except for its state
 counted_behind : (p : ReaderPlace) (xs : List ℕ) (q : ReaderPlace) (ys : List ℕ) (r : ReaderPlace) → IsCounted p xs q ys → r.line ≡ q.line → r.after_return ≡ q.after_return → IsCounted p xs r ys
 counted_behind p xs q ys r c line after_return = record { passed = c.passed; split = c.split; line = line ∙ c.line; after_return = after_return ∙ c.after_return }
 
@@ -71,7 +71,7 @@ counted_drop p x xs le drop =
       after_return = sym no_return;
     }
 
--- the line behind what was passed fits, too
+-- the line after what was passed is also small enough
 counted_fits : (p : ReaderPlace) (xs : List ℕ) (q : ReaderPlace) (ys : List ℕ) → IsCounted p xs q ys → q.line ≤ 2 ^ 64 - 1
 counted_fits p xs q ys c = subst (λ n. n ≤ 2 ^ 64 - 1) (sym c.line) (line_fits p.line p.after_return c.passed)
 

@@ -1,4 +1,4 @@
--- What is handed on of a text, and its errors, so that both can be computed: by rows, over a sink that answers to go on.
+-- What a text emits, and its errors, in a form that can be computed: by rows, over a sink whose reply is to go on.
 use Rattle.std.proofs.Common.{ℕ, zero, suc, ◌+◌, ◌*◌, Bool, true, false, List, [], ◌∷◌, ◌++◌, length, if◌then◌else◌}
 use Rattle.h5_names.specs.AttributeText.{AttributeText}
 use Rattle.h5_token.specs.TokenText.{TokenText, TagIs, EndOfFile}
@@ -16,19 +16,19 @@ use Rattle.h5_states.specs.Reading.{ReaderPlace, is_dropped}
 use Rattle.h5_states.specs.End.{last_tokens}
 use Rattle.h5_states.proofs.ByRows.{Move, move}
 
--- what is done at a byte over a sink that answers to go on
+-- what is done at a byte over a sink whose reply is to go on
 abbrev pub silent : Bool → ReaderPlace → ℕ → Move (Unit {0})
 silent foreign p x = move (λ m t. Continues) (λ m t line. m) (λ m. foreign) references p (tt {0}) x
 
--- in a state, behind a start tag of this name
+-- in a state, after a start tag with this name
 abbrev pub at_first : State → List ℕ → ReaderPlace
 at_first state last = record { state = state; last = last; after_return = false; line = 1; began = 1 }
 
--- each byte meets three rows at most
+-- each byte gets at most three rows
 abbrev pub rows_for : List ℕ → ℕ
 rows_for xs = 3 * length xs + 1
 
--- what is handed on; so many rows at most
+-- what is emitted, in at most n rows
 abbrev pub tokens_up_to : ℕ → Bool → ReaderPlace → List ℕ → List TokenText
 tokens_up_to zero foreign p xs = []
 tokens_up_to (suc n) foreign p [] = last_tokens references p ++ EndOfFile ∷ []

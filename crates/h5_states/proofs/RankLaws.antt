@@ -1,4 +1,4 @@
--- A byte meets three rows at most.
+-- A byte gets at most three rows.
 use Rattle.std.proofs.Common.{◌≡◌, ℕ, suc, ◌+◌, ◌<◌, ◌≤◌, true, false, List, Bool, arith, if◌then◌else◌, subst}
 use Rattle.std.specs.Prelude.{not}
 use Rattle.std.specs.Char.{is_ascii_alphabetic, is_ascii_digit}

@@ -1,4 +1,4 @@
--- Between the start tag of a raw element and its end tag nothing is handed on but text and an end tag.
+-- Between the start tag of a raw element and its end tag only text and an end tag are emitted.
 use Rattle.std.proofs.Common.{ℕ, true, false, List, [], ◌∷◌, ◌++◌, Bool, if◌then◌else◌, ◌==◌, codes, subst}
 use Rattle.std.specs.Char.{is_ascii_digit}
 use Rattle.std.specs.Prelude.{Option, Some, None}

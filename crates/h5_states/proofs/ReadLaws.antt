@@ -1,4 +1,4 @@
--- Readings go on and join, and what they hand on is proper.
+-- Readings go on and join, and what they emit is proper.
 use Rattle.std.proofs.Common.{◌≡◌, ℕ, Bool, true, List, ◌++◌, refl, ◌∙◌, append_assoc, append-nil}
 use Rattle.h5_token.specs.TokenText.{TokenText}
 use Rattle.h5_token.specs.Reply.{Reply}
@@ -31,13 +31,13 @@ module _ (table : List Reference) {M : Type 0} (reply_to : M → TokenText → R
   step_goes_on more (token_step token state d e) = token_step token state d e
   step_goes_on more (ask_step there error elsewhere d e) = ask_step there error elsewhere d e
 
-  -- what was read is read so, whatever follows
+  -- what was read is read in the same way, whatever follows
   pub read_goes_on : {p : ReaderPlace} {m : M} {xs : List ℕ} {ts : List TokenText} {reply : Reply} {q : ReaderPlace} {n : M} {ys : List ℕ} (more : List ℕ)
       → Read table reply_to after foreign p m xs ts reply q n ys → Read table reply_to after foreign p m (xs ++ more) ts reply q n (ys ++ more)
   read_goes_on more nothing_read = nothing_read
   read_goes_on more (read_on read on step) = read_on (read_goes_on more read) on (step_goes_on more step)
 
-  -- one reading, and then another; its last answer is the second's, if that has one
+  -- one reading, and then another; tokenization goes on after both exactly if it goes on after the second
   pub read_joins : {p : ReaderPlace} {m : M} {xs : List ℕ} {ts : List TokenText} {reply : Reply} {q : ReaderPlace} {n : M} {ys : List ℕ} {us : List TokenText} {next : Reply} {r : ReaderPlace} {o : M} {zs : List ℕ}
       → Read table reply_to after foreign p m xs ts reply q n ys → goes_on reply ≡ true → Read table reply_to after foreign q n ys us next r o zs
       → (last : Reply) × ((goes_on last ≡ goes_on next) × Read table reply_to after foreign p m xs (ts ++ us) last r o zs)

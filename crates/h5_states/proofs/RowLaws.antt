@@ -1,5 +1,5 @@
--- What each row does: a byte that is reconsumed has a smaller rank in the state that takes it then, and a token that is
--- emitted is proper.
+-- Properties of each row: a byte that is reconsumed has a smaller rank in the next state, and a token that is emitted is
+-- proper.
 use Rattle.std.proofs.Common.{◌≡◌, ℕ, ◌+◌, ◌<◌, refl, true, false, List, [], ◌∷◌, ◌++◌, Bool, arith, if◌then◌else◌, ◌==◌, ◌||◌, ◌&&◌, true≢false, codes}
 use Rattle.std.proofs.lemmas.Bool.{false≢true}
 use Rattle.std.specs.Char.{is_ascii_alphabetic, is_ascii_digit}
@@ -50,7 +50,7 @@ zero_two = omega arith
 one_two : 1 < 2
 one_two = omega arith
 
--- a test that counts for a rank
+-- a test that matters for a rank
 below : (b : Bool) → b ≡ true → unless b < 1
 below true h = omega arith
 below false h = absurd (false≢true h)

@@ -1,10 +1,10 @@
--- What tells errors is a reading, goes on and joins.
+-- A reading with errors is a reading, goes on and joins.
 use Rattle.std.proofs.Common.{◌≡◌, ℕ, Bool, true, false, List, [], ◌∷◌, ◌++◌, inl, inr, refl, sym, ap, ◌∙◌, subst, append-nil, append_assoc}
 use Rattle.h5_token.specs.TokenText.{TokenText, Characters}
 use Rattle.h5_token.specs.Reply.{Reply, Continues}
 use Rattle.h5_reading.specs.Answers.{goes_on}
 use Rattle.h5_states.specs.declared.errors.ParseError.{ParseError}
-use Rattle.h5_states.specs.declared.position.ToldError.{ToldError}
+use Rattle.h5_states.specs.declared.position.LocatedError.{LocatedError}
 use Rattle.h5_states.specs.States.{State}
 use Rattle.h5_states.specs.Turn.{Outcome, Consumed, Reconsumed}
 use Rattle.h5_states.specs.References.{Reference}
@@ -30,7 +30,7 @@ again_passes table {p} {x} {xs} text state front d e =
     subst (λ l. Passes table p l text (in_state state p) l) (sym front) (subst (λ t. Passes table p (x ∷ xs) t (in_state state p) (x ∷ xs)) (append-nil text) (reading.again text state d e passed))
 
 module _ (table : List Reference) {M : Type 0} (reply_to : M → TokenText → Reply) (after : M → TokenText → ℕ → M) (foreign : M → Bool) where
-  -- where reading goes on, what is held is what was passed behind what was handed on
+  -- if reading goes on, what is held is what was passed after what was emitted
   pub held : {p : ReaderPlace} {m : M} {xs : List ℕ} (r : Reached M) → IsReadSo table reply_to after foreign p m xs r → goes_on r.reply ≡ true → IsHeld table reply_to after foreign p m xs r
   held r (inl h) on = h.1
   held r (inr h) on = record {
@@ -44,7 +44,7 @@ module _ (table : List Reference) {M : Type 0} (reply_to : M → TokenText → R
     began = h.began;
   }
 
-  -- a text that is held is handed on
+  -- a held text is emitted
   text_read : {p : ReaderPlace} {m : M} {xs : List ℕ} {ts : List TokenText} {reply : Reply} {place q : ReaderPlace} {n : M} {rest ys : List ℕ} (x line : ℕ) (t text : List ℕ)
       → text ≡ x ∷ t → line ≡ place.began → Read table reply_to after foreign p m xs ts reply place n rest → goes_on reply ≡ true → Passes table place rest text q ys
       → (us : List TokenText) × Read table reply_to after foreign p m xs us (reply_to n (Characters text)) q (after n (Characters text) line) ys
@@ -55,8 +55,8 @@ module _ (table : List Reference) {M : Type 0} (reply_to : M → TokenText → R
       → (us : List TokenText) × Read table reply_to after foreign p m xs us Continues r.place r.meaning r.rest
   none_read r h e = (h.tokens ++ [], read_on h.read h.goes_on (quiet_step (subst (λ t. Passes table h.place h.rest t r.place r.rest) e h.passes)))
 
-  -- what tells errors reads
-  pub reaches_read : {p : ReaderPlace} {s : Spot} {m : M} {xs : List ℕ} {r : Reached M} {told : List ToldError}
+  -- a reading with errors is a reading
+  pub reaches_read : {p : ReaderPlace} {s : Spot} {m : M} {xs : List ℕ} {r : Reached M} {told : List LocatedError}
       → Reaches table reply_to after foreign (at_first p s m xs) r told → IsReadSo table reply_to after foreign p m xs r
   reaches_read begins = inr (record { tokens = []; read = nothing_read; none = refl; began = refl })
   reaches_read (drops {r} {xs = ys} so on front d) =
@@ -120,7 +120,7 @@ module _ (table : List Reference) {M : Type 0} (reply_to : M → TokenText → R
       let before = subst (λ l. Read table reply_to after foreign p m xs done.0 Continues r.place r.meaning l) here.front done.1 in
       inr (record { tokens = done.0 ++ []; read = read_on before refl (ask_step there error elsewhere here.not_dropped here.outcome); none = refl; began = refl })
 
-  -- with more of the input behind it
+  -- with more input after it
   abbrev longer : List ℕ → Reached M → Reached M
   longer more r = record r { rest = r.rest ++ more }
 
@@ -129,7 +129,7 @@ module _ (table : List Reference) {M : Type 0} (reply_to : M → TokenText → R
   input_goes_on more (inside e) = inside e
   input_goes_on more not_new = not_new
 
-  meets_goes_on : {r : Reached M} {x : ℕ} {xs : List ℕ} {deed : Outcome} {errors : List ToldError} (more : List ℕ) → MeetsByte table r x xs deed errors → MeetsByte table (longer more r) x (xs ++ more) deed errors
+  meets_goes_on : {r : Reached M} {x : ℕ} {xs : List ℕ} {deed : Outcome} {errors : List LocatedError} (more : List ℕ) → MeetsByte table r x xs deed errors → MeetsByte table (longer more r) x (xs ++ more) deed errors
   meets_goes_on more here = record {
     goes_on = here.goes_on;
     front = ap (λ l. l ++ more) here.front;
@@ -140,8 +140,8 @@ module _ (table : List Reference) {M : Type 0} (reply_to : M → TokenText → R
     errors_are = here.errors_are;
   }
 
-  -- what was read is told so, whatever follows
-  pub reaches_goes_on : {start r : Reached M} {told : List ToldError} (more : List ℕ) → Reaches table reply_to after foreign start r told → Reaches table reply_to after foreign (longer more start) (longer more r) told
+  -- what was read is reported in the same way, whatever follows
+  pub reaches_goes_on : {start r : Reached M} {told : List LocatedError} (more : List ℕ) → Reaches table reply_to after foreign start r told → Reaches table reply_to after foreign (longer more start) (longer more r) told
   reaches_goes_on more begins = begins
   reaches_goes_on more (drops so on front d) = drops (reaches_goes_on more so) on (ap (λ l. l ++ more) front) d
   reaches_goes_on more (goes text state so here) = goes text state (reaches_goes_on more so) (meets_goes_on more here)
@@ -151,8 +151,8 @@ module _ (table : List Reference) {M : Type 0} (reply_to : M → TokenText → R
   reaches_goes_on more (hands_token token state so e here) = hands_token token state (reaches_goes_on more so) e (meets_goes_on more here)
   reaches_goes_on more (asks there error elsewhere so e here) = asks there error elsewhere (reaches_goes_on more so) e (meets_goes_on more here)
 
-  -- a reading, and then another from where it came to
-  pub reaches_join : {start q r : Reached M} {told errors : List ToldError} → Reaches table reply_to after foreign start q told → goes_on q.reply ≡ true → q.text ≡ []
+  -- a reading, and then another from its end
+  pub reaches_join : {start q r : Reached M} {told errors : List LocatedError} → Reaches table reply_to after foreign start q told → goes_on q.reply ≡ true → q.text ≡ []
       → Reaches table reply_to after foreign (at_first q.place q.spot q.meaning q.rest) r errors → Reaches table reply_to after foreign start r (told ++ errors)
   reaches_join first on none begins = rw append-nil (hands_nothing first on none)
   reaches_join first on none (drops so on' front d) = drops (reaches_join first on none so) on' front d

@@ -1,4 +1,4 @@
--- Whatever is told is told row by row as well, so how an input is cut doesn't matter for its errors.
+-- Whatever is reported is also reported row by row, so how an input is split doesn't matter for its errors.
 use Rattle.std.proofs.Common.{◌≡◌, ℕ, ◌+◌, ◌/◌, ◌%◌, ◌<◌, ◌≤◌, Bool, true, false, true≢false, List, [], ◌∷◌, ◌++◌, refl, sym, ap, ◌∙◌, subst, append-nil, append_assoc, arith, cond, ltb, if◌then◌else◌}
 use Rattle.std.proofs.lemmas.Bool.{and_parts, leb-true, ltb-true}
 use Rattle.std.proofs.lemmas.Str.{encode_same}
@@ -12,7 +12,7 @@ use Rattle.h5_reading.proofs.BlindLaws.{text_cut}
 use Rattle.h5_states.specs.declared.errors.ParseError.{ParseError}
 use Rattle.h5_states.specs.declared.position.Position.{Position}
 use Rattle.h5_states.specs.declared.position.Spot.{Spot}
-use Rattle.h5_states.specs.declared.position.ToldError.{ToldError}
+use Rattle.h5_states.specs.declared.position.LocatedError.{LocatedError}
 use Rattle.h5_states.specs.InputErrors.{InputErrors, of_character, inside, not_new, character_errors}
 use Rattle.h5_states.specs.References.{Reference}
 use Rattle.h5_states.specs.Reading.{ReaderPlace, behind_newline, in_state, is_dropped, outcome}
@@ -29,7 +29,7 @@ use Rattle.h5_states.proofs.TellingLaws.{reaches_goes_on}
 first_same : {x y : ℕ} {xs ys : List ℕ} → x ∷ xs ≡ y ∷ ys → x ≡ y
 first_same e = cc
 
--- a character doesn't begin with a byte that stands inside one
+-- a character doesn't begin with a byte that is inside one
 begins_outside : (c x : ℕ) (rest xs : List ℕ) → encode_utf8 c ++ rest ≡ x ∷ xs → is_inside x ≡ true → ⊥
 unfolding encode_utf8
 begins_outside c x rest xs e h =
@@ -43,7 +43,7 @@ begins_outside c x rest xs e h =
     by false false true small low high e = omega (arith, high, first_same e)
     by false false false small low high e = omega (arith, high, first_same e)
 
--- they are the same, however they are found
+-- the errors don't depend on how they are found
 input_same : {b : Bool} {xs : List ℕ} {es fs : List ParseError} → InputErrors b xs es → InputErrors b xs fs → es ≡ fs
 input_same (of_character c rest scalar e) (of_character d more _ f) = ap character_errors (encode_same c d rest more (sym e ∙ f)).0
 input_same (of_character c rest scalar e) (inside {x} {xs} h) = absurd (begins_outside c x rest xs (sym e) h)
@@ -51,39 +51,39 @@ input_same (inside {x} {xs} h) (of_character d more scalar f) = absurd (begins_o
 input_same (inside h) (inside g) = refl
 input_same not_new not_new = refl
 
--- what is left behind a byte that was consumed, or before it
+-- what is left after a byte that was consumed, or before it
 abbrev left : Bool → ℕ → List ℕ → List ℕ
 left true x xs = xs
 left false x xs = x ∷ xs
 
--- where reading is then, behind a LINE FEED that was dropped or another byte
+-- the spot afterwards, after a LINE FEED that was dropped or another byte
 abbrev moved_spot : Bool → Bool → ℕ → Spot → Spot
 moved_spot true is_consumed x s = spot_past s
 moved_spot false true x s = spot_behind x s
 moved_spot false false x s = spot_again s
 
--- the error of a question, by its answer
-abbrev asked : Bool → Position → Outcome → List ToldError
+-- the error of a check of the adjusted current node, by the result
+abbrev asked : Bool → Position → Outcome → List LocatedError
 asked foreign at (Asks there error elsewhere) = if foreign then [] else told_at at (error ∷ [])
 asked foreign at deed = []
 
 module _ {M : Type 0} (reply_to : M → TokenText → Reply) (after : M → TokenText → ℕ → M) (foreign : M → Bool) (table : List Reference) where
-  -- what is told at a byte
-  abbrev told_by : Bool → Bool → ReaderPlace → Spot → ℕ → List ParseError → List ToldError
+  -- what is reported at a byte
+  abbrev told_by : Bool → Bool → ReaderPlace → Spot → ℕ → List ParseError → List LocatedError
   told_by true is_foreign p s x input = []
   told_by false is_foreign p s x input = told_at_byte table p (position p.line s) x input ++ asked is_foreign (position p.line s) (outcome table p x)
 
-  -- an input is read to its end, each row's text handed on by itself, and these errors are told
-  data TellsRows : ReaderPlace → Spot → M → List ℕ → List ToldError → ReaderPlace → Spot → Type 0 where
+  -- an input is read to its end, each row's text as a separate token, and these errors are reported
+  data TellsRows : ReaderPlace → Spot → M → List ℕ → List LocatedError → ReaderPlace → Spot → Type 0 where
     ends : {p : ReaderPlace} {s : Spot} {m : M} → TellsRows p s m [] [] p s
-    meets : {p q : ReaderPlace} {s t : Spot} {m : M} {x : ℕ} {xs : List ℕ} {es : List ToldError} (input : List ParseError)
+    meets : {p q : ReaderPlace} {s t : Spot} {m : M} {x : ℕ} {xs : List ℕ} {es : List LocatedError} (input : List ParseError)
         → (is_dropped p x ≡ false → InputErrors s.is_new (x ∷ xs) input)
         → TellsRows (move reply_to after foreign table p m x).place (moved_spot (is_dropped p x) (move reply_to after foreign table p m x).is_consumed x s)
         (move reply_to after foreign table p m x).meaning (left (move reply_to after foreign table p m x).is_consumed x xs) es q t
         → TellsRows p s m (x ∷ xs) (told_by (is_dropped p x) (foreign m) p s x input ++ es) q t
 
-  -- the same, by what the move is
-  meets_as : {p q : ReaderPlace} {s t : Spot} {m : M} {x : ℕ} {xs : List ℕ} {es : List ToldError} (b : Bool) (w : Move M) (input : List ParseError)
+  -- as above, by the kind of the move
+  meets_as : {p q : ReaderPlace} {s t : Spot} {m : M} {x : ℕ} {xs : List ℕ} {es : List LocatedError} (b : Bool) (w : Move M) (input : List ParseError)
       → is_dropped p x ≡ b → move reply_to after foreign table p m x ≡ w → (b ≡ false → InputErrors s.is_new (x ∷ xs) input)
       → TellsRows w.place (moved_spot b w.is_consumed x s) w.meaning (left w.is_consumed x xs) es q t
       → TellsRows p s m (x ∷ xs) (told_by b (foreign m) p s x input ++ es) q t
@@ -95,12 +95,12 @@ module _ {M : Type 0} (reply_to : M → TokenText → Reply) (after : M → Toke
       (move reply_to after foreign table p m x).meaning (left (move reply_to after foreign table p m x).is_consumed x xs) es q t
       → TellsRows p s m (x ∷ xs) (told_by c (foreign m) p s x input ++ es) q t) d (meets input))
 
-  drops_row : {p q : ReaderPlace} {s t : Spot} {m : M} {x : ℕ} {xs : List ℕ} {es : List ToldError} → is_dropped p x ≡ true
+  drops_row : {p q : ReaderPlace} {s t : Spot} {m : M} {x : ℕ} {xs : List ℕ} {es : List LocatedError} → is_dropped p x ≡ true
       → TellsRows (behind_newline p) (spot_past s) m xs es q t → TellsRows p s m (x ∷ xs) es q t
   drops_row {p} {m = m} {x = x} d rest = meets_as true (dropped reply_to after foreign p m) [] d (move_dropped reply_to after foreign table p m x d) (λ no. absurd (true≢false no)) rest
 
-  -- a row that was met, with the errors of a question
-  meets_row : {r : Reached M} {q : ReaderPlace} {t : Spot} {x : ℕ} {xs : List ℕ} {errors es : List ToldError} (m : M) (deed : Outcome) → MeetsByte table r x xs deed errors
+  -- a row that was done, with the errors of a check
+  meets_row : {r : Reached M} {q : ReaderPlace} {t : Spot} {x : ℕ} {xs : List ℕ} {errors es : List LocatedError} (m : M) (deed : Outcome) → MeetsByte table r x xs deed errors
       → TellsRows (moved_by reply_to after foreign r.place m x deed).place (moved_spot false (moved_by reply_to after foreign r.place m x deed).is_consumed x r.spot)
       (moved_by reply_to after foreign r.place m x deed).meaning (left (moved_by reply_to after foreign r.place m x deed).is_consumed x xs) es q t
       → TellsRows r.place r.spot m r.rest ((errors ++ asked (foreign m) (here r) deed) ++ es) q t
@@ -114,16 +114,16 @@ module _ {M : Type 0} (reply_to : M → TokenText → Reply) (after : M → Toke
       subst (λ l. TellsRows r.place r.spot m l ((errors ++ asked (foreign m) (here r) deed) ++ es) q t) (sym met.front)
       (subst (λ l. TellsRows r.place r.spot m (x ∷ xs) (l ++ es) q t) same one)
 
-  -- from another place that is the same
-  rows_so : {v w q : ReaderPlace} {t : Spot} {m : M} {es : List ToldError} (s : Spot) (x : ℕ) (xs : List ℕ) (d a b : Bool) → v ≡ w → a ≡ b
+  -- from another, equal place
+  rows_so : {v w q : ReaderPlace} {t : Spot} {m : M} {es : List LocatedError} (s : Spot) (x : ℕ) (xs : List ℕ) (d a b : Bool) → v ≡ w → a ≡ b
       → TellsRows w (moved_spot d b x s) m (left b x xs) es q t → TellsRows v (moved_spot d a x s) m (left a x xs) es q t
   rows_so {v} {w} {q} {t} {m} {es} s x xs d a b e f c =
       subst (λ u. TellsRows u (moved_spot d a x s) m (left a x xs) es q t) (sym e) (subst (λ g. TellsRows w (moved_spot d g x s) m (left g x xs) es q t) (sym f) c)
 
 module _ {M : Type 0} (reply_to : M → TokenText → Reply) (after : M → TokenText → ℕ → M) (foreign : M → Bool) (ended : M → M) (alike : M → M → Type 0)
     (blind : IsBlindToCuts reply_to after foreign ended alike) (table : List Reference) where
-  -- from meanings that are alike the same is told
-  rows_alike : {p q : ReaderPlace} {s t : Spot} {m n : M} {xs : List ℕ} {es : List ToldError} → alike m n
+  -- equivalent meanings have the same reports
+  rows_alike : {p q : ReaderPlace} {s t : Spot} {m n : M} {xs : List ℕ} {es : List LocatedError} → alike m n
       → TellsRows reply_to after foreign table p s n xs es q t → TellsRows reply_to after foreign table p s m xs es q t
   rows_alike h ends = ends
   rows_alike {p} {q} {s} {t} {m} {n} h (meets {x = x} {xs = xs} {es = es} input errors rest) =
@@ -139,7 +139,7 @@ module _ {M : Type 0} (reply_to : M → TokenText → Reply) (after : M → Toke
   told_both false f g p s x xs input other e i j =
       ap (λ b. told_by reply_to after foreign table false b p s x input) e ∙ ap (told_by reply_to after foreign table false g p s x) (input_same (i refl) (j refl))
 
-  rows_agree : {p q r : ReaderPlace} {s t u : Spot} {m n : M} {xs : List ℕ} {es fs : List ToldError} → alike m n
+  rows_agree : {p q r : ReaderPlace} {s t u : Spot} {m n : M} {xs : List ℕ} {es fs : List LocatedError} → alike m n
       → TellsRows reply_to after foreign table p s m xs es q t → TellsRows reply_to after foreign table p s n xs fs r u
       → (es ≡ fs) × ((q ≡ r) × (t ≡ u))
   rows_agree h ends ends = (refl, (refl, refl))
@@ -153,7 +153,7 @@ module _ {M : Type 0} (reply_to : M → TokenText → Reply) (after : M → Toke
         behind_it.1,
       )
 
-  -- what the sink means once the text that is held is handed on
+  -- the sink's meaning after the held text
   abbrev whole : Reached M → M
   whole r = after_text after r.meaning r.text r.line
 
@@ -166,22 +166,22 @@ module _ {M : Type 0} (reply_to : M → TokenText → Reply) (after : M → Toke
   alike_so : {k m n : M} → k ≡ m → alike m n → alike k n
   alike_so {n = n} e h = subst (λ o. alike o n) (sym e) h
 
-  -- a text that is emitted behind what is held
+  -- a text that is emitted after what is held
   alike_emitting : (r : Reached M) (text : List ℕ) (n : M) → alike (after_text after r.meaning (r.text ++ text) r.line) n → alike (after_text after (whole r) text r.place.began) n
   alike_emitting r text n h =
       let all = after_text after r.meaning (r.text ++ text) r.line in
       let parts = after_text after (whole r) text r.place.began in
       blind.transitive parts all n (blind.symmetric all parts (text_cut reply_to after foreign ended alike blind r.meaning r.text text r.line r.line r.place.began)) h
 
-  told_so : (told errors es : List ToldError) → told ++ ((errors ++ []) ++ es) ≡ (told ++ errors) ++ es
+  told_so : (told errors es : List LocatedError) → told ++ ((errors ++ []) ++ es) ≡ (told ++ errors) ++ es
   told_so told errors es = ap (λ l. told ++ (l ++ es)) (append-nil errors) ∙ sym (append_assoc told errors es)
 
-  asked_so : (f : Bool) (told errors more es : List ToldError) → told ++ ((errors ++ (if f then [] else more)) ++ es) ≡ (told ++ (if f then errors else errors ++ more)) ++ es
+  asked_so : (f : Bool) (told errors more es : List LocatedError) → told ++ ((errors ++ (if f then [] else more)) ++ es) ≡ (told ++ (if f then errors else errors ++ more)) ++ es
   asked_so true told errors more es = told_so told errors es
   asked_so false told errors more es = sym (append_assoc told (errors ++ more) es)
 
-  -- what was told up to here, and then what is told row by row
-  rows_before : {start r : Reached M} {told us : List ToldError} {n : M} {q : ReaderPlace} {t : Spot} → Reaches table reply_to after foreign start r told
+  -- what was reported up to here, and then what is reported row by row
+  rows_before : {start r : Reached M} {told us : List LocatedError} {n : M} {q : ReaderPlace} {t : Spot} → Reaches table reply_to after foreign start r told
       → alike (whole r) n → TellsRows reply_to after foreign table r.place r.spot n r.rest us q t
       → TellsRows reply_to after foreign table start.place start.spot (whole start) start.rest (told ++ us) q t
   rows_before begins like rows = rows_alike like rows
@@ -206,15 +206,15 @@ module _ {M : Type 0} (reply_to : M → TokenText → Reply) (after : M → Toke
       (asked_so (foreign r.meaning) told errors (told_at (here r) (error ∷ [])) us)
       (rows_before so (alike_so (whole_none r e) (blind.reflexive r.meaning)) one)
 
-  rows_of_all : {p q r : ReaderPlace} {s t u : Spot} {m n k : M} {xs ys : List ℕ} {told us : List ToldError} → Tellings table reply_to after foreign p s m xs told q t n ys → alike n k
+  rows_of_all : {p q r : ReaderPlace} {s t u : Spot} {m n k : M} {xs ys : List ℕ} {told us : List LocatedError} → Tellings table reply_to after foreign p s m xs told q t n ys → alike n k
       → TellsRows reply_to after foreign table q t k ys us r u → TellsRows reply_to after foreign table p s m xs (told ++ us) r u
   rows_of_all no_telling like rows = rows_alike like rows
   rows_of_all {p} {r = r} {s = s} {u = u} {m = m} {xs = xs} {us = us} (more_telling {n = n} {told = told} {errors = errors} {r = reached} tellings reaches taken none) like rows =
       subst (λ l. TellsRows reply_to after foreign table p s m xs l r u) (sym (append_assoc told errors us))
       (rows_of_all tellings (blind.reflexive n) (rows_before reaches (alike_so (whole_none reached none) like) rows))
 
-  -- how an input is cut doesn't matter
-  pub told_agree : (p : ReaderPlace) (s : Spot) (m n : M) (xs : List ℕ) (told others : List ToldError) → alike m n
+  -- how an input is split doesn't matter
+  pub told_agree : (p : ReaderPlace) (s : Spot) (m n : M) (xs : List ℕ) (told others : List LocatedError) → alike m n
       → TellsToEnd table reply_to after foreign p s m xs told → TellsToEnd table reply_to after foreign p s n xs others → told ≡ others
   told_agree p s m n xs told others like a b =
       let same = rows_agree like (rows_of_all a.tellings (blind.reflexive a.meaning) ends) (rows_of_all b.tellings (blind.reflexive b.meaning) ends) in
@@ -224,11 +224,11 @@ module _ {M : Type 0} (reply_to : M → TokenText → Reply) (after : M → Toke
       ∙ ap (λ (t : Spot). b.errors ++ told_at_end table b.place (position b.place.line t)) same.1.1
       ∙ sym b.told_are
 
--- ---- pieces
+-- ---- chunks
 
 module _ (table : List Reference) {M : Type 0} (reply_to : M → TokenText → Reply) (after : M → TokenText → ℕ → M) (foreign : M → Bool) where
-  -- with more of the input behind it
-  pub tellings_go_on : {p q : ReaderPlace} {s t : Spot} {m n : M} {xs ys : List ℕ} {told : List ToldError} (more : List ℕ)
+  -- with more input after it
+  pub tellings_go_on : {p q : ReaderPlace} {s t : Spot} {m n : M} {xs ys : List ℕ} {told : List LocatedError} (more : List ℕ)
       → Tellings table reply_to after foreign p s m xs told q t n ys → Tellings table reply_to after foreign p s m (xs ++ more) told q t n (ys ++ more)
   tellings_go_on more no_telling = no_telling
   tellings_go_on more (more_telling tellings reaches taken none) = more_telling (tellings_go_on more tellings) (reaches_goes_on table reply_to after foreign more reaches) taken none

@@ -1,18 +1,18 @@
--- Errors are told, and then more.
+-- Errors are reported, and then more.
 use Rattle.std.proofs.Common.{◌≡◌, ◌==◌, ℕ, Bool, true, false, if◌then◌else◌, List, [], ◌∷◌, ◌++◌, refl, sym, ap, ◌∙◌, subst, append-nil, append_assoc}
 use Rattle.h5_states.specs.declared.errors.ParseError.{ParseError}
 use Rattle.h5_states.specs.declared.position.Position.{Position}
-use Rattle.h5_states.specs.declared.position.ToldError.{ToldError}
+use Rattle.h5_states.specs.declared.position.LocatedError.{LocatedError}
 use Rattle.h5_states.specs.Reading.{ReaderPlace}
 use Rattle.h5_states.specs.References.{Reference}
 use Rattle.h5_states.specs.SeenAhead.{error_position, seen_ahead, told_of_row}
 use Rattle.h5_states.specs.Telling.{in_order, row_errors, told_at_byte}
 use Rattle.h5_states.specs.Told.{Tells}
 
-pub tells_none : {S : Type 0} (told : S → List ToldError → Type 0) (s : S) → Tells told s s []
+pub tells_none : {S : Type 0} (told : S → List LocatedError → Type 0) (s : S) → Tells told s s []
 tells_none told s before h = subst (told s) (sym (append-nil before)) h
 
-pub tells_twice : {S : Type 0} (told : S → List ToldError → Type 0) (a b c : S) (es fs : List ToldError) → Tells told a b es → Tells told b c fs → Tells told a c (es ++ fs)
+pub tells_twice : {S : Type 0} (told : S → List LocatedError → Type 0) (a b c : S) (es fs : List LocatedError) → Tells told a b es → Tells told b c fs → Tells told a c (es ++ fs)
 tells_twice told a b c es fs first second before h = subst (told c) (append_assoc before es fs) (second (before ++ es) (first before h))
 
 -- three parts of a row
@@ -20,7 +20,7 @@ row_append : (ahead : ℕ) (at : Position) (es fs : List ParseError) → told_of
 row_append ahead at [] fs = refl
 row_append ahead at (e ∷ es) fs = ap (λ l. record { error = e; at = error_position ahead at e } ∷ l) (row_append ahead at es fs)
 
-pub tells_thrice : {S : Type 0} (told : S → List ToldError → Type 0) (a b c d : S) (ahead : ℕ) (at : Position) (es fs gs : List ParseError)
+pub tells_thrice : {S : Type 0} (told : S → List LocatedError → Type 0) (a b c d : S) (ahead : ℕ) (at : Position) (es fs gs : List ParseError)
     → Tells told a b (told_of_row ahead at es) → Tells told b c (told_of_row ahead at fs) → Tells told c d (told_of_row ahead at gs) → Tells told a d (told_of_row ahead at (es ++ (fs ++ gs)))
 tells_thrice told a b c d ahead at es fs gs first second third =
     let t = told_of_row ahead at in
@@ -29,21 +29,21 @@ tells_thrice told a b c d ahead at es fs gs first second third =
 
 -- ---- at a byte
 
-first_or_last : (b : Bool) (row : List ToldError) → (if b then row else row ++ []) ≡ row
+first_or_last : (b : Bool) (row : List LocatedError) → (if b then row else row ++ []) ≡ row
 first_or_last true row = refl
 first_or_last false row = append-nil row
 
--- where nothing is wrong with the input, what is told is the row's
+-- if the input has no errors, the reports are those of the row
 pub row_alone : (table : List Reference) (p : ReaderPlace) (at : Position) (x : ℕ) → told_at_byte table p at x [] ≡ told_of_row (seen_ahead table p.state) at (row_errors table p x)
 row_alone table p at x = first_or_last (seen_ahead table p.state == 0) (told_of_row (seen_ahead table p.state) at (row_errors table p x))
 
--- and where nothing is wrong with that, nothing is told
+-- and if the row has none either, nothing is reported
 pub none_at_byte : (table : List Reference) (p : ReaderPlace) (at : Position) (x : ℕ) → row_errors table p x ≡ [] → told_at_byte table p at x [] ≡ []
 none_at_byte table p at x e = row_alone table p at x ∙ ap (told_of_row (seen_ahead table p.state) at) e
 
 -- the input's errors come first, or else the row's
-pub input_first : (ahead : ℕ) (input row : List ToldError) → (ahead == 0) ≡ true → in_order ahead input row ≡ input ++ row
+pub input_first : (ahead : ℕ) (input row : List LocatedError) → (ahead == 0) ≡ true → in_order ahead input row ≡ input ++ row
 input_first ahead input row e = ap (λ b. if b then input ++ row else row ++ input) e
 
-pub row_first : (ahead : ℕ) (input row : List ToldError) → (ahead == 0) ≡ false → in_order ahead input row ≡ row ++ input
+pub row_first : (ahead : ℕ) (input row : List LocatedError) → (ahead == 0) ≡ false → in_order ahead input row ≡ row ++ input
 row_first ahead input row e = ap (λ b. if b then input ++ row else row ++ input) e

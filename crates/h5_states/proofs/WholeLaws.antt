@@ -1,4 +1,4 @@
--- Readings of pieces, one behind the other, and the end.
+-- Readings of chunks, one after another, and the end.
 use Rattle.std.proofs.Common.{◌≡◌, ℕ, Bool, false, List, [], ◌∷◌, ◌++◌, refl, Ok}
 use Rattle.h5_token.specs.TokenText.{TokenText, EndOfFile}
 use Rattle.h5_token.specs.Reply.{Reply}

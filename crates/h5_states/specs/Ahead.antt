@@ -1,4 +1,4 @@
--- What holds of the bytes that were seen where the standard looks ahead.
+-- Properties of the bytes that were seen when the standard looks ahead.
 use Rattle.std.specs.Prelude.{◌≡◌, ℕ, true, List, [], ◌∷◌, ◌++◌, Option, Some, None}
 use Rattle.std.specs.List.{list_all}
 use Rattle.h5_token.specs.TokenText.{DoctypeText}
@@ -20,7 +20,7 @@ AreIgnoredInDoctype table last [] = Unit {0}
 AreIgnoredInDoctype table last (x ∷ seen) =
     ((doctype : DoctypeText) → turn table last (BogusDoctype doctype) x ≡ to (BogusDoctype doctype)) × AreIgnoredInDoctype table last seen
 
--- the longest name leaves letters and digits alone; where there is none, all that was seen is such
+-- only letters and digits follow the longest name; without a name, all that was seen is letters and digits
 abbrev pub LeavesLetters : List ℕ → Option Longest → Type 0
 LeavesLetters seen None = list_all is_alphanumeric seen ≡ true
 LeavesLetters seen (Some found) = list_all is_alphanumeric found.rest ≡ true

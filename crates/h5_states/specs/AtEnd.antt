@@ -1,4 +1,4 @@
--- What is left at the end of the input: the rows that the standard has for "EOF" in each state.
+-- What is left at the end of the input: the rows for "EOF" of each state.
 use Rattle.std.specs.Prelude.{ℕ, Bool, List, [], ◌∷◌, ◌++◌, codes, Option, Some, None, if◌then◌else◌}
 use Rattle.h5_token.specs.TokenText.{TokenText, CommentIs, DoctypeIs, DoctypeText}
 use Rattle.h5_states.specs.declared.errors.ParseError.{ParseError}
@@ -13,7 +13,7 @@ use Rattle.h5_states.specs.States as s
 use Rattle.h5_states.specs.States.{State, Return, ToData, ToRcdata, ToValue}
 use Rattle.h5_states.specs.References.{Reference, Longest, longest, is_closed, is_historical, code_point, code_errors}
 
--- errors, a text, and then a token, before the end of the file
+-- errors, a text, and then a token, before the end-of-file token
 pub record Ending : Type 0 where
   pub errors : List ParseError
   pub text : List ℕ
@@ -48,7 +48,7 @@ behind_raw kind text = leaving text
 abbrev pub in_tag : Ending
 in_tag = wrongly EofInTag nothing
 
--- an attribute's name is complete, too
+-- the name of an attribute is also complete
 abbrev pub in_attribute_name : Tag → Ending
 in_attribute_name tag = record in_tag { errors = if is_repeated tag then DuplicateAttribute ∷ in_tag.errors else in_tag.errors }
 
@@ -58,13 +58,13 @@ in_comment comment = wrongly EofInComment (handing (CommentIs comment))
 abbrev pub in_doctype : DoctypeText → Ending
 in_doctype doctype = wrongly EofInDoctype (handing (DoctypeIs (quirky doctype)))
 
--- what is flushed into a text is emitted; into a value, it is dropped with its tag
+-- what is flushed into a text is emitted; what is flushed into a value is dropped with its tag
 abbrev pub flushed : Return → List ℕ → Ending
 flushed ToData text = leaving text
 flushed ToRcdata text = leaving text
 flushed (ToValue value tag) text = in_tag
 
--- where no byte follows, null stands for the next one: it is neither '=' nor an alphanumeric
+-- if no byte follows, null replaces the next one: it is neither '=' nor an alphanumeric
 abbrev pub named_at_end : Return → List ℕ → Option Longest → Ending
 named_at_end return seen None = flushed return (codes "&" ++ seen)
 named_at_end return seen (Some found) =

@@ -1,4 +1,4 @@
--- Comments and what is taken for one (HTML standard, sections 13.2.5.41 to 13.2.5.52).
+-- Comments and bogus comments (HTML standard, sections 13.2.5.41 to 13.2.5.52).
 use Rattle.std.specs.Prelude.{ℕ, Bool, List, [], ◌∷◌, ◌++◌, ◌==◌, ◌||◌, if◌then◌else◌, codes}
 use Rattle.std.specs.Char.{to_ascii_lowercase}
 use Rattle.h5_states.specs.declared.errors.ParseError.TheVariants.{UnexpectedNullCharacter, CdataInHtmlContent, IncorrectlyOpenedComment, AbruptClosingOfEmptyComment, NestedComment, IncorrectlyClosedComment}
@@ -15,13 +15,13 @@ bogus_comment_state comment x =
     else if x == null then wrong UnexpectedNullCharacter (to (BogusComment (comment ++ replacement)))
     else to (BogusComment (comment ++ (x ∷ [])))
 
--- whether one of the openings begins so
+-- one of the openings begins with this
 abbrev pub begins_opening : List ℕ → Bool
 begins_opening seen = begins same seen (codes "--") || (begins to_ascii_lowercase seen (codes "doctype") || begins same seen (codes "[CDATA["))
 
--- 13.2.5.42 Markup declaration open state. The standard looks ahead, at up to seven characters; here those that were seen
--- are kept, while "--", "DOCTYPE" in any case or "[CDATA[" begins so. That is the same: where they are none of these, the
--- standard goes over them in the bogus comment state, which takes each of them as it is.
+-- 13.2.5.42 Markup declaration open state. The standard looks ahead, at up to seven characters. Here the seen ones are stored
+-- while they begin "--", "DOCTYPE" in any case or "[CDATA[". The result is equal: if they become none of these, the standard
+-- reads them in the bogus comment state, which takes each of them as it is.
 abbrev pub markup_declaration_open_state : List ℕ → ℕ → Turn
 markup_declaration_open_state seen x =
     let now = seen ++ (x ∷ []) in

@@ -1,4 +1,4 @@
--- What is under construction while a tag or a doctype is read, and how it grows.
+-- What is built while a tag or a doctype is read, and how it grows.
 use Rattle.std.specs.Prelude.{ℕ, Bool, true, false, List, [], ◌∷◌, ◌++◌, Option, Some, None, if◌then◌else◌}
 use Rattle.std.specs.Option.{option_map}
 use Rattle.h5_names.specs.AttributeText.{AttributeText}
@@ -13,7 +13,7 @@ pub record Attribute : Type 0 where
   pub name : List ℕ
   pub value : List ℕ
 
--- a tag so far: its attributes that are complete, and its current one
+-- a tag so far: its complete attributes, and its current one
 pub record Tag : Type 0 where
   pub kind : TagKind
   pub name : List ℕ
@@ -28,7 +28,7 @@ new_tag kind name = record { kind = kind; name = name; self_closing = false; att
 abbrev pub named_further : List ℕ → Tag → Tag
 named_further more t = record t { name = t.name ++ more }
 
--- whether the current attribute's name stands in the tag already
+-- the tag already has an attribute with the name of the current one
 abbrev pub is_repeated_in : List AttributeText → Option Attribute → Bool
 is_repeated_in attrs None = false
 is_repeated_in attrs (Some a) = is_named_in a.name attrs
@@ -36,8 +36,8 @@ is_repeated_in attrs (Some a) = is_named_in a.name attrs
 abbrev pub is_repeated : Tag → Bool
 is_repeated t = is_repeated_in t.attrs t.current
 
--- The current attribute is complete. It is dropped where its name stands in the tag already. The standard drops it when
--- its name is complete; then nothing looks at it any more but its own value.
+-- The current attribute is complete. It is dropped if the tag already has one with its name. The standard drops it when its
+-- name is complete; after that, nothing uses it except what builds its own value.
 abbrev pub with_complete : Tag → Option Attribute → Tag
 with_complete t None = t
 with_complete t (Some a) =
@@ -47,7 +47,7 @@ with_complete t (Some a) =
 abbrev pub completed : Tag → Tag
 completed t = with_complete t t.current
 
--- a new attribute is started, with this as its name so far
+-- a new attribute begins, with this name so far
 abbrev pub with_attribute : List ℕ → Tag → Tag
 with_attribute name t = record (completed t) { current = Some (record { name = name; value = [] }) }
 
@@ -81,7 +81,7 @@ doctype_named_further more d = record d { name = option_map (λ name. name ++ mo
 abbrev pub quirky : DoctypeText → DoctypeText
 quirky d = record d { force_quirks = true }
 
--- an identifier is set to the empty one
+-- an identifier is set to the empty string
 abbrev pub with_identifier : Identifier → DoctypeText → DoctypeText
 with_identifier Public d = record d { public_id = Some [] }
 with_identifier System d = record d { system_id = Some [] }

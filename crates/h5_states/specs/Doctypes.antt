@@ -42,13 +42,13 @@ doctype_name_state d x =
     else if x == null then wrong UnexpectedNullCharacter (to (DoctypeName (doctype_named_further replacement d)))
     else to (DoctypeName (doctype_named_further (to_ascii_lowercase x ∷ []) d))
 
--- whether one of the keywords begins so
+-- one of the keywords begins with this
 abbrev pub begins_keyword : List ℕ → Bool
 begins_keyword seen = begins to_ascii_lowercase seen (codes "public") || begins to_ascii_lowercase seen (codes "system")
 
--- 13.2.5.56 After DOCTYPE name state. The standard looks ahead, at six characters; here those that were seen are kept, while
--- "PUBLIC" or "SYSTEM" in any case begins so. That is the same: where they are neither, the standard goes over them in the
--- bogus DOCTYPE state, which ignores letters. Blanks and '>' count only before the first of them.
+-- 13.2.5.56 After DOCTYPE name state. The standard looks ahead, at six characters. Here the seen ones are stored while they
+-- begin "PUBLIC" or "SYSTEM" in any case. The result is equal: if they become neither, the standard reads them in the bogus
+-- DOCTYPE state, which ignores letters. Whitespace and '>' count only before the first of them.
 abbrev pub after_doctype_name_state : DoctypeText → List ℕ → ℕ → Turn
 after_doctype_name_state d seen x =
     let now = seen ++ (x ∷ []) in

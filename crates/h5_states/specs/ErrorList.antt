@@ -1,9 +1,9 @@
--- A list of the first errors that were told, and how many came behind them.
+-- A list of the first errors that were reported, and the number of later ones.
 use Rattle.std.specs.Prelude.{◌≡◌, ℕ, List, ◌++◌, length}
 use Rattle.std.specs.Io.Iter.{u64_saturate}
-use Rattle.h5_states.specs.declared.position.ToldError.{ToldError}
+use Rattle.h5_states.specs.declared.position.LocatedError.{LocatedError}
 
-pub record IsListOf (kept : List ToldError) (more : ℕ) (told : List ToldError) : Type 0 where
-  pub rest : List ToldError
+pub record IsListOf (kept : List LocatedError) (more : ℕ) (told : List LocatedError) : Type 0 where
+  pub rest : List LocatedError
   pub split : told ≡ kept ++ rest
   pub count : more ≡ u64_saturate (length rest)

@@ -8,14 +8,14 @@ use Rattle.h5_states.specs.References.{is_noncharacter, is_control}
 use Rattle.h5_states.specs.Signs.{null}
 use Rattle.h5_states.specs.Spots.{is_inside}
 
--- of a code point: a noncharacter, or a control that is neither NULL nor ASCII whitespace
+-- of a code point: a noncharacter, or a control other than NULL and ASCII whitespace
 abbrev pub character_errors : ℕ → List ParseError
 character_errors c =
     if is_noncharacter c then NoncharacterInInputStream ∷ []
     else if is_control c && not (c == null || c == 13) then ControlCharacterInInputStream ∷ []
     else []
 
--- Of what is left of the input, where its first byte is new or not: the errors of the character that begins there.
+-- The errors at the start of an input, whose first byte is new or not: those of the character that begins there.
 pub data InputErrors : Bool → List ℕ → List ParseError → Type 0 where
   of_character : {xs : List ℕ} (c : ℕ) (rest : List ℕ) → IsScalar c → xs ≡ encode_utf8 c ++ rest → InputErrors true xs (character_errors c)
   inside : {x : ℕ} {xs : List ℕ} → is_inside x ≡ true → InputErrors true (x ∷ xs) []

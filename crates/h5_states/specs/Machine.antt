@@ -1,8 +1,8 @@
--- The rows together: what each state does at a byte (HTML standard, section 13.2.5).
+-- All rows: what each state does at a byte (HTML standard, section 13.2.5).
 --
--- A byte is one of UTF-8. The rows name ASCII characters alone, and where the standard has "anything else" the bytes of one
--- character go the same way, one after another. So that is the same as by characters. CARRIAGE RETURN doesn't come here: it
--- was made a LINE FEED before.
+-- A byte is one of UTF-8. The rows name only ASCII characters, and for the standard's "anything else" the bytes of one
+-- character are handled in the same way, one after another. So this equals reading by characters. No byte is CARRIAGE RETURN:
+-- it has become LINE FEED before.
 use Rattle.std.specs.Prelude.{ℕ, List}
 use Rattle.h5_states.specs.States as s
 use Rattle.h5_states.specs.States.{State}
@@ -14,7 +14,7 @@ use Rattle.h5_states.specs.Doctypes as d
 use Rattle.h5_states.specs.References as r
 use Rattle.h5_states.specs.References.{Reference}
 
--- by the table of references and the last start tag's name
+-- for a table of references and the last start tag's name
 abbrev pub turn : List Reference → List ℕ → State → ℕ → Turn
 turn table last (s.Text kind) x = t.text_state kind x
 turn table last s.TagOpen x = g.tag_open_state x

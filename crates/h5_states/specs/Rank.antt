@@ -7,12 +7,12 @@ use Rattle.h5_states.specs.Turn.{Reconsumed}
 use Rattle.h5_states.specs.References.{Reference}
 use Rattle.h5_states.specs.Machine.{turn}
 
--- 0 where the byte is consumed
+-- 0 if the byte is consumed
 abbrev pub unless : Bool → ℕ
 unless consumed = if consumed then 0 else 1
 
--- By how many rows a byte is reconsumed at most, from a state on. Two states, of attributes' names, reconsume in one
--- another, so that depends on the byte: the one leaves at blanks, '/' and '>' alone, and the other consumes those.
+-- How many rows reconsume a byte at most, from a state on. Two states for attributes' names reconsume a byte in each other, so
+-- the number depends on the byte: one leaves only at whitespace, '/' and '>', and the other consumes these.
 abbrev pub rank : State → ℕ → ℕ
 rank (Text kind) x = 0
 rank (TagName tag) x = 0
@@ -41,7 +41,7 @@ rank (CommentLessThanSignBangDash comment) x = 2
 rank (CommentLessThanSignBangDashDash comment) x = 2
 rank state x = 1
 
--- From a state on, a byte meets so many rows, of which all but the last reconsume it. The last is that of the other state.
+-- From a state on, a byte gets this number of rows; all but the last reconsume it. The last row is that of the other state.
 pub data Meets (table : List Reference) (last : List ℕ) (x : ℕ) : ℕ → State → State → Type 0 where
   one_row : {s : State} → Meets table last x 1 s s
   more_rows : {n : ℕ} {s t u : State} (text : List ℕ) → (turn table last s x).outcome ≡ Reconsumed text t → Meets table last x n t u → Meets table last x (suc n) s u

@@ -1,4 +1,4 @@
--- The states between the start tag of a raw element and its end tag, that one included.
+-- The states between the start tag of a raw element and its end tag, including those of the end tag.
 use Rattle.std.specs.Prelude.{◌≡◌, true, List, [], ◌∷◌}
 use Rattle.h5_token.specs.TokenText.{TokenText, DoctypeIs, TagIs, CommentIs, Characters, NullCharacter, EndOfFile, ParseErrorIs}
 use Rattle.h5_states.specs.declared.kinds.TextKind.{TextKind}
@@ -16,7 +16,7 @@ IsRawText ScriptData = Unit {0}
 IsRawText Plaintext = ⊥
 IsRawText CdataSection = ⊥
 
--- an end tag is under construction
+-- an end tag is being built
 abbrev pub IsEnd : Tag → Type 0
 IsEnd tag = is_end tag.kind ≡ true
 
@@ -66,13 +66,13 @@ IsEndTag NullCharacter = ⊥
 IsEndTag EndOfFile = ⊥
 IsEndTag (ParseErrorIs message) = ⊥
 
--- behind a step: such a state, or an end tag
+-- after a step: such a state, or an end tag
 abbrev pub RawBehind : List TokenText → State → Type 0
 RawBehind [] state = IsRaw state
 RawBehind (Characters text ∷ ts) state = IsRaw state
 RawBehind (t ∷ ts) state = IsEndTag t
 
--- such a state comes next, or an end tag is emitted; nothing is asked
+-- such a state comes next, or an end tag is emitted; the adjusted current node isn't checked
 abbrev pub StaysRaw : Outcome → Type 0
 StaysRaw (Consumed text state) = IsRaw state
 StaysRaw (Reconsumed text state) = IsRaw state

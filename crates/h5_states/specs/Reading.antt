@@ -1,7 +1,7 @@
--- Reading: what is handed on of an input, and where reading stops.
+-- Reading: what is emitted of an input, and where reading stops.
 --
--- Bytes are passed by the rows, one after another. A place is a state, and holds no bytes: what was seen of an input is in
--- the state or has been handed on. A byte order mark is no part of the input here; whoever reads it passes over it before.
+-- The rows take one byte after another. A place is a state, and holds no bytes: what was seen of an input is in the state or
+-- was emitted. A byte order mark isn't part of the input here; it is skipped before.
 use Rattle.std.specs.Prelude.{◌≡◌, ℕ, ◌+◌, Bool, true, false, List, [], ◌∷◌, ◌++◌, ◌==◌, ◌&&◌, if◌then◌else◌}
 use Rattle.std.specs.Io.Iter.{u64_saturate}
 use Rattle.h5_token.specs.TokenText.{TokenText, TagIs, Characters}
@@ -25,7 +25,7 @@ raw_text chosen.Rcdata = Rcdata
 raw_text chosen.Rawtext = Rawtext
 raw_text chosen.ScriptData = ScriptData
 
--- the state that an answer to a start tag chooses
+-- the state that a reply to a start tag chooses
 abbrev pub chosen_state : Reply → State
 chosen_state Continues = Text Data
 chosen_state (RunsScript node) = Text Data
@@ -34,8 +34,8 @@ chosen_state (TurnsRaw kind) = Text (raw_text kind)
 chosen_state (Indicates encoding) = Text Data
 chosen_state (Refuses fault) = Text Data
 
--- Where reading is: its state, the last start tag's name, whether a CARRIAGE RETURN was the last byte, the line of what
--- comes next, and the line in which what has not been handed on yet began.
+-- The place of a reading: its state, the last start tag's name, whether the last byte was a CARRIAGE RETURN, the current line,
+-- and the line in which what isn't emitted yet began.
 pub record ReaderPlace : Type 0 where
   pub state : State
   pub last : List ℕ
@@ -43,11 +43,11 @@ pub record ReaderPlace : Type 0 where
   pub line : ℕ
   pub began : ℕ
 
--- a LINE FEED behind a CARRIAGE RETURN, which was a newline already
+-- a LINE FEED after a CARRIAGE RETURN, which already was a newline
 abbrev pub is_dropped : ReaderPlace → ℕ → Bool
 is_dropped p x = p.after_return && x == 10
 
--- whether all that was consumed has been emitted
+-- all that was consumed has been emitted
 abbrev pub is_all_emitted : State → Bool
 is_all_emitted (Text kind) = true
 is_all_emitted ScriptDataEscapeStart = true
@@ -62,15 +62,15 @@ is_all_emitted (AmbiguousAmpersand ToData) = true
 is_all_emitted (AmbiguousAmpersand ToRcdata) = true
 is_all_emitted state = false
 
--- the line behind a byte. The count stays at the most a u64 holds.
+-- the line after a byte. The count stops at the maximum of a u64.
 abbrev pub line_after : ReaderPlace → ℕ → ℕ
 line_after p x = if normal x == 10 then u64_saturate (p.line + 1) else p.line
 
--- what is emitted next begins in this line
+-- the line in which what is emitted next begins
 abbrev pub beginning : State → ℕ → ReaderPlace → ℕ
 beginning state line p = if is_all_emitted state then line else p.began
 
--- behind a byte that was consumed
+-- after a consumed byte
 abbrev pub behind : ℕ → State → ReaderPlace → ReaderPlace
 behind x state p = record {
   state = state;
@@ -80,11 +80,11 @@ behind x state p = record {
   began = beginning state (line_after p x) p;
 }
 
--- before a byte that is reconsumed
+-- before a reconsumed byte
 abbrev pub in_state : State → ReaderPlace → ReaderPlace
 in_state state p = record p { state = state; began = beginning state p.line p }
 
--- behind a LINE FEED that is dropped
+-- after a LINE FEED that is dropped
 abbrev pub behind_newline : ReaderPlace → ReaderPlace
 behind_newline p = record p { after_return = false }
 
@@ -92,18 +92,18 @@ abbrev pub after_tag : TagKind → List ℕ → Reply → ReaderPlace → Reader
 after_tag StartTag name reply p = record p { state = chosen_state reply; last = name }
 after_tag EndTag name reply p = p
 
--- behind a token that was answered so
+-- after a token with this reply
 abbrev pub after_token : TokenText → Reply → ReaderPlace → ReaderPlace
 after_token (TagIs tag) reply p = after_tag tag.kind tag.name reply p
 after_token token reply p = p
 
--- by the table of references
+-- for a table of references
 module _ (table : List Reference) where
-  -- what is done at a byte
+  -- the outcome at a byte
   abbrev pub outcome : ReaderPlace → ℕ → Outcome
   outcome p x = (turn table p.last p.state (normal x)).outcome
 
-  -- From a place, bytes are passed that emit this text, and no token. The adjusted current node isn't asked for.
+  -- From a place, bytes are passed that emit this text, and no token. The adjusted current node isn't checked.
   pub data Passes : ReaderPlace → List ℕ → List ℕ → ReaderPlace → List ℕ → Type 0 where
     passed : {p : ReaderPlace} {xs : List ℕ} → Passes p xs [] p xs
     drops : {p q : ReaderPlace} {x : ℕ} {xs ys text : List ℕ} → is_dropped p x ≡ true
@@ -114,9 +114,9 @@ module _ (table : List Reference) where
         → Passes (in_state state p) (x ∷ xs) more q ys → Passes p (x ∷ xs) (text ++ more) q ys
 
   module _ {M : Type 0} (reply_to : M → TokenText → Reply) (after : M → TokenText → ℕ → M) (foreign : M → Bool) where
-    -- One step: from a place, a meaning and an input, these tokens are handed on, the last is answered so, and this is
-    -- left. A text is handed on wherever that is convenient, but wholly before a token and before a question. A token is
-    -- told with the line in which it began.
+    -- One step: from a place, a meaning and an input, these tokens are emitted; the reply is the last token's; and this input
+    -- is left. A text may be emitted at any byte, but all of it is emitted before a token and before the adjusted current node
+    -- is checked. A token has the line in which it began.
     pub data Step : ReaderPlace → M → List ℕ → List TokenText → Reply → ReaderPlace → M → List ℕ → Type 0 where
       quiet_step : {p q : ReaderPlace} {m : M} {xs ys : List ℕ} → Passes p xs [] q ys → Step p m xs [] Continues q m ys
       text_step : {p q : ReaderPlace} {m : M} {x : ℕ} {text xs ys : List ℕ} → Passes p xs (x ∷ text) q ys
@@ -127,7 +127,7 @@ module _ (table : List Reference) where
           → outcome p x ≡ Asks there error elsewhere
           → Step p m (x ∷ xs) [] Continues (behind x (if foreign m then there else elsewhere) p) m xs
 
-    -- Steps, one after another, each after an answer after which reading goes on.
+    -- Steps, one after another, each after a reply after which tokenization goes on.
     pub data Read : ReaderPlace → M → List ℕ → List TokenText → Reply → ReaderPlace → M → List ℕ → Type 0 where
       nothing_read : {p : ReaderPlace} {m : M} {xs : List ℕ} → Read p m xs [] Continues p m xs
       read_on : {p q r : ReaderPlace} {m n o : M} {xs ys zs : List ℕ} {ts us : List TokenText} {reply next : Reply}

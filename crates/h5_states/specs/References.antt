@@ -11,20 +11,20 @@ use Rattle.h5_states.specs.Construction.{value_further}
 use Rattle.h5_states.specs.States.{Return, ToData, ToRcdata, ToValue, returned, NamedCharacterReference, AmbiguousAmpersand, NumericCharacterReference, HexadecimalStart, DecimalStart, Hexadecimal, Decimal, NumericCharacterReferenceEnd}
 use Rattle.h5_states.specs.Turn.{Turn, wrong, wrong_if, to, emit, again, emit_again, flush, flush_again}
 
--- a name, without the '&', and the text that it stands for
+-- a name, without the '&', and its characters
 abbrev pub Reference : Type 0
 Reference = List ℕ × List ℕ
 
--- whether a name of the table begins so
+-- a name of the table begins with this
 abbrev pub is_beginning : List Reference → List ℕ → Bool
 is_beginning table seen = list_any (λ reference. begins same seen reference.0) table
 
--- what a name stands for, if it is one
+-- the characters of a name, if it is in the table
 abbrev pub meaning_of : List Reference → List ℕ → Option (List ℕ)
 meaning_of [] name = None
 meaning_of (reference ∷ table) name = if is_same_text reference.0 name then Some reference.1 else meaning_of table name
 
--- the longest beginning of what was seen that is a name, and what follows it
+-- the longest prefix of what was seen that is a name, and what follows it
 pub record Longest : Type 0 where
   pub name : List ℕ
   pub text : List ℕ
@@ -62,7 +62,7 @@ character_reference_state return x =
     else if x == number_sign then to (NumericCharacterReference return)
     else flush_again return (codes "&")
 
--- no name was found: what was seen is text, as the ambiguous ampersand state has it for letters and digits
+-- no name was found: what was seen is text, by the ambiguous ampersand state for letters and digits
 abbrev pub unnamed : Return → List ℕ → Turn
 unnamed ToData text = emit_again text (AmbiguousAmpersand ToData)
 unnamed ToRcdata text = emit_again text (AmbiguousAmpersand ToRcdata)
@@ -71,23 +71,23 @@ unnamed (ToValue value tag) text = again (AmbiguousAmpersand (ToValue value (val
 abbrev pub is_closed : Longest → Bool
 is_closed found = ends_in semicolon found.name
 
--- for historical reasons, a name without a semicolon is text in an attribute where '=' or an alphanumeric follows
+-- for historical reasons, a name without a semicolon in an attribute is text if '=' or an alphanumeric follows
 abbrev pub is_historical : Return → Longest → ℕ → Bool
 is_historical return found x =
     let next = first_of found.rest x in
     is_in_attribute return && (not (is_closed found) && (next == equals_sign || is_alphanumeric next))
 
--- a name was found, and what was seen behind it is text in each state that is returned to
+-- a name was found, and what was seen after it is text in each return state
 abbrev pub named : Return → List ℕ → ℕ → Option Longest → Turn
 named return seen x None = unnamed return (codes "&" ++ seen)
 named return seen x (Some found) =
     if is_historical return found x then flush_again return (codes "&" ++ seen)
     else wrong_if (not (is_closed found)) MissingSemicolonAfterCharacterReference (flush_again return (found.text ++ found.rest))
 
--- 13.2.5.73 Named character reference state. The standard looks ahead, and consumes as many characters as are a name. Here
--- those that were seen are kept while a name begins so, and then the longest beginning of them that is a name counts.
--- That is the same: they are letters and digits, since ';' only ends names, and each state that is returned to, and the
--- ambiguous ampersand state, take those as they are.
+-- 13.2.5.73 Named character reference state. The standard looks ahead, and consumes the longest name. Here the seen characters
+-- are stored while a name begins with them, and then their longest prefix that is a name counts. The result is equal: they are
+-- letters and digits, since ';' only ends names, and each return state and the ambiguous ampersand state take these as they
+-- are.
 abbrev pub named_character_reference_state : List Reference → Return → List ℕ → ℕ → Turn
 named_character_reference_state table return seen x =
     let now = seen ++ (x ∷ []) in
@@ -125,11 +125,11 @@ decimal_start_state return x =
 abbrev pub digit : ℕ → ℕ
 digit x = if is_ascii_digit x then x - 48 else to_ascii_lowercase x - 87
 
--- a number past the end of Unicode stays past it
+-- a number above the last code point stays above it
 abbrev pub bounded : ℕ → ℕ
 bounded code = if nat_lt 0x10ffff code then 0x110000 else code
 
--- the code points that references to 0x80 to 0x9F stand for, 0 where they stand for themselves
+-- the code points of references to 0x80 to 0x9F; 0 if the number is the code point
 abbrev pub replacements : List ℕ
 replacements =
     0x20ac ∷ 0 ∷ 0x201a ∷ 0x0192 ∷ 0x201e ∷ 0x2026 ∷ 0x2020 ∷ 0x2021 ∷ 0x02c6 ∷ 0x2030 ∷ 0x0160 ∷ 0x2039 ∷ 0x0152 ∷ 0 ∷ 0x017d ∷ 0
@@ -152,7 +152,7 @@ is_noncharacter c = (nat_le 0xfdd0 c && nat_le c 0xfdef) || nat_le 0xfffe (c % 0
 abbrev pub is_control : ℕ → Bool
 is_control c = (nat_lt c 0x20 && not (c == 9 || (c == 10 || c == 12))) || (nat_le 0x7f c && nat_le c 0x9f)
 
--- what a number stands for, and which error it is
+-- the code point of a number, and its errors
 abbrev pub code_point : ℕ → List ℕ
 code_point c =
     if c == 0 || (nat_lt 0x10ffff c || is_surrogate c) then replacement
@@ -172,7 +172,7 @@ code_errors c =
 abbrev pub numeric_character_reference_end_state : Return → ℕ → Turn
 numeric_character_reference_end_state return code = record (flush_again return (code_point code)) { errors = code_errors code }
 
--- the same, with the ';' that led there
+-- as above, but with the ';' before it
 abbrev pub ended_by_semicolon : Return → ℕ → Turn
 ended_by_semicolon return code = record (flush return (code_point code)) { errors = code_errors code }
 

@@ -1,4 +1,4 @@
--- The bytes that the rows name, under the names that the standard gives the characters.
+-- The bytes that the rows name, with the standard's names of the characters.
 use Rattle.std.specs.Prelude.{ℕ, Bool, List, [], ◌∷◌, ◌==◌, ◌||◌, ◌&&◌, nat_le}
 use Rattle.std.specs.Char.{is_ascii_alphabetic, is_ascii_digit}
 use Rattle.h5_states.specs.declared.kinds.Quote.{Quote}
@@ -49,11 +49,11 @@ right_square_bracket = 93
 abbrev pub grave_accent : ℕ
 grave_accent = 96
 
--- CHARACTER TABULATION, LINE FEED, FORM FEED, SPACE: a CARRIAGE RETURN became a LINE FEED before
+-- CHARACTER TABULATION, LINE FEED, FORM FEED, SPACE; a CARRIAGE RETURN has become a LINE FEED before
 abbrev pub is_blank : ℕ → Bool
 is_blank x = x == 9 || (x == 10 || (x == 12 || x == 32))
 
--- what ends a name
+-- a byte that ends a name
 abbrev pub is_name_end : ℕ → Bool
 is_name_end x = is_blank x || (x == solidus || x == greater_than_sign)
 

@@ -1,4 +1,4 @@
--- Where a byte stands in its line and in the input.
+-- The column and the offset of a byte.
 use Rattle.std.specs.Prelude.{ℕ, ◌+◌, ◌-◌, Bool, true, false, List, [], ◌∷◌, ◌==◌, ◌&&◌, nat_le, if◌then◌else◌}
 use Rattle.std.specs.Io.Iter.{u64_saturate}
 use Rattle.h5_states.specs.declared.position.Position.{Position}
@@ -9,7 +9,7 @@ use Rattle.h5_states.specs.Lines.{normal}
 abbrev pub position : ℕ → Spot → Position
 position line s = record { line = line; column = s.column; offset = s.offset }
 
--- so many characters before it, of ASCII and in its line
+-- n characters before a position, which are ASCII and in its line
 abbrev pub position_before : ℕ → Position → Position
 position_before n at = record { line = at.line; column = at.column - n; offset = at.offset - n }
 
@@ -17,14 +17,14 @@ position_before n at = record { line = at.line; column = at.column - n; offset =
 abbrev pub is_inside : ℕ → Bool
 is_inside x = nat_le 0x80 x && nat_le x 0xbf
 
--- the column behind a byte
+-- the column after a byte
 abbrev pub column_after : ℕ → ℕ → ℕ
 column_after column x =
     if normal x == 10 then 1
     else if is_inside x then column
     else u64_saturate (column + 1)
 
--- behind a byte that was consumed, and behind all of these
+-- after a consumed byte, and after consumed bytes
 abbrev pub spot_behind : ℕ → Spot → Spot
 spot_behind x s = record { column = column_after s.column x; offset = u64_saturate (s.offset + 1); is_new = true }
 
@@ -32,10 +32,10 @@ abbrev pub spot_behind_all : List ℕ → Spot → Spot
 spot_behind_all [] s = s
 spot_behind_all (x ∷ xs) s = spot_behind_all xs (spot_behind x s)
 
--- behind a LINE FEED that is dropped, which stands in no column
+-- after a LINE FEED that is dropped, which has no column
 abbrev pub spot_past : Spot → Spot
 spot_past s = record { column = s.column; offset = u64_saturate (s.offset + 1); is_new = true }
 
--- before a byte that a row has met
+-- before a byte that a row has handled
 abbrev pub spot_again : Spot → Spot
 spot_again s = record s { is_new = false }

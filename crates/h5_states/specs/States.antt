@@ -1,4 +1,4 @@
--- The 80 states of tokenization, each with what is under construction in it (HTML standard, section 13.2.5).
+-- The 80 states of tokenization, each with what is being built in it (HTML standard, section 13.2.5).
 use Rattle.std.specs.Prelude.{ℕ, List}
 use Rattle.h5_token.specs.TokenText.{DoctypeText}
 use Rattle.h5_states.specs.declared.kinds.TextKind.{TextKind}
@@ -16,14 +16,14 @@ pub data Value : Type 0 where
   Quoted : (quote : Quote) → Value
   Unquoted : Value
 
--- the return state of a character reference: where it stands, with the tag under construction there
+-- the return state of a character reference, with the tag that is being built there
 pub data Return : Type 0 where
   ToData : Return
   ToRcdata : Return
   ToValue : (value : Value) → (tag : Tag) → Return
 
--- In the standard's order. The section of each is 13.2.5 and its number. One constructor stands for several states where
--- their rows differ in names alone. A buffer has the standard's temporary buffer, where it is looked at.
+-- In the standard's order. The section of each is 13.2.5 and its number. One constructor represents several states if their
+-- rows differ only in names. A buffer is the standard's temporary buffer, in the states that look at it.
 pub data State : Type 0 where
   Text : (kind : TextKind) → State  -- 1 to 5, 69
   TagOpen : State  -- 6
@@ -87,7 +87,7 @@ returned ToData = Text Data
 returned ToRcdata = Text Rcdata
 returned (ToValue value tag) = AttributeValue value tag
 
--- the text that is read where no end tag ends it
+-- the text that is read if no end tag ends it
 abbrev pub text_of : RawTextKind → State
 text_of raw.Rcdata = Text Rcdata
 text_of raw.Rawtext = Text Rawtext

@@ -1,18 +1,18 @@
--- What holds of the table of named character references.
+-- Properties of the table of named character references.
 use Rattle.std.specs.Prelude.{ℕ, Bool, true, false, List, [], ◌∷◌, ◌==◌, ◌&&◌, ◌||◌, nat_lt, if◌then◌else◌}
 use Rattle.std.specs.Char.{is_ascii_alphabetic}
 use Rattle.std.specs.List.{list_all}
 use Rattle.h5_states.specs.Signs.{semicolon, is_alphanumeric}
 use Rattle.h5_states.specs.References.{Reference}
 
--- byte by byte, and a text after its beginnings
+-- byte by byte; a text is after its prefixes
 abbrev pub is_before : List ℕ → List ℕ → Bool
 is_before [] [] = false
 is_before [] (y ∷ ys) = true
 is_before (x ∷ xs) [] = false
 is_before (x ∷ xs) (y ∷ ys) = if x == y then is_before xs ys else nat_lt x y
 
--- each name comes before the next one, so none stands there twice
+-- each name is before the next one, so no name appears twice
 abbrev pub are_behind : List ℕ → List Reference → Bool
 are_behind name [] = true
 are_behind name (r ∷ rs) = is_before name r.0 && are_behind r.0 rs
@@ -23,7 +23,7 @@ is_further_name [] = true
 is_further_name (x ∷ []) = is_alphanumeric x || x == semicolon
 is_further_name (x ∷ y ∷ xs) = is_alphanumeric x && is_further_name (y ∷ xs)
 
--- a letter, and then such
+-- a letter, and then the same
 abbrev pub is_name : List ℕ → Bool
 is_name [] = false
 is_name (x ∷ xs) = is_ascii_alphabetic x && is_further_name xs
@@ -32,6 +32,6 @@ abbrev pub is_full : List ℕ → Bool
 is_full [] = false
 is_full (x ∷ xs) = true
 
--- names that stand for some text
+-- names whose texts aren't empty
 abbrev pub are_references : List Reference → Bool
 are_references = list_all (λ r. is_name r.0 && is_full r.1)

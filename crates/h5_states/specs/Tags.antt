@@ -47,7 +47,7 @@ before_attribute_name_state t x =
 abbrev pub is_odd_in_name : ℕ → Bool
 is_odd_in_name x = is_quote x || x == less_than_sign
 
--- 13.2.5.33 Attribute name state: where it is left, a name that stands there already is an error
+-- 13.2.5.33 Attribute name state: on leaving it, a name that the tag already has is an error
 abbrev pub attribute_name_state : Tag → ℕ → Turn
 attribute_name_state t x =
     let repeated = is_repeated t in

@@ -1,11 +1,11 @@
--- Reading, with the parse errors that it tells: a reader that takes one byte after another.
+-- Reading with the parse errors that it reports, one byte after another.
 use Rattle.std.specs.Prelude.{◌≡◌, ◌==◌, ◌⊎◌, ℕ, Bool, true, false, List, [], ◌∷◌, ◌++◌, if◌then◌else◌}
 use Rattle.h5_token.specs.TokenText.{TokenText, Characters}
 use Rattle.h5_token.specs.Reply.{Reply, Continues}
 use Rattle.h5_reading.specs.Answers.{goes_on}
 use Rattle.h5_states.specs.declared.errors.ParseError.{ParseError}
 use Rattle.h5_states.specs.declared.position.Position.{Position}
-use Rattle.h5_states.specs.declared.position.ToldError.{ToldError}
+use Rattle.h5_states.specs.declared.position.LocatedError.{LocatedError}
 use Rattle.h5_states.specs.Lines.{normal}
 use Rattle.h5_states.specs.States.{State}
 use Rattle.h5_states.specs.Turn.{Outcome, Consumed, Reconsumed, Emitted, Asks}
@@ -19,8 +19,8 @@ use Rattle.h5_states.specs.SeenAhead.{seen_ahead, told_of_row}
 use Rattle.h5_states.specs.Spots.{position, spot_behind, spot_past, spot_again}
 use Rattle.h5_states.specs.InputErrors.{InputErrors}
 
--- How far a reading came: the text that was emitted and not handed on, and the line in which it began; the last answer;
--- where reading is; what the sink means; and what is left of the input.
+-- How far a reading got: the text that was emitted but not passed to the sink, and the line in which it began; the last reply;
+-- the place; the sink's meaning; and the remaining input.
 pub record Reached (M : Type 0) : Type 0 where
   pub text : List ℕ
   pub line : ℕ
@@ -41,24 +41,25 @@ row_errors table p x = (turn table p.last p.state (normal x)).errors
 abbrev pub end_errors : List Reference → ReaderPlace → List ParseError
 end_errors table p = (at_end table p.state).errors
 
--- where reading is
+-- the position of the reading
 abbrev pub here : {M : Type 0} → Reached M → Position
 here r = position r.place.line r.spot
 
--- what is told at a byte: these errors of the input, and then those of the row, which come first where they stand before it
-abbrev pub in_order : ℕ → List ToldError → List ToldError → List ToldError
+-- the errors at a byte: those of the input and then those of the row; if bytes were seen ahead, first those of the row, which
+-- are before it
+abbrev pub in_order : ℕ → List LocatedError → List LocatedError → List LocatedError
 in_order ahead input row = if ahead == 0 then input ++ row else row ++ input
 
-abbrev pub told_at_byte : List Reference → ReaderPlace → Position → ℕ → List ParseError → List ToldError
+abbrev pub told_at_byte : List Reference → ReaderPlace → Position → ℕ → List ParseError → List LocatedError
 told_at_byte table p at x input = in_order (seen_ahead table p.state) (told_at at input) (told_of_row (seen_ahead table p.state) at (row_errors table p x))
 
--- those of the end
-abbrev pub told_at_end : List Reference → ReaderPlace → Position → List ToldError
+-- the errors of the end
+abbrev pub told_at_end : List Reference → ReaderPlace → Position → List LocatedError
 told_at_end table p at = told_of_row (seen_ahead table p.state) at (end_errors table p)
 
--- A row is done at the byte at hand, and reading may go on. These are the errors of the input there, if the byte is new, and
+-- A row handles the current byte, and tokenization may go on. The errors are those of the input there, if the byte is new, and
 -- those of the row.
-pub record MeetsByte (table : List Reference) {M : Type 0} (r : Reached M) (x : ℕ) (xs : List ℕ) (deed : Outcome) (errors : List ToldError) : Type 0 where
+pub record MeetsByte (table : List Reference) {M : Type 0} (r : Reached M) (x : ℕ) (xs : List ℕ) (deed : Outcome) (errors : List LocatedError) : Type 0 where
   pub goes_on : goes_on r.reply ≡ true
   pub front : r.rest ≡ x ∷ xs
   pub not_dropped : is_dropped r.place x ≡ false
@@ -67,18 +68,18 @@ pub record MeetsByte (table : List Reference) {M : Type 0} (r : Reached M) (x : 
   pub input_errors : InputErrors r.spot.is_new r.rest input
   pub errors_are : errors ≡ told_at_byte table r.place (here r) x input
 
--- behind the byte at hand, which was consumed
+-- after the current byte, which was consumed
 abbrev pub consumed : {M : Type 0} → ℕ → List ℕ → State → Reached M → Reached M
 consumed x xs state r = record r { reply = Continues; place = behind x state r.place; spot = spot_behind x r.spot; rest = xs }
 
 abbrev pub reconsumed : {M : Type 0} → State → Reached M → Reached M
 reconsumed state r = record r { reply = Continues; place = in_state state r.place; spot = spot_again r.spot }
 
--- behind a LINE FEED that is dropped
+-- after a LINE FEED that is dropped
 abbrev pub dropped : {M : Type 0} → List ℕ → Reached M → Reached M
 dropped xs r = record r { reply = Continues; place = behind_newline r.place; spot = spot_past r.spot; rest = xs }
 
--- a text is emitted, behind what is held
+-- a text is emitted, after what is held
 abbrev pub emitting : {M : Type 0} → List ℕ → Reached M → Reached M
 emitting text r = record r { text = r.text ++ text }
 
@@ -87,38 +88,38 @@ abbrev pub with_none : {M : Type 0} → Reached M → Reached M
 with_none r = record r { text = []; line = r.place.began }
 
 module _ {M : Type 0} (reply_to : M → TokenText → Reply) (after : M → TokenText → ℕ → M) where
-  -- a token was handed on, which began in this line
+  -- a token was passed to the sink, which began in this line
   abbrev pub handed : TokenText → ℕ → Reached M → Reached M
   handed token line r = with_none (record r { reply = reply_to r.meaning token; place = after_token token (reply_to r.meaning token) r.place; meaning = after r.meaning token line })
 
 module _ (table : List Reference) {M : Type 0} (reply_to : M → TokenText → Reply) (after : M → TokenText → ℕ → M) (foreign : M → Bool) where
-  -- Reading from here on came so far, and told these errors.
-  pub data Reaches (start : Reached M) : Reached M → List ToldError → Type 0 where
+  -- Reading from `start` got to here, and reported these errors.
+  pub data Reaches (start : Reached M) : Reached M → List LocatedError → Type 0 where
     begins : Reaches start start []
-    drops : {r : Reached M} {told : List ToldError} {x : ℕ} {xs : List ℕ} → Reaches start r told
+    drops : {r : Reached M} {told : List LocatedError} {x : ℕ} {xs : List ℕ} → Reaches start r told
         → goes_on r.reply ≡ true → r.rest ≡ x ∷ xs → is_dropped r.place x ≡ true → Reaches start (dropped xs r) told
-    goes : {r : Reached M} {told : List ToldError} {x : ℕ} {xs : List ℕ} {errors : List ToldError} (text : List ℕ) (state : State) → Reaches start r told
+    goes : {r : Reached M} {told : List LocatedError} {x : ℕ} {xs : List ℕ} {errors : List LocatedError} (text : List ℕ) (state : State) → Reaches start r told
         → MeetsByte table r x xs (Consumed text state) errors
         → Reaches start (emitting text (consumed x xs state r)) (told ++ errors)
-    again : {r : Reached M} {told : List ToldError} {x : ℕ} {xs : List ℕ} {errors : List ToldError} (text : List ℕ) (state : State) → Reaches start r told
+    again : {r : Reached M} {told : List LocatedError} {x : ℕ} {xs : List ℕ} {errors : List LocatedError} (text : List ℕ) (state : State) → Reaches start r told
         → MeetsByte table r x xs (Reconsumed text state) errors
         → Reaches start (emitting text (reconsumed state r)) (told ++ errors)
-    -- the text that is held is handed on, wherever that is convenient
-    hands_text : {r : Reached M} {told : List ToldError} {x : ℕ} {text : List ℕ} → Reaches start r told
+    -- the held text is passed to the sink, at any byte
+    hands_text : {r : Reached M} {told : List LocatedError} {x : ℕ} {text : List ℕ} → Reaches start r told
         → goes_on r.reply ≡ true → r.text ≡ x ∷ text → Reaches start (handed reply_to after (Characters r.text) r.line r) told
-    -- there is none
-    hands_nothing : {r : Reached M} {told : List ToldError} → Reaches start r told
+    -- no text is held
+    hands_nothing : {r : Reached M} {told : List LocatedError} → Reaches start r told
         → goes_on r.reply ≡ true → r.text ≡ [] → Reaches start (at_first r.place r.spot r.meaning r.rest) told
-    hands_token : {r : Reached M} {told : List ToldError} {x : ℕ} {xs : List ℕ} {errors : List ToldError} (token : TokenText) (state : State) → Reaches start r told
+    hands_token : {r : Reached M} {told : List LocatedError} {x : ℕ} {xs : List ℕ} {errors : List LocatedError} (token : TokenText) (state : State) → Reaches start r told
         → r.text ≡ [] → MeetsByte table r x xs (Emitted token state) errors
         → Reaches start (handed reply_to after token r.place.began (consumed x xs state r)) (told ++ errors)
-    -- the adjusted current node is asked for, and where it is in the HTML namespace that is an error
-    asks : {r : Reached M} {told : List ToldError} {x : ℕ} {xs : List ℕ} {errors : List ToldError} (there : State) (error : ParseError) (elsewhere : State) → Reaches start r told
+    -- the adjusted current node is checked; if it is in the HTML namespace, that is an error
+    asks : {r : Reached M} {told : List LocatedError} {x : ℕ} {xs : List ℕ} {errors : List LocatedError} (there : State) (error : ParseError) (elsewhere : State) → Reaches start r told
         → r.text ≡ [] → MeetsByte table r x xs (Asks there error elsewhere) errors
         → Reaches start (with_none (consumed x xs (if foreign r.meaning then there else elsewhere) r))
         (told ++ (if foreign r.meaning then errors else errors ++ told_at (here r) (error ∷ [])))
 
-  -- An input was read up to an answer, and then bytes were passed up to here. What they emit is held, and began in this line.
+  -- An input was read up to a reply, and then bytes were passed up to here. What they emit is held, and began in this line.
   pub record IsHeld (p : ReaderPlace) (m : M) (xs : List ℕ) (r : Reached M) : Type 0 where
     pub tokens : List TokenText
     pub reply : Reply
@@ -129,7 +130,7 @@ module _ (table : List Reference) {M : Type 0} (reply_to : M → TokenText → R
     pub passes : Passes table place rest r.text r.place r.rest
     pub began : r.line ≡ place.began
 
-  -- An input was read up to here, where it was answered so. Nothing is held.
+  -- An input was read up to here, with this reply. Nothing is held.
   pub record IsHanded (p : ReaderPlace) (m : M) (xs : List ℕ) (r : Reached M) : Type 0 where
     pub tokens : List TokenText
     pub read : Read table reply_to after foreign p m xs tokens r.reply r.place r.meaning r.rest

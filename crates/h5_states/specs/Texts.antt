@@ -65,13 +65,13 @@ abbrev pub raw_end_tag_open_state : RawTextKind → ℕ → Turn
 raw_end_tag_open_state kind x =
     if is_ascii_alphabetic x then again (RawEndTagName kind []) else emit_again (codes "</") (text_of kind)
 
--- whether an end tag token of this name is appropriate: there was a start tag, and the last one has this name
+-- an end tag token with this name is appropriate: there was a start tag, and the last one has this name
 abbrev pub is_appropriate : List ℕ → List ℕ → Bool
 is_appropriate [] buffer = false
 is_appropriate (c ∷ last) buffer = is_same_text (c ∷ last) (map to_ascii_lowercase buffer)
 
--- 13.2.5.11, 14, 17, 25: RCDATA, RAWTEXT, Script data and Script data escaped end tag name state. The buffer has the name as
--- it was written.
+-- 13.2.5.11, 14, 17, 25: RCDATA, RAWTEXT, Script data and Script data escaped end tag name state. The buffer has the name as it
+-- was written.
 abbrev pub raw_end_tag_name_state : List ℕ → RawTextKind → List ℕ → ℕ → Turn
 raw_end_tag_name_state last kind buffer x =
     let appropriate = is_appropriate last buffer in
@@ -140,7 +140,7 @@ script_data_double_escape_end_state buffer x =
     else if is_ascii_alphabetic x then emit (x ∷ []) (ScriptDataDoubleEscapeEnd (buffer ++ (to_ascii_lowercase x ∷ [])))
     else again (ScriptDataEscaped DoubleEscaped)
 
--- 13.2.5.69 CDATA section state: a NUL goes to the tree builder as it is
+-- 13.2.5.69 CDATA section state: a NUL is emitted unchanged
 abbrev pub cdata_section_state : ℕ → Turn
 cdata_section_state x =
     if x == right_square_bracket then to CdataSectionBracket

@@ -10,17 +10,17 @@ use Rattle.h5_states.specs.Construction.{Tag, completed, token_of, value_further
 use Rattle.h5_states.specs.States.{State, Text, AttributeValue, Return, ToData, ToRcdata, ToValue}
 
 pub data Outcome : Type 0 where
-  -- the byte is consumed, this text is emitted, and the state is this
+  -- the byte is consumed, this text is emitted, and this is the next state
   Consumed : (text : List ℕ) → (state : State) → Outcome
   -- this text is emitted, and the byte is reconsumed in this state
   Reconsumed : (text : List ℕ) → (state : State) → Outcome
-  -- the byte is consumed, and this token is emitted; the state is this, unless the tree builder changes it
+  -- the byte is consumed, and this token is emitted; this is the next state unless the tree builder changes it
   Emitted : (token : TokenText) → (state : State) → Outcome
-  -- the byte is consumed; the state is the first where the adjusted current node isn't in the HTML namespace, and
-  -- elsewhere this is an error, and the state is the other
+  -- the byte is consumed; if the adjusted current node isn't in the HTML namespace, the first state is next; if it is, this is
+  -- an error, and the other state is next
   Asks : (foreign : State) → (error : ParseError) → (other : State) → Outcome
 
--- parse errors, in their order, and then a deed
+-- parse errors, in their order, and then an outcome
 pub record Turn : Type 0 where
   pub errors : List ParseError
   pub outcome : Outcome
@@ -81,7 +81,7 @@ flush ToData text = emit text (Text Data)
 flush ToRcdata text = emit text (Text Rcdata)
 flush (ToValue value tag) text = to (AttributeValue value (value_further text tag))
 
--- the same, and reconsume in the return state
+-- as above, but reconsume in the return state
 abbrev pub flush_again : Return → List ℕ → Turn
 flush_again ToData text = emit_again text (Text Data)
 flush_again ToRcdata text = emit_again text (Text Rcdata)

@@ -9,7 +9,7 @@ use Rattle.h5_states.specs.References.{Reference}
 use Rattle.h5_states.specs.Reading.{ReaderPlace, Read}
 use Rattle.h5_states.specs.End.{last_tokens}
 
--- From a place, these bytes were passed of an input, up to a place and a rest. Its line is behind their newlines.
+-- From a place, these bytes of an input were passed, up to a place and the remaining input. Its line is after their newlines.
 pub record IsCounted (p : ReaderPlace) (xs : List ℕ) (q : ReaderPlace) (ys : List ℕ) : Type 0 where
   pub passed : List ℕ
   pub split : xs ≡ passed ++ ys
@@ -17,14 +17,14 @@ pub record IsCounted (p : ReaderPlace) (xs : List ℕ) (q : ReaderPlace) (ys : L
   pub after_return : q.after_return ≡ ends_in_cr p.after_return passed
 
 module _ (table : List Reference) {M : Type 0} (reply_to : M → TokenText → Reply) (after : M → TokenText → ℕ → M) (foreign : M → Bool) where
-  -- readings, one after another, where no token is refused
+  -- readings, one after another, without a refused token
   pub data Readings : ReaderPlace → M → List ℕ → List TokenText → ReaderPlace → M → List ℕ → Type 0 where
     no_reading : {p : ReaderPlace} {m : M} {xs : List ℕ} → Readings p m xs [] p m xs
     more_reading : {p q r : ReaderPlace} {m n o : M} {xs ys zs : List ℕ} {ts us : List TokenText} {reply : Reply}
         → Readings p m xs ts q n ys → Read table reply_to after foreign q n ys us reply r o zs → refuses reply ≡ false
         → Readings p m xs (ts ++ us) r o zs
 
-  -- Some reading of an input, which leaves something only where an answer stops it.
+  -- A reading of an input, which leaves something only if a reply stops it.
   pub record ReadsAll (p : ReaderPlace) (m : M) (xs : List ℕ) : Type 0 where
     pub tokens : List TokenText
     pub reply : Reply
@@ -35,8 +35,8 @@ module _ (table : List Reference) {M : Type 0} (reply_to : M → TokenText → R
     pub all : goes_on reply ≡ true → rest ≡ []
 
 module _ (table : List Reference) {M : Type 0} (reply_to : M → TokenText → Reply) (after : M → TokenText → ℕ → M) (foreign : M → Bool) (ended : M → M) where
-  -- An input was read to its end: all of it, and then the end. These tokens were handed on, and this is what the sink
-  -- means then.
+  -- An input was read to its end: all of it, and then the end. These tokens were emitted, and this is the sink's meaning
+  -- afterwards.
   pub record ReadsToEnd (p : ReaderPlace) (m : M) (xs : List ℕ) (ts : List TokenText) (n : M) : Type 0 where
     pub handed : List TokenText
     pub place : ReaderPlace
@@ -45,7 +45,7 @@ module _ (table : List Reference) {M : Type 0} (reply_to : M → TokenText → R
     pub tokens : ts ≡ handed ++ (last_tokens table place ++ EndOfFile ∷ [])
     pub closed : n ≡ ended (after (after_all after meaning (last_tokens table place) place.began) EndOfFile place.line)
 
-  -- some tokens were handed on
+  -- some tokens were emitted
   pub record IsReadToEnd (p : ReaderPlace) (m : M) (xs : List ℕ) : Type 0 where
     pub tokens : List TokenText
     pub meaning : M

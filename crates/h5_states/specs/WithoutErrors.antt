@@ -10,13 +10,13 @@ use Rattle.h5_states.specs.References.{Reference}
 use Rattle.h5_states.specs.Reading.{ReaderPlace}
 use Rattle.h5_states.specs.Telling.{Reached, Reaches, at_first, end_errors}
 
--- A text without errors of the input stream: characters, one after another, of which none is an error.
+-- A text without errors of the input stream: characters, one after another, none of which is an error.
 pub data HasNoInputErrors : List ℕ → Type 0 where
   no_character : HasNoInputErrors []
   a_character : {xs : List ℕ} (c : ℕ) (rest : List ℕ) → IsScalar c → character_errors c ≡ [] → xs ≡ encode_utf8 c ++ rest → HasNoInputErrors rest → HasNoInputErrors xs
 
 module _ (table : List Reference) {M : Type 0} (reply_to : M → TokenText → Reply) (after : M → TokenText → ℕ → M) (foreign : M → Bool) where
-  -- An input was read to its end, and no error was told of it. There is none at the end, too.
+  -- An input was read to its end, and no error was reported, not at the end either.
   pub record ReadsWithoutErrors (p : ReaderPlace) (s : Spot) (m : M) (xs : List ℕ) : Type 0 where
     pub reached : Reached M
     pub reaches : Reaches table reply_to after foreign (at_first p s m xs) reached []

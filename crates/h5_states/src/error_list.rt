@@ -1,15 +1,15 @@
-//! Parse errors in a list.
+//! A list of parse errors.
 
 ghost use Rattle.std.specs.Prelude.{◌≡◌, true, false, [], ◌∷◌, ◌++◌};
 
 use super::error_sink::ErrorSink;
 use super::errors::ParseError;
-use super::position::{Position, ToldError};
+use super::position::{LocatedError, Position};
 use std::alloc::Global;
 
-/// The first errors that are told, up to a limit, and how many come behind them.
+/// The first errors that were reported, up to a limit, and the number of later ones.
 pub struct Errors {
-    kept: Vec<ToldError>,
+    kept: Vec<LocatedError>,
     limit: usize,
     more: u64,
 }
@@ -25,7 +25,7 @@ impl Drop for Errors {
 }
 
 impl Errors {
-    /// No errors, of which so many are to be kept. It takes no memory.
+    /// Returns an empty list for at most `limit` errors. Allocates nothing.
     pub fn new(alloc: Global, limit: usize) -> Errors
         ensures kept { result.kept.items ≡ [] }
         ensures more { result.more ≡ 0 }
@@ -38,23 +38,23 @@ impl Errors {
         }
     }
 
-    /// The first errors that were told, in their order: as many as the limit, and fewer where fewer were told or memory was
-    /// refused.
-    pub fn kept(&self) -> &[ToldError]
+    /// Returns the first errors that were reported, in order. There are as many as the limit, or fewer if fewer were reported
+    /// or an allocation failed.
+    pub fn kept(&self) -> &[LocatedError]
         ensures { result.now ≡ self.now.kept.items }
     {
         &self.kept
     }
 
-    /// How many errors were told behind these. The count stays at the most a `u64` holds.
+    /// Returns the number of errors that were reported after these. It stops at the maximum of `u64`.
     pub fn more(&self) -> u64
         ensures { result ≡ self.now.more }
     {
         self.more
     }
 
-    // Keeps an error, if all were kept before, and there is room and memory. Whether it does.
-    fn keep(&mut self, told: ToldError) -> bool
+    // Adds an error if all previous ones were added, and there is room and memory. Returns true if the error was added.
+    fn keep(&mut self, told: LocatedError) -> bool
         ensures all { result ≡ true → self.old.more ≡ 0 }
         ensures kept { result ≡ true → self.new.kept.items ≡ self.old.kept.items ++ told ∷ [] }
         ensures not_kept { result ≡ false → self.new.kept.items ≡ self.old.kept.items }
@@ -70,15 +70,15 @@ impl ErrorSink for Errors {
     ghost Told = { λ errors told. IsListOf errors.kept.items errors.more told };
 
     fn error(&mut self, error: ParseError, at: Position) {
-        if !self.keep(ToldError { error, at }) {
+        if !self.keep(LocatedError { error, at }) {
             self.more = self.more.saturating_add(1);
         }
     }
 }
 
-/// Nobody: what is told isn't kept.
+/// Ignores all errors.
 impl ErrorSink for () {
-    ghost use Rattle.h5_states.specs.declared.position.ToldError.{ToldError};
+    ghost use Rattle.h5_states.specs.declared.position.LocatedError.{LocatedError};
 
     ghost Told = { λ nobody told. Unit {0} };
 

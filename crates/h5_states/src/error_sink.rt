@@ -1,18 +1,19 @@
-//! Who takes parse errors.
+//! Sinks of parse errors.
 
 ghost use Rattle.std.specs.Prelude.{◌≡◌, List, [], ◌∷◌, ◌++◌};
-ghost use Rattle.h5_states.specs.declared.position.ToldError.{ToldError};
+ghost use Rattle.h5_states.specs.declared.position.LocatedError.{LocatedError};
 ghost use Rattle.h5_states.specs.Told.{Tells};
 
 use super::errors::ParseError;
-use super::position::{Position, ToldError};
+use super::position::{LocatedError, Position};
 
-/// A taker of parse errors. What it was told is a relation between what it is and a list, so that it may keep a part.
+/// A sink of parse errors. `Told` relates it to the list of errors that were reported to it, so it may store only a part of
+/// them.
 pub trait ErrorSink {
-    // Whether these errors were told, in this order.
-    ghost Told: { Self → List ToldError → Type 0 };
+    // These errors were reported, in this order.
+    ghost Told: { Self → List LocatedError → Type 0 };
 
-    /// Takes an error that stands here.
+    /// Takes an error at a position.
     fn error(&mut self, error: ParseError, at: Position)
         ensures { Tells Told self.old self.new (record { error = error; at = at } ∷ []) };
 }

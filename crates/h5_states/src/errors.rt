@@ -3,7 +3,7 @@ ghost use Rattle.std.specs.Prelude.{◌≡◌};
 ghost use Rattle.h5_states.specs.ErrorNames.{error_name};
 ghost use Rattle.h5_states.specs.SeenAhead.{is_told_ahead};
 
-/// A parse error of tokenization, or of the input that it reads (HTML standard, section 13.2.2, "Parse errors").
+/// A parse error of tokenization or of the input stream (HTML standard, section 13.2.2, "Parse errors").
 #[derive(Clone, Copy, Debug, PartialEq, Eq)]
 pub enum ParseError {
     AbruptClosingOfEmptyComment,
@@ -57,7 +57,7 @@ pub enum ParseError {
 }
 
 impl ParseError {
-    /// The name that the standard gives it.
+    /// Returns the standard's name of the error.
     pub fn name(self) -> &'static str
         ensures { result.now ≡ error_name self }
     {
@@ -129,7 +129,8 @@ impl ParseError {
         }
     }
 
-    /// Whether it is told where the standard looks ahead, and so stands before what was seen there.
+    /// Returns true if the standard reports the error while it looks ahead. The error's position is then before what was seen
+    /// ahead.
     pub fn is_told_ahead(self) -> bool
         ensures { result ≡ is_told_ahead self }
     {

@@ -1,19 +1,19 @@
-//! Kinds of what is read: texts, depths of escape, quotes, identifiers.
+//! Kinds of texts, escapes, quotes and identifiers.
 
 /// The states that read text (HTML standard, sections 13.2.5.1 to 13.2.5.5 and 13.2.5.69).
 #[derive(Clone, Copy, Debug, PartialEq, Eq)]
 pub enum TextKind {
-    /// Tags, comments and character references are read.
+    /// Tags, comments and character references are recognized.
     Data,
-    /// Character references are read, and one end tag.
+    /// Character references and one end tag are recognized.
     Rcdata,
-    /// One end tag is read.
+    /// One end tag is recognized.
     Rawtext,
-    /// One end tag is read, and what looks like a comment hides others.
+    /// One end tag is recognized. A comment-like escape may hide end tags.
     ScriptData,
-    /// All is text, to the end.
+    /// Everything is text, to the end of the input.
     Plaintext,
-    /// All is text up to `]]>`.
+    /// Everything is text up to `]]>`.
     CdataSection,
 }
 
@@ -23,16 +23,16 @@ pub enum RawTextKind {
     Rcdata,
     Rawtext,
     ScriptData,
-    /// A script, in what looks like a comment.
+    /// A script inside a comment-like escape.
     EscapedScriptData,
 }
 
 /// How deep a script is escaped.
 #[derive(Clone, Copy, Debug, PartialEq, Eq)]
 pub enum Escape {
-    /// In what looks like a comment.
+    /// After `<!--`.
     Escaped,
-    /// In what looks like a script, in what looks like a comment.
+    /// After `<!--` and `<script`.
     DoubleEscaped,
 }
 

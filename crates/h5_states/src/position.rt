@@ -1,23 +1,23 @@
-//! Where parse errors stand.
+//! Positions of parse errors.
 
 ghost use Rattle.std.specs.Prelude.{◌≡◌, true};
 ghost use Rattle.h5_states.specs.Spots.{is_inside, position, position_before, spot_again, spot_behind, spot_behind_all, spot_past};
 
 use super::errors::ParseError;
 
-/// A place in the input, before a byte. Each number stays at the most that a `u64` holds.
+/// A position in the input, before a byte. Each number stops at the maximum of `u64`.
 #[derive(Clone, Copy, Debug, PartialEq, Eq)]
 pub struct Position {
-    /// The line, from 1: CARRIAGE RETURN, LINE FEED and the pair are one newline each.
+    /// The line, from 1. CARRIAGE RETURN, LINE FEED and the pair are one newline each.
     pub line: u64,
     /// The column, from 1, in code points.
     pub column: u64,
-    /// What comes before it in the input, in bytes.
+    /// The number of bytes of the input before the position.
     pub offset: u64,
 }
 
 impl Position {
-    /// The one so many characters before, which are of ASCII and stand in the same line.
+    /// Returns the position the given number of characters earlier, for ASCII characters of the same line.
     pub fn before(&self, characters: u64) -> Position
         ensures { result ≡ position_before characters self.now }
     {
@@ -29,14 +29,14 @@ impl Position {
     }
 }
 
-/// A parse error, and where it stands: at the character that the standard's tokenizer has come to when it tells it.
+/// A parse error, with its position: that of the character that the standard's tokenizer has reached when it reports the error.
 #[derive(Clone, Copy, Debug, PartialEq, Eq)]
-pub struct ToldError {
+pub struct LocatedError {
     pub error: ParseError,
     pub at: Position,
 }
 
-/// Where the byte at hand stands in its line and in the input, and whether it is new, so that no row has met it.
+/// The column and the offset of the current byte, and whether it is new: no row has handled it yet.
 #[derive(Clone, Copy, Debug, PartialEq, Eq)]
 pub struct Spot {
     pub column: u64,
@@ -44,7 +44,7 @@ pub struct Spot {
     pub is_new: bool,
 }
 
-// Whether a byte of UTF-8 stands inside a character.
+// Returns true if a byte of UTF-8 is inside a character.
 fn is_inside(b: u8) -> bool
     ensures { result ≡ is_inside b }
 {
@@ -52,7 +52,7 @@ fn is_inside(b: u8) -> bool
 }
 
 impl Spot {
-    /// Before the first byte.
+    /// Returns the spot before the first byte.
     pub fn first() -> Spot
         ensures { result ≡ record { column = 1; offset = 0; is_new = true } }
     {
@@ -63,7 +63,7 @@ impl Spot {
         }
     }
 
-    /// The position, in this line.
+    /// Returns the position, with the given line.
     pub fn position(&self, line: u64) -> Position
         ensures { result ≡ position line self.now }
     {
@@ -74,7 +74,7 @@ impl Spot {
         }
     }
 
-    /// Goes behind a byte that was consumed.
+    /// Moves after a consumed byte.
     pub fn pass(&mut self, b: u8)
         ensures { self.new ≡ spot_behind b self.old }
     {
@@ -87,7 +87,7 @@ impl Spot {
         self.is_new = true;
     }
 
-    /// Goes behind bytes that were consumed.
+    /// Moves after consumed bytes.
     pub fn pass_all(&mut self, bytes: &[u8])
         ensures { self.new ≡ spot_behind_all bytes.now self.old }
     {
@@ -96,7 +96,7 @@ impl Spot {
         }
     }
 
-    /// Goes behind a LINE FEED that is dropped.
+    /// Moves after a LINE FEED that is dropped.
     pub fn pass_dropped(&mut self)
         ensures { self.new ≡ spot_past self.old }
     {
@@ -104,7 +104,7 @@ impl Spot {
         self.is_new = true;
     }
 
-    /// A row met the byte, which is still at hand.
+    /// Notes that a row has handled the current byte, which is still current.
     pub fn meet(&mut self)
         ensures { self.new ≡ spot_again self.old }
     {

@@ -1,4 +1,4 @@
--- Where `charset` stands.
+-- The search for `charset`.
 use Rattle.std.proofs.Common.{◌≡◌, ◌∙◌, ◌<◌, ◌≤◌, ◌+◌, ℕ, zero, suc, Bool, true, false, List, [], ◌∷◌, cond, eqb, length, drop, get_or, map, refl, sym, ap, subst, arith, IsUtf8}
 use Rattle.std.proofs.lemmas.Bool.{false_from_ne_true}
 use Rattle.std.proofs.lemmas.Bool.Decides.{nat_tests}
@@ -55,7 +55,7 @@ letter_there t n h =
       rw (get_or-drop n t 0 0, same) (letter_is_ascii (get_or t n 0) h.1),
     )
 
--- what begins with the letter is text, and may be cut behind it
+-- a text that begins with the letter may be split after it
 pub text_there : (t found : List ℕ) (n : ℕ) → IsUtf8 t → IsFirstByte (is_byte2 99 67) t (Some n) → found ≡ drop n t → IsUtf8 found × IsCharBoundary found 1
 text_there t found n utf8 h e =
     let ascii : get_or t n 0 < 128 = letter_is_ascii (get_or t n 0) h.1 in
@@ -63,7 +63,7 @@ text_there t found n utf8 h e =
     let there = rw (sym e) at (letter_there t n h) in
     (text, IsCharBoundary-after_ascii found 0 text there.0 there.1)
 
--- at a place where something is declared, and at one where nothing is
+-- where there is a declaration, and where there is none
 pub declared_here : (t : List ℕ) (rest : List ℕ) → 0 < length t → after_declaration t ≡ Some rest → after_charset t ≡ Some rest
 declared_here [] rest some e = absurd (omega arith)
 declared_here (b ∷ t) rest some e = ap (λ found. first_or_else found (after_charset t)) e

@@ -69,7 +69,7 @@ second_of_three a b d g h = rw (g, h) refl
 pub third_of_three : (r a b d : Bool) → a ≡ false → b ≡ false → r ≡ d → r ≡ (a || (b || d))
 third_of_three r a b d g h e = rw (g, h) e
 
--- the mode, by what holds of the identifiers
+-- the mode, by the tests of the identifiers
 by_tests : (a b d : Bool) (r other : QuirksMode) → r ≡ cond (a || (b || d)) Quirks other → r ≡ cond a Quirks (cond b Quirks (cond d Quirks other))
 by_tests true b d r other h = h
 by_tests false true d r other h = h

@@ -1,4 +1,4 @@
--- The parts of a declaration, as std and h5_markup cut them.
+-- The parts of a declaration, as the standard library and h5_markup split them.
 use Rattle.std.proofs.Common.{◌≡◌, ◌≢◌, ◌∙◌, ◌<◌, ◌+◌, ℕ, suc, Bool, true, false, not, ◌||◌, List, [], ◌∷◌, cond, eqb, length, take, refl, sym, ap, arith}
 use Rattle.std.proofs.lemmas.Bool.{eqb-true, false_from_ne_true, false≢true}
 use Rattle.std.proofs.Math.Seq.{take-length}
@@ -30,7 +30,7 @@ pub closed : (quote : ℕ) (t : List ℕ) → position_or_len (λ b. eqb b quote
 closed quote [] h = absurd (omega arith)
 closed quote (b ∷ t) h = some_step (eqb b quote) b (position_or_len (λ x. eqb x quote) t) t (up_to_quote quote t) h (closed quote t)
 
--- what stands before the first byte of a kind
+-- the text before the first byte of a kind
 before_step : (stop : Bool) (x n : ℕ) (xs more : List ℕ) → more ≡ take n xs → cond stop [] (x ∷ more) ≡ take (cond (not stop) (1 + n) 0) (x ∷ xs)
 before_step true x n xs more e = refl
 before_step false x n xs more e =
@@ -44,7 +44,7 @@ before_is stop (x ∷ xs) = before_step (stop x) x (position_or_len stop xs) xs 
 pub nothing_cut : (stop : ℕ → Bool) (xs : List ℕ) → position_or_len stop xs ≡ length xs → before stop xs ≡ xs
 nothing_cut stop xs h = before_is stop xs ∙ ap (λ n. take n xs) h ∙ take-length xs
 
--- before the first blank, and in that before the first `;`
+-- the text before the first whitespace, and in that before the first `;`
 end_step : (blank : Bool) (x : ℕ) (rest xs : List ℕ) → rest ≡ before (λ b. eqb b 59) xs → cond (blank || eqb x 59) [] (x ∷ rest) ≡ before (λ b. eqb b 59) (cond blank [] (x ∷ xs))
 end_step true x rest xs e = refl
 end_step false x rest xs e = ap (λ l. cond (eqb x 59) [] (x ∷ l)) e
@@ -53,7 +53,7 @@ pub end_is : (t : List ℕ) → up_to_end t ≡ before (λ b. eqb b 59) (before 
 end_is [] = refl
 end_is (x ∷ t) = end_step (is_ascii_whitespace x) x (up_to_end t) (before is_ascii_whitespace t) (end_is t)
 
--- behind blanks
+-- after whitespace
 blank_step : (blank : Bool) (x : ℕ) (xs rest more : List ℕ) → rest ≡ more → cond (not blank) (x ∷ xs) rest ≡ cond blank more (x ∷ xs)
 blank_step true x xs rest more e = e
 blank_step false x xs rest more e = refl
@@ -62,7 +62,7 @@ pub blanks_are : (t : List ℕ) → past Blank t ≡ after_blanks t
 blanks_are [] = refl
 blanks_are (x ∷ t) = blank_step (is_ascii_whitespace x) x t (past Blank t) (after_blanks t) (blanks_are t)
 
--- behind `=`
+-- after `=`
 equals_step : (b : Bool) (x : ℕ) (t : List ℕ) → eqb x 61 ≡ b → ((rest : List ℕ) → x ∷ t ≢ 61 ∷ rest) → cond b (Some t) None ≡ None
 equals_step true x t h f = absurd (f t (ap (λ y. y ∷ t) (eqb-true x 61 h)))
 equals_step false x t h f = refl
@@ -75,7 +75,7 @@ pub equals_is : (t : List ℕ) (found : Option (Bor (List ℕ))) → MatchOption
 equals_is t None h = sym (no_equals t h)
 equals_is t (Some rest) h = sym (ap after_equals h)
 
--- neither quote stands in front
+-- the text begins with neither quote
 no_quote : (b : ℕ) (q : ℕ) (t : List ℕ) → ((rest : List ℕ) → b ∷ t ≢ q ∷ rest) → eqb b q ≡ false
 no_quote b q t f = false_from_ne_true (eqb b q) (λ h. f t (ap (λ x. x ∷ t) (eqb-true b q h)))
 

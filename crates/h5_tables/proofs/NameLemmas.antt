@@ -1,4 +1,4 @@
--- A known name's flags say which sets hold it, and so they say it of every text.
+-- A known name's flags decide which sets have it; so they decide it for every text.
 use Rattle.std.proofs.Common.{◌≡◌, ℕ, List, true, refl, slice_index}
 use denote.Enum.Declared.{tag_of}
 use Rattle.h5_names.specs.contracts.known_name.KnownName.{the_type}
@@ -66,6 +66,6 @@ unfolding special_names scope_names list_item_scope_names button_scope_names tab
 set_is_known Special = refl
 set_is_known _ = refl
 
--- so a set holds a text exactly if it holds that of the text's name
+-- so a set has a text exactly if it has the text of the text's name
 pub held_by_name : (set : NameSet) (text : List ℕ) → is_one_of (names_of set) (name_text (known_name_of text)) ≡ is_one_of (names_of set) text
 held_by_name set text = any_by_name (names_of set) text (set_is_known set)

@@ -1,4 +1,4 @@
--- An element of HTML is none of MathML or SVG.
+-- An HTML element isn't one of MathML or SVG.
 use Rattle.std.proofs.Common.{◌≡◌, List, ℕ, false, true, ap, refl, subst, sym, ◌&&◌, ◌||◌}
 use Rattle.std.specs.Cmp.Lexicographic.{same_text}
 use Rattle.h5_names.specs.AttributeText.{is_same_text}

@@ -1,4 +1,4 @@
--- A search in a table that the code reads is a search in the standard's.
+-- A search in a table of the code is a search in the standard's table.
 use Rattle.std.proofs.Common.{◌≡◌, ◌∙◌, ℕ, Bool, true, false, List, [], ◌∷◌, cond, map, refl, sym, ap}
 use Rattle.std.specs.Prelude.{Option, Some, option_map, unwrap_or}
 use Rattle.h5_names.specs.AttributeText.{is_same_text}
@@ -7,7 +7,7 @@ use Rattle.h5_names.specs.declared.known_name.KnownName.{KnownName}
 use Rattle.h5_tables.specs.declared.svg_tags.TheConstants.{SVG_TAGS}
 use Rattle.h5_tables.specs.AdjustedNames.{Table, adjusted_svg_tag, found_at, svg_tags, table_map}
 
--- at the row, or behind it
+-- at the row, or after it
 at_row : {A B : Type 0} (b : Bool) (f : A → B) (x : A) (later : Option A) (mapped : Option B) → mapped ≡ option_map f later
     → cond b (Some (f x)) mapped ≡ option_map f (cond b (Some x) later)
 at_row true f x later mapped e = refl
@@ -17,7 +17,7 @@ found_mapped : {A B : Type 0} (f : A → B) (table : Table A) (l : List ℕ) →
 found_mapped f [] l = refl
 found_mapped f (row ∷ rows) l = at_row (is_same_text l row.0) f row.1 (found_at rows l) (found_at (table_map f rows) l) (found_mapped f rows l)
 
--- what a search finds for one text, or else a value, stands for the same text in the other table
+-- the value that a search finds for a text, or a default, is the same with a changed table and with a changed result
 pub same_found : {A B : Type 0} (f : A → B) (table : Table A) (found : Option A) (l m : List ℕ) (or : B) → found ≡ found_at table m → m ≡ l
     → unwrap_or (option_map f found) or ≡ unwrap_or (found_at (table_map f table) l) or
 same_found f table found l m or e same =

@@ -1,4 +1,4 @@
--- A search for a message finds the error that it is of.
+-- A search for a message finds its error.
 use Rattle.std.proofs.Common.{◌≡◌, ◌∙◌, ℕ, Bool, true, false, List, [], ◌∷◌, cond, map, refl, subst}
 use Rattle.std.specs.Prelude.{Option, Some}
 use Rattle.std.proofs.lemmas.Option.{none-some, same_Some}
@@ -47,7 +47,7 @@ AreMessages (row ∷ rows) = (row.0 ≡ tree_error_message row.1) × AreMessages
 rows_are : AreMessages message_rows
 rows_are = (refl, (refl, (refl, (refl, (refl, (refl, (refl, (refl, (refl, (refl, (refl, (refl, (refl, (refl, (refl, (refl, (refl, (refl, (refl, (refl, (refl, (refl, (refl, tt)))))))))))))))))))))))
 
--- at the row, or behind it
+-- at the row, or after it
 at_row : (b : Bool) (message : List ℕ) (here error : TreeError) (later : Option TreeError) → (b ≡ true → message ≡ tree_error_message here)
     → (later ≡ Some error → message ≡ tree_error_message error) → cond b (Some here) later ≡ Some error → message ≡ tree_error_message error
 at_row true message here error later now then found = subst (λ e. message ≡ tree_error_message e) (same_Some here error found) (now refl)

@@ -1,21 +1,21 @@
--- Names that change inside SVG and MathML (HTML standard, section 13.2.6.1, "adjust MathML attributes", "adjust SVG
--- attributes" and "adjust foreign attributes", and section 13.2.6.5, the table of SVG tag names). A reader hands on
--- names in ASCII lower case; the tables say what stands after.
+-- Names that are adjusted inside SVG and MathML (HTML standard, section 13.2.6.1, "adjust MathML attributes", "adjust SVG attributes" and
+-- "adjust foreign attributes", and section 13.2.6.5, the table of SVG tag names). A tokenizer emits names in ASCII lower case; the tables
+-- have the adjusted names.
 use Rattle.std.specs.Prelude.{ℕ, List, [], ◌∷◌, map, codes, Option, Some, None, if◌then◌else◌, unwrap_or}
 use Rattle.h5_names.specs.AttributeText.{AttributeText, is_same_text}
 use Rattle.h5_names.specs.Urls.{xlink_text, xml_text, xmlns_text}
 use Rattle.h5_names.specs.declared.qualified.QualName.{QualName}
 
--- a table of names: what a name becomes
+-- a table: the values of names
 abbrev pub Table : Type 0 → Type 0
 Table A = List (List ℕ × A)
 
--- what stands at a key, if anything does
+-- the value of a key, if there is one
 abbrev pub found_at : {A : Type 0} → Table A → List ℕ → Option A
 found_at [] l = None
 found_at (row ∷ rows) l = if is_same_text l row.0 then Some row.1 else found_at rows l
 
--- a table of names made from another, by what stands at the keys
+-- a table with changed values
 abbrev pub table_map : {A B : Type 0} → (A → B) → Table A → Table B
 table_map f = map (λ row. (row.0, f row.1))
 
@@ -60,23 +60,23 @@ svg_tags =
     (codes "radialgradient", codes "radialGradient") ∷
     (codes "textpath", codes "textPath") ∷ []
 
--- what an SVG tag's name becomes
+-- the adjusted name of an SVG tag
 abbrev pub adjusted_svg_tag : List ℕ → List ℕ
 adjusted_svg_tag l = unwrap_or (found_at svg_tags l) l
 
--- an attribute of this local name, in no namespace
+-- an attribute with this local name, in no namespace
 abbrev pub in_no_namespace : List ℕ → QualName
 in_no_namespace local = record { prefix = None; ns = []; local = local }
 
--- in the namespace of XLink
+-- in the XLink namespace
 abbrev pub in_xlink : List ℕ → QualName
 in_xlink local = record { prefix = Some (codes "xlink"); ns = xlink_text; local = local }
 
--- in that of XML
+-- in the XML namespace
 abbrev pub in_xml : List ℕ → QualName
 in_xml local = record { prefix = Some (codes "xml"); ns = xml_text; local = local }
 
--- in that of XMLNS, where a name without a colon has the empty prefix
+-- in the XMLNS namespace, where a name without a colon has the empty prefix
 abbrev pub in_xmlns : List ℕ → List ℕ → QualName
 in_xmlns prefix local = record { prefix = Some prefix; ns = xmlns_text; local = local }
 
@@ -165,6 +165,6 @@ foreign_attributes =
     (codes "xmlns", in_xmlns [] (codes "xmlns")) ∷
     (codes "xmlns:xlink", in_xmlns (codes "xmlns") (codes "xlink")) ∷ []
 
--- an attribute takes the name that a table gives it, and keeps its value
+-- an attribute gets its name in a table, and keeps its value
 abbrev pub renamed : Table QualName → AttributeText → AttributeText
 renamed table a = record a { name = unwrap_or (found_at table a.name.local) a.name }

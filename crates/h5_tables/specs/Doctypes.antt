@@ -1,5 +1,5 @@
--- Which doctypes are an error, and the quirks mode that a doctype means (HTML standard, section 13.2.6.4.1, the
--- "initial" insertion mode, a DOCTYPE token).
+-- Doctypes: parse errors, and quirks modes (HTML standard, section 13.2.6.4.1, the "initial" insertion mode, a DOCTYPE token). The
+-- identifiers that aren't errors are those of html5ever.
 use Rattle.std.specs.Prelude.{ℕ, Bool, true, false, not, ◌&&◌, ◌||◌, if◌then◌else◌, List, [], ◌∷◌, codes, Option, Some, None}
 use Rattle.std.specs.Str.{str_to_ascii_lowercase}
 use Rattle.h5_names.specs.AttributeText.{is_same_text}
@@ -7,7 +7,7 @@ use Rattle.h5_token.specs.TokenText.{DoctypeText}
 use Rattle.h5_interface.specs.declared.marks.QuirksMode.{QuirksMode}
 use Rattle.h5_interface.specs.declared.marks.QuirksMode.TheVariants.{LimitedQuirks, NoQuirks, Quirks}
 
--- a part of a doctype that is there, and is this text
+-- a part of a doctype is present, and equals this text
 abbrev pub is_part : Option (List ℕ) → List ℕ → Bool
 is_part None text = false
 is_part (Some part) text = is_same_text part text
@@ -20,7 +20,7 @@ abbrev pub is_same_part : (part wanted : Option (List ℕ)) → Bool
 is_same_part part None = is_missing part
 is_same_part part (Some text) = is_part part text
 
--- the identifiers, public and system, of doctypes that are no error
+-- the identifiers, public and system, of doctypes that aren't errors
 unfoldable pub good_identifiers : List (Option (List ℕ) × Option (List ℕ))
 good_identifiers =
     (None, None) ∷
@@ -37,11 +37,11 @@ has_pair [] public_id system_id = false
 has_pair (pair ∷ pairs) public_id system_id =
     (is_same_part public_id pair.0 && is_same_part system_id pair.1) || has_pair pairs public_id system_id
 
--- a doctype that is no error: an `html` with a pair of these identifiers, compared with case
+-- a doctype that isn't an error: named `html`, with a pair of these identifiers, compared case-sensitively
 abbrev pub is_good_doctype : DoctypeText → Bool
 is_good_doctype d = is_part d.name (codes "html") && has_pair good_identifiers d.public_id d.system_id
 
--- an identifier that is there and, in ASCII lower case, is one of these, or begins with one of these
+-- an identifier is present and, in ASCII lower case, equals one of these, or begins with one of these
 abbrev pub is_one_text : List (List ℕ) → List ℕ → Bool
 is_one_text [] text = false
 is_one_text (x ∷ xs) text = is_same_text text x || is_one_text xs text
@@ -129,7 +129,7 @@ limited_quirky_public_prefixes = codes "-//w3c//dtd xhtml 1.0 frameset//" ∷ co
 unfoldable pub html4_public_prefixes : List (List ℕ)
 html4_public_prefixes = codes "-//w3c//dtd html 4.01 frameset//" ∷ codes "-//w3c//dtd html 4.01 transitional//" ∷ []
 
--- by its identifiers alone
+-- the quirks mode of the identifiers alone
 abbrev pub quirks_of_identifiers : (public_id system_id : Option (List ℕ)) → QuirksMode
 quirks_of_identifiers public_id system_id =
     if lowered (is_one_text quirky_public_ids) public_id then Quirks
@@ -139,7 +139,7 @@ quirks_of_identifiers public_id system_id =
     else (if lowered (begins_with_one html4_public_prefixes) public_id then (if is_missing system_id then Quirks else LimitedQuirks)
     else NoQuirks))))
 
--- the quirks mode that a doctype means, in a document or in the `srcdoc` of an `iframe`
+-- the quirks mode of a doctype, in a document or in the `srcdoc` of an `iframe`
 abbrev pub quirks_of : (iframe_srcdoc : Bool) → DoctypeText → QuirksMode
 quirks_of iframe_srcdoc d =
     if d.force_quirks || not (is_part d.name (codes "html")) then Quirks

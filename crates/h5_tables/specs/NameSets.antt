@@ -4,7 +4,7 @@ use Rattle.h5_tables.specs.declared.name_sets.NameSet.{NameSet}
 use Rattle.h5_tables.specs.declared.name_sets.NameSet.TheVariants.{Special, DefaultScope, ListItemScope, ButtonScope, TableScope, TableBodyContext, TableRowContext, CursoryImpliedEnd, ThoroughImpliedEnd, Heading, BodyEndOk, HeadContent, Formatting, TdTh, TableOuter, MathMlTextPoint, MathMlSpecial, SvgHtmlPoint, Void, RawText, BlockStart, BlockEnd}
 use Rattle.h5_tables.specs.TagSets.{special_names, scope_names, list_item_scope_names, button_scope_names, table_scope_names, table_body_context_names, table_row_context_names, implied_names, thorough_implied_names, heading_names, body_end_names, head_content_names, formatting_names, cell_names, table_outer_names, mathml_text_points, mathml_special_names, svg_html_points, void_names, raw_names, block_start_names, block_end_names}
 
--- the names that a set holds
+-- the names of a set
 abbrev pub names_of : NameSet → List (List ℕ)
 names_of Special = special_names
 names_of DefaultScope = scope_names
@@ -54,6 +54,6 @@ flag_of RawText = 2 ^ 19
 flag_of BlockStart = 2 ^ 20
 flag_of BlockEnd = 2 ^ 21
 
--- whether the bit of a set is on
+-- true if the bit of a set is on
 abbrev pub has_flag : ℕ → NameSet → Bool
 has_flag flags set = not (bit_and flags (flag_of set) == 0)

@@ -1,4 +1,4 @@
--- The options that hold where nothing else is said.
+-- The default options.
 use Rattle.std.specs.Prelude.{true, false}
 use Rattle.h5_interface.specs.declared.marks.QuirksMode.TheVariants.{NoQuirks}
 use Rattle.h5_tables.specs.declared.options.TreeBuilderOpts.{TreeBuilderOpts}

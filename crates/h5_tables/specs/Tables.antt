@@ -24,7 +24,7 @@ namespace_at Xml = xml_text
 namespace_at Xmlns = xmlns_text
 namespace_at XmlnsPrefixed = xmlns_text
 
--- a local name at its place
+-- a local name with its prefix and its namespace
 abbrev pub name_at : Place → List ℕ → QualName
 name_at place local = record { prefix = prefix_at place; ns = namespace_at place; local = local }
 

@@ -1,12 +1,12 @@
--- Parse errors of tree construction: what a sink is told, and their names (HTML standard, section 13.2.6, "Tree
--- construction"). The standard names one of them, non-void-html-element-start-tag-with-trailing-solidus.
+-- Parse errors of tree construction: their messages and names (HTML standard, section 13.2.6, "Tree construction"). The standard names one
+-- of them, non-void-html-element-start-tag-with-trailing-solidus.
 use Rattle.std.specs.Prelude.{◌≡◌, ◌⊎◌, ℕ, if◌then◌else◌, List, [], ◌∷◌, codes, nat_eq, Option, Some, None}
 use Rattle.std.specs.List.{starts_with}
 use Rattle.h5_tables.specs.AdjustedNames.{Table}
 use Rattle.h5_tables.specs.declared.tree_errors.TreeError.{TreeError}
 use Rattle.h5_tables.specs.declared.tree_errors.TreeError.TheVariants.{BadDoctype, BodyEndTagWithoutBody, EofInFrameset, EofInTemplate, EofInText, FormElementOutOfScope, HrInOption, HtmlEndTagWithoutBody, LateDoctype, NestedButtons, NestedForms, NestedHeadings, NestedNobr, NestedOptions, NoFormElementToClose, NoFormToClose, NoHeadingToClose, NoParagraphToClose, OpenElementAtEndOfBody, SelfClosingTagWithContent, SpecialElementBeforeTheOneToClose, UnexpectedOpenElement, UnexpectedToken}
 
--- what is told where exact messages aren't asked for
+-- the message that a sink receives, unless exact messages are on
 abbrev pub tree_error_message : TreeError → List ℕ
 tree_error_message UnexpectedToken = codes "Unexpected token"
 tree_error_message BadDoctype = codes "Bad DOCTYPE"
@@ -32,7 +32,7 @@ tree_error_message EofInText = codes "unexpected end of input in a text"
 tree_error_message EofInTemplate = codes "end of file in a template"
 tree_error_message EofInFrameset = codes "end of file in a frameset"
 
--- in the manner of the standard's names
+-- the name, in the form of the standard's names
 abbrev pub tree_error_name : TreeError → List ℕ
 tree_error_name UnexpectedToken = codes "unexpected-token"
 tree_error_name BadDoctype = codes "bad-doctype"
@@ -58,7 +58,7 @@ tree_error_name EofInText = codes "eof-in-text"
 tree_error_name EofInTemplate = codes "eof-in-template"
 tree_error_name EofInFrameset = codes "eof-in-frameset"
 
--- what exact messages begin with, each of the error that it tells of
+-- the prefixes of exact messages, each with its error
 abbrev pub exact_fronts : Table TreeError
 exact_fronts =
     (codes "Unexpected token ", UnexpectedToken) ∷
@@ -66,11 +66,11 @@ exact_fronts =
     (codes "DOCTYPE in insertion mode ", LateDoctype) ∷
     []
 
--- what stands at the first key that a text begins with
+-- the value of the first key that a text begins with
 abbrev pub begun_by : {A : Type 0} → Table A → List ℕ → Option A
 begun_by [] text = None
 begun_by (row ∷ rows) text = if starts_with nat_eq text row.0 then Some row.1 else begun_by rows text
 
--- a message is that of an error, or an exact one of it
+-- a message of an error, exact or not
 abbrev pub IsMessageOf : List ℕ → TreeError → Type 0
 IsMessageOf message error = (message ≡ tree_error_message error) ⊎ (begun_by exact_fronts message ≡ Some error)

@@ -1,4 +1,4 @@
--- How a turn ends, with the token that takes another turn, or with the answer.
+-- How a turn ends, with the token that takes another turn, or with the reply.
 use Rattle.h5_token.specs.declared.sink.TokenSinkResult.{TokenSinkResult}
 use Rattle.h5_tables.specs.declared.modes.InsertionMode.{InsertionMode}
 use Rattle.h5_tables.specs.declared.turns.Token.{Token}

@@ -1,4 +1,4 @@
--- Tokens that take turns, without where their texts lie in memory.
+-- Tokens that take turns, independent of where their texts are in memory.
 use Rattle.std.specs.Prelude.{◌≢◌, ℕ, Bool, false, List, [], string_bytes}
 use Rattle.h5_token.specs.TokenText.{TagText, tag_text}
 use Rattle.h5_token.specs.declared.tag.TagKind.{TagKind}
@@ -29,7 +29,7 @@ HasText (TextTurn status text) = text ≢ []
 HasText NullTurn = Unit {0}
 HasText EofTurn = Unit {0}
 
--- whether this is a start tag whose self-closing flag no rule looked at
+-- true for a start tag whose self-closing flag is set
 abbrev pub is_self_closing_start : TagKind → Bool → Bool
 is_self_closing_start StartTag flag = flag
 is_self_closing_start EndTag flag = false

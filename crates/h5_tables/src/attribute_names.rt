@@ -1,8 +1,8 @@
-//! The names that attributes take in SVG and MathML, by their local names in lower case.
+//! The adjusted names of attributes in SVG and MathML, by their local names in lower case.
 
 use super::place::Place;
 
-// In SVG.
+// SVG attributes.
 pub static SVG_ATTRIBUTES: [(&str, (Place, &str)); 58] = [
     ("attributename", (Place::Unqualified, "attributeName")),
     ("attributetype", (Place::Unqualified, "attributeType")),
@@ -79,13 +79,13 @@ pub static SVG_ATTRIBUTES: [(&str, (Place, &str)); 58] = [
     ("zoomandpan", (Place::Unqualified, "zoomAndPan")),
 ];
 
-// In MathML.
+// MathML attributes.
 pub static MATHML_ATTRIBUTES: [(&str, (Place, &str)); 1] = [(
     "definitionurl",
     (Place::Unqualified, "definitionURL"),
 )];
 
-// In both.
+// Attributes of both.
 pub static FOREIGN_ATTRIBUTES: [(&str, (Place, &str)); 11] = [
     ("xlink:actuate", (Place::XLink, "actuate")),
     ("xlink:arcrole", (Place::XLink, "arcrole")),

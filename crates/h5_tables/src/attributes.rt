@@ -1,4 +1,4 @@
-//! Names of attributes in SVG and MathML.
+//! Adjusts the names of attributes in SVG and MathML.
 ghost use Rattle.std.specs.Prelude.{◌≡◌, IfOk, map};
 ghost use Rattle.h5_names.specs.AttributeText.{attribute_text, attribute_texts};
 ghost use Rattle.h5_tables.specs.AdjustedNames.{foreign_attributes, mathml_attributes, renamed, svg_attributes};
@@ -10,7 +10,7 @@ use super::table::find;
 use h5_names::Attribute;
 use std::alloc::{AllocError, Global};
 
-// Gives an attribute the name that a table has for it, if it has one.
+// Gives an attribute its name in a table, if the table has one.
 fn rename(
     alloc: Global,
     table: &[(&'static str, (Place, &'static str))],
@@ -25,7 +25,7 @@ fn rename(
     Ok(())
 }
 
-// The same for each of these attributes.
+// Renames each of these attributes.
 fn rename_all(
     alloc: Global,
     table: &[(&'static str, (Place, &'static str))],
@@ -40,9 +40,8 @@ fn rename_all(
     Ok(attrs)
 }
 
-/// The attributes of an element in SVG, each with the capitals that SVG writes its name with, or an
-/// `AllocError` where memory is refused; the attributes are gone then. An attribute that SVG writes without
-/// capitals stays as it is (HTML standard, section 13.2.6.1, "adjust SVG attributes").
+/// Returns the attributes of an SVG element with adjusted names, such as `viewBox` for `viewbox`. Other attributes are unchanged. Fails
+/// with `AllocError` if an allocation fails; the attributes are dropped then (HTML standard, section 13.2.6.1, "adjust SVG attributes").
 pub fn adjust_svg_attributes(
     alloc: Global,
     attrs: Vec<Attribute>,
@@ -53,9 +52,8 @@ pub fn adjust_svg_attributes(
     rename_all(alloc, &SVG_ATTRIBUTES, attrs)
 }
 
-/// The attributes of an element in MathML, with `definitionURL` for `definitionurl`, or an `AllocError` where
-/// memory is refused; the attributes are gone then. Any other attribute stays as it is (HTML standard, section
-/// 13.2.6.1, "adjust MathML attributes").
+/// Returns the attributes of a MathML element with `definitionURL` for `definitionurl`. Other attributes are unchanged. Fails with
+/// `AllocError` if an allocation fails; the attributes are dropped then (HTML standard, section 13.2.6.1, "adjust MathML attributes").
 pub fn adjust_mathml_attributes(
     alloc: Global,
     attrs: Vec<Attribute>,
@@ -66,9 +64,9 @@ pub fn adjust_mathml_attributes(
     rename_all(alloc, &MATHML_ATTRIBUTES, attrs)
 }
 
-/// The attributes of an element in SVG or MathML, with those of XLink, XML and XMLNS in their namespaces, or an
-/// `AllocError` where memory is refused; the attributes are gone then. Any other attribute stays as it is (HTML
-/// standard, section 13.2.6.1, "adjust foreign attributes").
+/// Returns the attributes of an SVG or MathML element with those of XLink, XML and XMLNS in their namespaces. Other attributes are
+/// unchanged. Fails with `AllocError` if an allocation fails; the attributes are dropped then (HTML standard, section 13.2.6.1, "adjust
+/// foreign attributes").
 pub fn adjust_foreign_attributes(
     alloc: Global,
     attrs: Vec<Attribute>,

@@ -1,4 +1,4 @@
-//! Which doctypes are an error, and the quirks mode that a doctype means.
+//! Doctypes: parse errors, and quirks modes.
 ghost use Rattle.std.specs.Prelude.{◌≡◌, ◌||◌, codes, not};
 ghost use Rattle.std.specs.Str.{str_to_ascii_lowercase};
 ghost use Rattle.h5_names.specs.AttributeText.{is_same_text};
@@ -14,7 +14,7 @@ use super::identifiers::{
 use h5_interface::QuirksMode;
 use h5_token::Doctype;
 
-// Whether a text in ASCII lower case begins with a prefix.
+// Returns true if a text in ASCII lower case begins with a prefix.
 fn begins_with(text: &str, prefix: &str) -> bool
     ensures { result ≡ begins_with (str_to_ascii_lowercase text.now) prefix.now }
 {
@@ -32,7 +32,7 @@ fn begins_with(text: &str, prefix: &str) -> bool
     true
 }
 
-// Whether a part is there and in ASCII lower case begins with one of these.
+// Returns true if a part is present and in ASCII lower case begins with one of these.
 fn begins_with_one(prefixes: &[&str], part: Option<&str>) -> bool
     ensures { result ≡ lowered (begins_with_one (texts prefixes.now)) (part_text part.entry) }
 {
@@ -47,14 +47,14 @@ fn begins_with_one(prefixes: &[&str], part: Option<&str>) -> bool
     false
 }
 
-// Whether a text in ASCII lower case is another.
+// Returns true if a text in ASCII lower case equals another.
 fn is_same_lowered(text: &str, other: &str) -> bool
     ensures { result ≡ is_same_text (str_to_ascii_lowercase text.now) other.now }
 {
     text.len() == other.len() && begins_with(text, other)
 }
 
-// Whether a part is there and in ASCII lower case is one of these.
+// Returns true if a part is present and in ASCII lower case equals one of these.
 fn is_one_of(known: &[&str], part: Option<&str>) -> bool
     ensures { result ≡ lowered (is_one_text (texts known.now)) (part_text part.entry) }
 {
@@ -69,7 +69,7 @@ fn is_one_of(known: &[&str], part: Option<&str>) -> bool
     false
 }
 
-// Whether one of the pairs is these identifiers.
+// Returns true if one of the pairs equals these identifiers.
 fn has_pair(
     pairs: &[(Option<&str>, Option<&str>)],
     public_id: Option<&str>,
@@ -85,7 +85,7 @@ fn has_pair(
     false
 }
 
-// Whether the identifiers mean quirks, whatever else there is.
+// Returns true if one of the identifiers alone means quirks.
 fn are_quirky(public_id: Option<&str>, system_id: Option<&str>) -> bool
     ensures { result ≡ lowered (is_one_text quirky_public_ids) (part_text public_id.entry)
         || (lowered (is_one_text quirky_system_ids) (part_text system_id.entry)
@@ -113,7 +113,7 @@ fn quirks_of_identifiers(public_id: Option<&str>, system_id: Option<&str>) -> Qu
     }
 }
 
-// Whether the doctype's name is `html`.
+// Returns true if the doctype's name is `html`.
 fn is_html(doctype: &Doctype) -> bool
     ensures { result ≡ is_part (optional_text doctype.now.name) (codes "html") }
 {
@@ -140,10 +140,10 @@ fn quirks_of(doctype: &Doctype, iframe_srcdoc: bool) -> QuirksMode
     }
 }
 
-/// Whether the doctype is an error, and the quirks mode that it means, in a document or in the `srcdoc` of an
-/// `iframe`. A doctype is no error if its name is `html` and its identifiers are a pair that the standard
-/// allows, with their capitals. The mode compares them without ASCII case. The doctype stays as it is, and no
-/// memory is taken (HTML standard, section 13.2.6.4.1, the "initial" insertion mode, a DOCTYPE token).
+/// Returns whether a doctype is a parse error, and its quirks mode, in a document or in the `srcdoc` of an `iframe`. A doctype isn't an
+/// error if its name is `html` and its identifiers are a pair of `good_identifiers` in `specs/Doctypes.antt`, case-sensitively. For the
+/// mode, identifiers are compared ASCII case-insensitively. Doesn't change the doctype, and doesn't allocate (HTML standard, section
+/// 13.2.6.4.1, the "initial" insertion mode, a DOCTYPE token).
 pub fn doctype_error_and_quirks(doctype: &Doctype, iframe_srcdoc: bool) -> (bool, QuirksMode)
     ensures error { result.0 ≡ not (is_good_doctype (doctype_text doctype.now)) }
     ensures quirks { result.1 ≡ quirks_of iframe_srcdoc (doctype_text doctype.now) }

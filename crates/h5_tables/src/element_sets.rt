@@ -8,33 +8,33 @@ use super::sets::{
 };
 use h5_names::QualName;
 
-/// A set of elements: those that a search among the open elements looks for, or that end it.
+/// A set of elements: those that a search in the stack of open elements looks for, or that end the search.
 #[derive(Clone, Copy, Debug, PartialEq, Eq)]
 pub enum ElementSet {
-    /// What ends a scope, of MathML and SVG too.
+    /// Elements that end a scope, also of MathML and SVG.
     DefaultScope,
-    /// What ends a list item scope, of MathML and SVG too.
+    /// Elements that end a list item scope, also of MathML and SVG.
     ListItemScope,
-    /// What ends a table scope. It is a table context, too.
+    /// Elements that end a table scope. They are also the table context.
     TableScope,
-    /// A table body context.
+    /// Table body contexts.
     TableBodyContext,
-    /// A table row context.
+    /// Table row contexts.
     TableRowContext,
-    /// Elements whose end tag is implied.
+    /// Elements with implied end tags.
     CursoryImpliedEnd,
-    /// Elements whose end tag is implied where all are, thoroughly.
+    /// Elements with implied end tags, if all are generated thoroughly.
     ThoroughImpliedEnd,
     /// `h1` to `h6`.
     Heading,
-    /// Cells of a table.
+    /// Table cells.
     TdTh,
-    /// Where content is foster-parented.
+    /// Elements whose content is foster-parented.
     TableOuter,
 }
 
 impl ElementSet {
-    /// Whether this set holds the elements of a name: the function of this set.
+    /// Returns true if this set has the elements of this name. Each set has a function with its test.
     #[inline(always)]
     pub fn holds(self, name: &QualName) -> bool
         ensures { result ≡ holds_element self name.now }

@@ -1,6 +1,6 @@
-//! Tables of the identifiers of doctypes.
+//! Tables of identifiers of doctypes.
 
-// The pairs of a public and a system identifier that are no error.
+// The pairs of a public and a system identifier that aren't errors.
 pub static GOOD_IDENTIFIERS: [(Option<&str>, Option<&str>); 8] = [
     (None, None),
     (None, Some("about:legacy-compat")),
@@ -35,7 +35,7 @@ pub static QUIRKY_SYSTEM_IDS: [&str; 1] = [
     "http://www.ibm.com/data/dtd/v11/ibmxhtml1-transitional.dtd",
 ];
 
-// What public identifiers begin with that mean quirks.
+// The prefixes of public identifiers that mean quirks.
 pub static QUIRKY_PUBLIC_PREFIXES: [&str; 54] = [
     "-//ietf//dtd html//",
     "-//ietf//dtd html 2.0//",
@@ -93,13 +93,13 @@ pub static QUIRKY_PUBLIC_PREFIXES: [&str; 54] = [
     "-//w3o//dtd w3 html 3.0//",
 ];
 
-// Those that mean limited quirks.
+// The prefixes that mean limited quirks.
 pub static LIMITED_QUIRKY_PUBLIC_PREFIXES: [&str; 2] = [
     "-//w3c//dtd xhtml 1.0 frameset//",
     "-//w3c//dtd xhtml 1.0 transitional//",
 ];
 
-// Those that mean limited quirks beside a system identifier, and quirks without one.
+// The prefixes that mean limited quirks with a system identifier, and quirks without one.
 pub static HTML4_PUBLIC_PREFIXES: [&str; 2] = [
     "-//w3c//dtd html 4.01 frameset//",
     "-//w3c//dtd html 4.01 transitional//",

@@ -1,24 +1,18 @@
-//! Types, sets and tables of tree construction: what its rules are written in, and what they look up.
+//! Types, sets and tables of tree construction.
 //!
-//! Types: `modes` has the insertion modes (HTML standard, section 13.2.4.1), and how far a text was cut into runs. `turns`
-//! has the tokens that take turns, and how a turn ends. `entry` has an entry of the list of active formatting elements
-//! (section 13.2.4.3), and `options` the options of a builder.
+//! Types: `modes` has the insertion modes (HTML standard, section 13.2.4.1), `turns` the tokens that take turns, and how a turn ends,
+//! `entry` an entry of the list of active formatting elements (section 13.2.4.3), and `options` the options of a tree builder.
 //!
-//! Sets: `name_sets` has sets of local names, each a bit of a known name's word. `sets` asks of a name or an element whether
-//! it is in one: special and formatting elements, what ends a scope, implied end tags, contexts of tables, integration
-//! points, and two sets that the serializer asks for. `element_sets` has sets as values, for a search among the open elements.
+//! Sets: each has exactly the elements of its list in `specs/TagSets.antt`. `name_sets` has sets of local names, each a bit of a known
+//! name's flags. `sets` tests names and elements for each set; `element_sets` has sets as values.
 //!
-//! Tables: the names that change inside SVG and MathML (section 13.2.6.1), the doctypes that are errors or mean quirks
-//! (section 13.2.6.4.1), and the encoding that a `meta` element names (section 13.2.3.2). `svg_tags`, `attribute_names` and
-//! `attributes` have the adjusted names; `table` looks one up, and `place` tells the prefix and the namespace of an
-//! attribute. `identifiers` and `doctypes` judge a doctype, and `meta_encoding` reads the `content` of a `meta`. `tree_errors`
-//! has the parse errors that the rules tell, with their messages and names.
+//! Tables: `svg_tags`, `attribute_names` and `attributes` adjust names in SVG and MathML (section 13.2.6.1), with `table` and `place`.
+//! `identifiers` and `doctypes` judge a doctype (section 13.2.6.4.1). `meta_encoding` reads the `content` of a `meta` (section 13.2.3.2).
+//! `tree_errors` has the parse errors of the rules, with their messages and names.
 //!
-//! It stands on names, tokens, attributes as sinks see them, and on `h5_markup`, which cuts the text of a `meta`. The
-//! serializer, `h5_rules`, the code of the rules and the builder stand on it. Begin with `specs/TagSets.antt`, which has each
-//! set as the standard has it, with its section; `specs/AdjustedNames.antt`, `specs/Doctypes.antt` and
-//! `specs/MetaEncoding.antt` have each table; `specs/TreeErrors.antt` has the messages and names of errors;
-//! `specs/TurnText.antt` has a token that takes turns, without where its texts lie in memory.
+//! This crate depends on h5_names, h5_token, h5_interface and h5_markup. The serializer, the rules and the tree builder use it. Begin with
+//! `specs/TagSets.antt`: each set as the standard has it. `specs/AdjustedNames.antt`, `specs/Doctypes.antt`, `specs/MetaEncoding.antt` and
+//! `specs/TreeErrors.antt` have the tables; `specs/TurnText.antt` has a token that takes turns.
 #![tactic(auto)]
 
 mod attribute_names;

@@ -1,11 +1,11 @@
-//! The encoding in the attribute `content` of a `meta` element.
+//! The encoding in the `content` attribute of a `meta` element.
 ghost use Rattle.std.specs.Prelude.{◌≡◌, ◌<◌, option_map};
 ghost use Rattle.h5_tables.specs.MetaEncoding.{after_charset, after_declaration, encoding_at, meta_encoding, up_to_end, up_to_quote};
 
 use h5_markup::{Class, Match, cut_at, skip, word};
 use memchr::memchr2;
 
-// What follows `charset`, blanks and `=` at the front of a text.
+// The text after `charset`, whitespace and `=` at the start of a text.
 fn after_declaration(text: &str) -> Option<&str>
     ensures { option_map (λ rest. rest.now) result ≡ after_declaration text.now }
 {
@@ -15,8 +15,8 @@ fn after_declaration(text: &str) -> Option<&str>
     skip(behind, Class::Blank).strip_prefix('=')
 }
 
-// What follows them at the earliest place where they stand. A search from one `c` to the next passes each
-// blank once more than `after_declaration` does, since no `c` stands inside `charset` or among blanks.
+// The text after the first `charset` that whitespace and a `=` follow. The search goes from one `c` to the next, so it passes each
+// whitespace at most once more than `after_declaration` does: there is no `c` inside `charset` or among whitespace.
 fn after_charset(text: &str) -> Option<&str>
     ensures { option_map (λ rest. rest.now) result ≡ after_charset text.now }
 {
@@ -31,7 +31,7 @@ fn after_charset(text: &str) -> Option<&str>
     None
 }
 
-// What stands before the next such quote.
+// The text before the next such quote.
 fn up_to_quote(text: &str, quote: char) -> Option<&str>
     requires { quote < 128 }
     ensures { option_map (λ front. front.now) result ≡ up_to_quote quote text.now }
@@ -40,7 +40,7 @@ fn up_to_quote(text: &str, quote: char) -> Option<&str>
     Some(front)
 }
 
-// What stands before the first blank or `;`, or all of it.
+// The text before the first whitespace or `;`, or all of it.
 fn up_to_end(text: &str) -> &str
     ensures { result.now ≡ up_to_end text.now }
 {
@@ -51,7 +51,7 @@ fn up_to_end(text: &str) -> &str
     }
 }
 
-// The encoding at the front of a text: in quotes, or up to a blank or a `;`.
+// The encoding at the start of a text: in quotes, or up to whitespace or a `;`.
 fn encoding_at(text: &str) -> Option<&str>
     ensures { option_map (λ name. name.now) result ≡ encoding_at text.now }
 {
@@ -66,11 +66,10 @@ fn encoding_at(text: &str) -> Option<&str>
     }
 }
 
-/// The encoding that the text names, lent from it: what stands behind the first `charset` that blanks or
-/// nothing and a `=` follow, in quotes, or up to a blank or a `;`. `None` where there is no such `charset`, where
-/// nothing but blanks follows the `=`, and where a quote isn't closed. The name may be empty, and it may name no
-/// encoding that there is. No memory is taken (HTML standard, "Fetching resources", "Extracting character
-/// encodings from meta elements").
+/// Returns the encoding that the text declares, borrowed from it: after the first `charset` that a `=`, perhaps after whitespace, follows;
+/// in quotes, or up to whitespace or a `;`. Returns `None` if there is no such `charset`, if only whitespace follows the `=`, or if a quote
+/// isn't closed. The name may be empty or unknown. Doesn't allocate (HTML standard, "Fetching resources", "Extracting character encodings
+/// from meta elements").
 pub fn extract_a_character_encoding_from_a_meta_element(input: &str) -> Option<&str>
     ensures { option_map (λ text. text.now) result ≡ meta_encoding input.now }
 {

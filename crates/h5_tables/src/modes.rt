@@ -1,6 +1,6 @@
 //! Insertion modes.
 
-/// What a token means for the tree (HTML standard, section 13.2.4.1, "The insertion mode").
+/// The insertion mode (HTML standard, section 13.2.4.1, "The insertion mode").
 #[derive(Clone, Copy, Debug, PartialEq, Eq)]
 pub enum InsertionMode {
     Initial,
@@ -26,12 +26,12 @@ pub enum InsertionMode {
     AfterAfterFrameset,
 }
 
-/// How far a text was cut into runs of blanks and of other characters.
+/// How a text was split into runs of whitespace and of other characters.
 #[derive(Clone, Copy, Debug, PartialEq, Eq)]
 pub enum SplitStatus {
-    /// It wasn't cut.
+    /// It wasn't split.
     NotSplit,
-    /// It is a run of blanks.
+    /// It is a run of whitespace.
     Whitespace,
     /// It is a run that begins with another character.
     NotWhitespace,

@@ -1,4 +1,4 @@
-//! Sets of local names, each a bit of a known name's word.
+//! Sets of local names, each a bit of a known name's flags.
 ghost use Rattle.std.specs.Prelude.{◌≡◌, false};
 ghost use Rattle.h5_tables.specs.TagSets.{is_one_of};
 ghost use Rattle.h5_names.specs.KnownNames.{name_text};
@@ -6,52 +6,52 @@ ghost use Rattle.h5_tables.specs.NameSets.{flag_of, has_flag, names_of};
 
 use h5_names::{KnownName, LocalName};
 
-/// A set of local names, of HTML elements if nothing else is said.
+/// A set of local names: of HTML elements, unless another language is named.
 #[derive(Clone, Copy, Debug, PartialEq, Eq)]
 pub enum NameSet {
     /// Special elements.
     Special,
     /// Elements that end a scope.
     DefaultScope,
-    /// What ends a list item scope besides.
+    /// Elements that also end a list item scope.
     ListItemScope,
-    /// What ends a button scope besides.
+    /// Elements that also end a button scope.
     ButtonScope,
-    /// What ends a table scope.
+    /// Elements that end a table scope.
     TableScope,
-    /// A table body context.
+    /// Table body contexts.
     TableBodyContext,
-    /// A table row context.
+    /// Table row contexts.
     TableRowContext,
-    /// Elements whose end tag is implied.
+    /// Elements with implied end tags.
     CursoryImpliedEnd,
-    /// Elements whose end tag is implied where all are.
+    /// Elements with implied end tags, if all are generated thoroughly.
     ThoroughImpliedEnd,
     /// `h1` to `h6`.
     Heading,
-    /// What may be open where the body ends.
+    /// Elements that may be open at the end of the body.
     BodyEndOk,
-    /// What a head holds.
+    /// Elements that belong in a head.
     HeadContent,
     /// Formatting elements.
     Formatting,
-    /// Cells of a table.
+    /// Table cells.
     TdTh,
-    /// Where content is foster-parented.
+    /// Elements whose content is foster-parented.
     TableOuter,
-    /// Text integration points, of MathML.
+    /// MathML text integration points.
     MathMlTextPoint,
-    /// Special elements of MathML, which end a scope, too.
+    /// Special elements of MathML, which also end a scope.
     MathMlSpecial,
-    /// HTML integration points, of SVG.
+    /// SVG elements that are HTML integration points.
     SvgHtmlPoint,
-    /// Elements that are written without content.
+    /// Elements that are serialized without content.
     Void,
-    /// Elements whose text is written as it stands.
+    /// Elements whose text is serialized unescaped.
     RawText,
-    /// Blocks whose start tags close a `p`.
+    /// Block elements whose start tags close a `p`.
     BlockStart,
-    /// Blocks that an end tag closes where they are in scope.
+    /// Block elements that their end tag closes if they are in scope.
     BlockEnd,
 }
 
@@ -99,7 +99,7 @@ const BLOCK_START: u32 = 1 << NameSet::BlockStart as u32;
 
 const BLOCK_END: u32 = 1 << NameSet::BlockEnd as u32;
 
-// For each known name, by its number, the sets that hold it.
+// The sets of each known name, by its number.
 static FLAGS: [u32; 221] = [
     FORMATTING, // a
     0, // action
@@ -324,7 +324,7 @@ static FLAGS: [u32; 221] = [
     0, // any other
 ];
 
-// The sets that hold a known name.
+// The sets of a known name.
 fn flags(known: KnownName) -> u32
     ensures { (set : NameSet) → has_flag result set ≡ is_one_of (names_of set) (name_text known) }
 {
@@ -339,7 +339,7 @@ impl NameSet {
         1 << self as u32
     }
 
-    /// Whether this set holds a local name, without a look at its text if HTML knows it.
+    /// Returns true if this set has a local name. Doesn't read the text of a known name.
     pub fn holds(self, name: &LocalName) -> bool
         ensures { result ≡ is_one_of (names_of self) name.now }
     {
@@ -347,15 +347,14 @@ impl NameSet {
     }
 }
 
-/// Sets of local names, each a bit. Where it is asked for several sets whether they hold a name, those that hold it are
-/// read once.
+/// Sets of local names, each a bit. To test a name against several sets, its sets are read once.
 #[derive(Clone, Copy)]
 pub struct NameSets {
     pub flags: u32,
 }
 
 impl NameSets {
-    /// The sets that hold a local name, without a look at its text if HTML knows it.
+    /// The sets of a local name. Doesn't read the text of a known name.
     pub fn of(name: &LocalName) -> NameSets
         ensures { (set : NameSet) → has_flag result.flags set ≡ is_one_of (names_of set) name.now }
     {
@@ -364,8 +363,7 @@ impl NameSets {
         }
     }
 
-    /// The sets of an element of MathML or SVG, of those that are for elements of all namespaces: it is special and ends a
-    /// scope, or not.
+    /// The sets of a MathML or SVG element, of the sets that have elements of any namespace: it is special and ends a scope, or neither.
     pub fn of_foreign(is_special: bool) -> NameSets
         ensures special { has_flag result.flags NameSet.Special ≡ is_special }
         ensures scope { has_flag result.flags NameSet.DefaultScope ≡ is_special }
@@ -382,7 +380,7 @@ impl NameSets {
         }
     }
 
-    /// Whether this set is one of them.
+    /// Returns true if this set is one of them.
     pub fn has(self, set: NameSet) -> bool
         ensures { result ≡ has_flag self.flags set }
     {

@@ -6,13 +6,13 @@ use h5_interface::QuirksMode;
 /// Options of a tree builder.
 #[derive(Clone, Copy, Debug, PartialEq, Eq)]
 pub struct TreeBuilderOpts {
-    /// Whether parse errors are told at length.
+    /// True if the messages of parse errors have details.
     pub exact_errors: bool,
-    /// Whether scripting is enabled, which decides what `noscript` holds.
+    /// True if scripting is enabled, which decides about the content of `noscript`.
     pub scripting_enabled: bool,
-    /// Whether the document is that of an `iframe` with `srcdoc`, which needs no doctype.
+    /// True if the document is that of an `iframe` with `srcdoc`, which needs no doctype.
     pub iframe_srcdoc: bool,
-    /// Whether the doctype stays out of the tree.
+    /// True if the doctype is left out of the tree.
     pub drop_doctype: bool,
     /// The quirks mode at the start.
     pub quirks_mode: QuirksMode,

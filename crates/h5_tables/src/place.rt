@@ -1,4 +1,4 @@
-//! Where the names of attributes belong.
+//! Prefixes and namespaces of adjusted attributes.
 ghost use Rattle.std.specs.Prelude.{◌≡◌, IfOk, option_map};
 
 use h5_names::{LocalName, Namespace, Prefix, QualName, namespaces};
@@ -11,9 +11,9 @@ pub enum Place {
     Unqualified,
     XLink,
     Xml,
-    // The namespace XMLNS with nothing before the colon.
+    // The XMLNS namespace, with the empty prefix.
     Xmlns,
-    // The namespace XMLNS behind `xmlns:`.
+    // The XMLNS namespace, with the prefix `xmlns`.
     XmlnsPrefixed,
 }
 
@@ -43,7 +43,7 @@ impl Place {
         }
     }
 
-    // The name with this local name here, or an `AllocError` where memory is refused.
+    // Returns the name with this prefix, this namespace and a local name. Fails with `AllocError` if an allocation fails.
     pub fn name(self, alloc: Global, local: &str) -> Result<QualName, AllocError>
         ensures { IfOk result (λ name. name ≡ name_at self local.now) }
     {

@@ -7,7 +7,7 @@ ghost use Rattle.h5_tables.specs.TagSets.{is_body_end_ok, is_button_scope, is_ce
 use super::{NameSet, NameSets};
 use h5_names::{KnownName, LocalName, QualName};
 
-/// Whether this is an HTML element of this local name.
+/// Returns true for the HTML element with this local name.
 #[tactic(auto, unfolding(crate::specs::TagSets::is_html_named, crate::specs::TagSets::html_namespace))]
 pub fn is_html(name: &QualName, local: &str) -> bool
     ensures { result ≡ is_html_named local.now name.now }
@@ -15,8 +15,7 @@ pub fn is_html(name: &QualName, local: &str) -> bool
     name.local.as_str() == local && name.ns.is_html()
 }
 
-/// Whether this is an HTML element of this local name. Names that HTML knows are compared without a look
-/// at their texts.
+/// Returns true for the HTML element with this local name. Doesn't read the texts of known names.
 #[tactic(auto, unfolding(crate::specs::TagSets::is_html_named, crate::specs::TagSets::html_namespace))]
 pub fn is_html_local(name: &QualName, local: &LocalName) -> bool
     ensures { result ≡ is_html_named local.now name.now }
@@ -24,7 +23,7 @@ pub fn is_html_local(name: &QualName, local: &LocalName) -> bool
     name.local == *local && name.ns.is_html()
 }
 
-/// Whether this is an HTML element of this known name, without a look at its text.
+/// Returns true for the HTML element with this known name. Doesn't read its text.
 #[tactic(auto, unfolding(crate::specs::TagSets::is_html_named, crate::specs::TagSets::html_namespace))]
 pub fn is_html_known(name: &QualName, known: KnownName) -> bool
     ensures { result ≡ is_html_named (name_text known) name.now }
@@ -32,7 +31,7 @@ pub fn is_html_known(name: &QualName, known: KnownName) -> bool
     name.local.is(known) && name.ns.is_html()
 }
 
-// Whether an element of MathML or SVG is special. Each such element ends a scope, too, and no other of MathML or SVG does.
+// Returns true for a special element of MathML or SVG. These are also the MathML and SVG elements that end a scope.
 #[tactic(auto, unfolding(crate::specs::TagSets::is_foreign_special, crate::specs::TagSets::mathml_namespace, crate::specs::TagSets::svg_namespace))]
 fn foreign_special(name: &QualName) -> bool
     ensures { result ≡ is_foreign_special name.now }
@@ -41,8 +40,8 @@ fn foreign_special(name: &QualName) -> bool
         || (name.ns.is_svg() && NameSet::SvgHtmlPoint.holds(&name.local))
 }
 
-/// The sets that hold an element, of those that are kept for each open element: special elements, those that end a scope or a
-/// button scope, those whose end tag is implied, and those that may be open where the body ends. They are read once.
+/// Returns the sets of an element, of the sets that are stored for each open element: special elements, those that end a scope or a button
+/// scope, those with implied end tags, and those that may be open at the end of the body. They are read once.
 pub fn sets_of(name: &QualName) -> NameSets
     ensures special { has_flag result.flags NameSet.Special ≡ is_special name.now }
     ensures scope { has_flag result.flags NameSet.DefaultScope ≡ is_default_scope name.now }
@@ -57,23 +56,21 @@ pub fn sets_of(name: &QualName) -> NameSets
     }
 }
 
-/// Whether an element is special (HTML standard, section 13.2.4.2, "The stack of open elements").
+/// Returns true if an element is special (HTML standard, section 13.2.4.2, "The stack of open elements").
 pub fn special_tag(name: &QualName) -> bool
     ensures { result ≡ is_special name.now }
 {
     sets_of(name).has(NameSet::Special)
 }
 
-/// Whether an element ends a scope (HTML standard, section 13.2.4.2, "have a particular element in
-/// scope").
+/// Returns true if an element ends a scope (HTML standard, section 13.2.4.2, "have a particular element in scope").
 pub fn default_scope(name: &QualName) -> bool
     ensures { result ≡ is_default_scope name.now }
 {
     sets_of(name).has(NameSet::DefaultScope)
 }
 
-/// Whether an element ends a list item scope (HTML standard, section 13.2.4.2, "have a particular element
-/// in list item scope").
+/// Returns true if an element ends a list item scope (HTML standard, section 13.2.4.2, "have a particular element in list item scope").
 #[tactic(auto, unfolding(crate::specs::TagSets::is_list_item_scope, crate::specs::TagSets::html_namespace))]
 pub fn list_item_scope(name: &QualName) -> bool
     ensures { result ≡ is_list_item_scope name.now }
@@ -81,8 +78,7 @@ pub fn list_item_scope(name: &QualName) -> bool
     default_scope(name) || (name.ns.is_html() && NameSet::ListItemScope.holds(&name.local))
 }
 
-/// Whether an element ends a button scope (HTML standard, section 13.2.4.2, "have a particular element in
-/// button scope").
+/// Returns true if an element ends a button scope (HTML standard, section 13.2.4.2, "have a particular element in button scope").
 pub fn button_scope(name: &QualName) -> bool
     ensures { result ≡ is_button_scope name.now }
 {
@@ -90,8 +86,7 @@ pub fn button_scope(name: &QualName) -> bool
     sets.has(NameSet::DefaultScope) || sets.has(NameSet::ButtonScope)
 }
 
-/// Whether an element ends a table scope (HTML standard, section 13.2.4.2, "have a particular element in
-/// table scope").
+/// Returns true if an element ends a table scope (HTML standard, section 13.2.4.2, "have a particular element in table scope").
 #[tactic(auto, unfolding(crate::specs::TagSets::is_table_scope, crate::specs::TagSets::html_namespace))]
 pub fn table_scope(name: &QualName) -> bool
     ensures { result ≡ is_table_scope name.now }
@@ -99,7 +94,7 @@ pub fn table_scope(name: &QualName) -> bool
     name.ns.is_html() && NameSet::TableScope.holds(&name.local)
 }
 
-/// Whether an element is a table body context (HTML standard, section 13.2.6.4.13, "In table body").
+/// Returns true if an element is a table body context (HTML standard, section 13.2.6.4.13, "In table body").
 #[tactic(auto, unfolding(crate::specs::TagSets::is_table_body_context, crate::specs::TagSets::html_namespace))]
 pub fn table_body_context(name: &QualName) -> bool
     ensures { result ≡ is_table_body_context name.now }
@@ -107,7 +102,7 @@ pub fn table_body_context(name: &QualName) -> bool
     name.ns.is_html() && NameSet::TableBodyContext.holds(&name.local)
 }
 
-/// Whether an element is a table row context (HTML standard, section 13.2.6.4.14, "In row").
+/// Returns true if an element is a table row context (HTML standard, section 13.2.6.4.14, "In row").
 #[tactic(auto, unfolding(crate::specs::TagSets::is_table_row_context, crate::specs::TagSets::html_namespace))]
 pub fn table_row_context(name: &QualName) -> bool
     ensures { result ≡ is_table_row_context name.now }
@@ -115,8 +110,7 @@ pub fn table_row_context(name: &QualName) -> bool
     name.ns.is_html() && NameSet::TableRowContext.holds(&name.local)
 }
 
-/// Whether the end tag of an element is implied (HTML standard, section 13.2.6.3, "Closing elements that
-/// have implied end tags").
+/// Returns true if an element has an implied end tag (HTML standard, section 13.2.6.3, "Closing elements that have implied end tags").
 #[tactic(auto, unfolding(crate::specs::TagSets::is_implied, crate::specs::TagSets::html_namespace))]
 pub fn cursory_implied_end(name: &QualName) -> bool
     ensures { result ≡ is_implied name.now }
@@ -124,8 +118,8 @@ pub fn cursory_implied_end(name: &QualName) -> bool
     name.ns.is_html() && NameSet::CursoryImpliedEnd.holds(&name.local)
 }
 
-/// Whether the end tag of an element is implied where all are, thoroughly (HTML standard, section
-/// 13.2.6.3, "Closing elements that have implied end tags").
+/// Returns true if an element has an implied end tag when all are generated thoroughly (HTML standard, section 13.2.6.3, "Closing elements
+/// that have implied end tags").
 #[tactic(auto, unfolding(crate::specs::TagSets::is_thorough_implied, crate::specs::TagSets::html_namespace))]
 pub fn thorough_implied_end(name: &QualName) -> bool
     ensures { result ≡ is_thorough_implied name.now }
@@ -133,7 +127,7 @@ pub fn thorough_implied_end(name: &QualName) -> bool
     name.ns.is_html() && NameSet::ThoroughImpliedEnd.holds(&name.local)
 }
 
-/// Whether an element is a heading, `h1` to `h6`.
+/// Returns true if an element is a heading, `h1` to `h6`.
 #[tactic(auto, unfolding(crate::specs::TagSets::is_heading, crate::specs::TagSets::html_namespace))]
 pub fn heading_tag(name: &QualName) -> bool
     ensures { result ≡ is_heading name.now }
@@ -141,7 +135,7 @@ pub fn heading_tag(name: &QualName) -> bool
     name.ns.is_html() && NameSet::Heading.holds(&name.local)
 }
 
-/// Whether an element may be open where the body ends (HTML standard, section 13.2.6.4.7, an end tag "body").
+/// Returns true if an element may be open at the end of the body (HTML standard, section 13.2.6.4.7, an end tag "body").
 #[tactic(auto, unfolding(crate::specs::TagSets::is_body_end_ok, crate::specs::TagSets::html_namespace))]
 pub fn body_end_ok(name: &QualName) -> bool
     ensures { result ≡ is_body_end_ok name.now }
@@ -149,7 +143,7 @@ pub fn body_end_ok(name: &QualName) -> bool
     name.ns.is_html() && NameSet::BodyEndOk.holds(&name.local)
 }
 
-/// Whether an element belongs into a head (HTML standard, section 13.2.6.4.6, "After head").
+/// Returns true if an element belongs in a head (HTML standard, section 13.2.6.4.6, "After head").
 #[tactic(auto, unfolding(crate::specs::TagSets::is_head_content, crate::specs::TagSets::html_namespace))]
 pub fn head_content_tag(name: &QualName) -> bool
     ensures { result ≡ is_head_content name.now }
@@ -157,7 +151,7 @@ pub fn head_content_tag(name: &QualName) -> bool
     name.ns.is_html() && NameSet::HeadContent.holds(&name.local)
 }
 
-/// Whether an element is a formatting element (HTML standard, section 13.2.4.2, "formatting").
+/// Returns true if an element is a formatting element (HTML standard, section 13.2.4.2, "formatting").
 #[tactic(auto, unfolding(crate::specs::TagSets::is_formatting, crate::specs::TagSets::html_namespace))]
 pub fn formatting_tag(name: &QualName) -> bool
     ensures { result ≡ is_formatting name.now }
@@ -165,7 +159,7 @@ pub fn formatting_tag(name: &QualName) -> bool
     name.ns.is_html() && NameSet::Formatting.holds(&name.local)
 }
 
-/// Whether an element is a cell of a table (HTML standard, section 13.2.6.4.15, "In cell").
+/// Returns true if an element is a table cell (HTML standard, section 13.2.6.4.15, "In cell").
 #[tactic(auto, unfolding(crate::specs::TagSets::is_cell, crate::specs::TagSets::html_namespace))]
 pub fn td_th(name: &QualName) -> bool
     ensures { result ≡ is_cell name.now }
@@ -173,8 +167,8 @@ pub fn td_th(name: &QualName) -> bool
     name.ns.is_html() && NameSet::TdTh.holds(&name.local)
 }
 
-/// Whether what is put into an element is foster-parented, where foster parenting is on (HTML standard,
-/// section 13.2.6.1, "Creating and inserting nodes").
+/// Returns true if the content of an element is foster-parented while foster parenting is enabled (HTML standard, section 13.2.6.1,
+/// "Creating and inserting nodes").
 #[tactic(auto, unfolding(crate::specs::TagSets::is_table_outer, crate::specs::TagSets::html_namespace))]
 pub fn table_outer(name: &QualName) -> bool
     ensures { result ≡ is_table_outer name.now }
@@ -182,8 +176,7 @@ pub fn table_outer(name: &QualName) -> bool
     name.ns.is_html() && NameSet::TableOuter.holds(&name.local)
 }
 
-/// Whether an element is a MathML text integration point (HTML standard, section 13.2.6, "Tree
-/// construction").
+/// Returns true if an element is a MathML text integration point (HTML standard, section 13.2.6, "Tree construction").
 #[tactic(auto, unfolding(crate::specs::TagSets::is_mathml_text_point, crate::specs::TagSets::mathml_namespace))]
 pub fn mathml_text_integration_point(name: &QualName) -> bool
     ensures { result ≡ is_mathml_text_point name.now }
@@ -191,8 +184,7 @@ pub fn mathml_text_integration_point(name: &QualName) -> bool
     name.ns.is_mathml() && NameSet::MathMlTextPoint.holds(&name.local)
 }
 
-/// Whether an element of SVG is an HTML integration point (HTML standard, section 13.2.6, "Tree
-/// construction").
+/// Returns true if an SVG element is an HTML integration point (HTML standard, section 13.2.6, "Tree construction").
 #[tactic(auto, unfolding(crate::specs::TagSets::is_svg_html_point, crate::specs::TagSets::svg_namespace))]
 pub fn svg_html_integration_point(name: &QualName) -> bool
     ensures { result ≡ is_svg_html_point name.now }

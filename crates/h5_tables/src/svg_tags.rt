@@ -5,7 +5,7 @@ ghost use Rattle.h5_tables.specs.AdjustedNames.{adjusted_svg_tag};
 use super::table::find;
 use h5_names::{KnownName, LocalName};
 
-// What names in lower case stand for.
+// The adjusted names, by the names in lower case.
 static SVG_TAGS: [(&str, KnownName); 37] = [
     ("altglyph", KnownName::AltGlyph),
     ("altglyphdef", KnownName::AltGlyphDef),
@@ -46,9 +46,8 @@ static SVG_TAGS: [(&str, KnownName); 37] = [
     ("textpath", KnownName::TextPath),
 ];
 
-/// The name of an element in SVG, with the capitals that SVG writes it with; a name that SVG writes without
-/// any stays as it is. It takes no memory (HTML standard, section 13.2.6.5, "The rules for parsing tokens in
-/// foreign content", any other start tag).
+/// Returns the adjusted name of an SVG element, such as `clipPath` for `clippath`. Other names are unchanged. Doesn't allocate (HTML
+/// standard, section 13.2.6.5, "The rules for parsing tokens in foreign content", any other start tag).
 pub fn adjust_svg_tag_name(name: LocalName) -> LocalName
     ensures { result ≡ adjusted_svg_tag name }
 {

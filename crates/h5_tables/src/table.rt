@@ -3,7 +3,7 @@ ghost use Rattle.std.specs.Prelude.{◌≡◌};
 ghost use Rattle.h5_tables.specs.Tables.{by_text};
 ghost use Rattle.h5_tables.specs.AdjustedNames.{found_at};
 
-// What stands at a name in a table, if anything does.
+// The value of a name in a table, if there is one.
 pub fn find<T: Copy>(table: &[(&str, T)], name: &str) -> Option<T>
     ensures { result ≡ found_at (by_text table.now) name.now }
 {

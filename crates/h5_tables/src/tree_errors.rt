@@ -9,25 +9,25 @@ use super::table::find;
 pub enum TreeError {
     /// A token that the insertion mode doesn't expect.
     UnexpectedToken,
-    /// A doctype that isn't one of those that the standard allows.
+    /// A doctype whose name or identifiers aren't accepted.
     BadDoctype,
-    /// A doctype behind the start of the document.
+    /// A doctype after the start of the document.
     LateDoctype,
     /// An element is closed while another is open in it.
     UnexpectedOpenElement,
-    /// An element is open at the end of the body that needs an end tag.
+    /// An element is open at the end of the body, and its end tag may not be omitted.
     OpenElementAtEndOfBody,
     /// An end tag `body` with no `body` in scope.
     BodyEndTagWithoutBody,
     /// An end tag `html` with no `body` in scope.
     HtmlEndTagWithoutBody,
-    /// An end tag whose element lies below a special one.
+    /// An end tag, and a special element is nearer to the current node than the element to close.
     SpecialElementBeforeTheOneToClose,
     /// A form in a form.
     NestedForms,
-    /// An end tag `form` where no form was begun.
+    /// An end tag `form`, and there is no form element pointer.
     NoFormElementToClose,
-    /// An end tag `form` where the form that was begun isn't in scope.
+    /// An end tag `form`, and the element of the form element pointer isn't in scope.
     FormElementOutOfScope,
     /// An end tag `form` in a template with no `form` in scope.
     NoFormToClose,
@@ -35,7 +35,7 @@ pub enum TreeError {
     NestedNobr,
     /// A heading in a heading.
     NestedHeadings,
-    /// An option, or a group of them, in an option or a group.
+    /// An option or an `optgroup` in an option or an `optgroup`.
     NestedOptions,
     /// A button in a button.
     NestedButtons,
@@ -45,9 +45,9 @@ pub enum TreeError {
     NoParagraphToClose,
     /// An end tag of a heading with no heading in scope.
     NoHeadingToClose,
-    /// A start tag with a `/` at its end whose element isn't void.
+    /// A start tag with a `/` at its end, whose element isn't void.
     SelfClosingTagWithContent,
-    /// The input ends in an element that has text alone, as a `script`.
+    /// The input ends in an element that has only text, such as `script`.
     EofInText,
     /// The input ends in a `template`.
     EofInTemplate,
@@ -55,7 +55,7 @@ pub enum TreeError {
     EofInFrameset,
 }
 
-// Each message, and the error that it tells of.
+// Each message with its error.
 static MESSAGES: [(&str, TreeError); 23] = [
     ("Unexpected token", TreeError::UnexpectedToken),
     ("Bad DOCTYPE", TreeError::BadDoctype),
@@ -100,7 +100,7 @@ static MESSAGES: [(&str, TreeError); 23] = [
     ("end of file in a frameset", TreeError::EofInFrameset),
 ];
 
-// The error whose exact messages begin as this one.
+// The error whose exact messages have this prefix.
 fn of_front(message: &str) -> Option<TreeError>
     ensures { result ≡ begun_by exact_fronts message.now }
 {
@@ -117,7 +117,7 @@ fn of_front(message: &str) -> Option<TreeError>
 }
 
 impl TreeError {
-    /// What a sink is told of it, unless exact messages are asked for.
+    /// The message that a sink receives, unless the option `exact_errors` is on.
     pub fn message(self) -> &'static str
         ensures { result.now ≡ tree_error_message self }
     {
@@ -150,7 +150,7 @@ impl TreeError {
         }
     }
 
-    /// Its name, in the manner of the standard's names.
+    /// The name, in the form of the standard's names.
     pub fn name(self) -> &'static str
         ensures { result.now ≡ tree_error_name self }
     {
@@ -183,8 +183,7 @@ impl TreeError {
         }
     }
 
-    /// The error that a sink was told of by this message, be it an exact one or not. `None` where no rule tells
-    /// of one so.
+    /// Returns the error with this message, exact or not, or `None` if no error of tree construction has it.
     pub fn of_message(message: &str) -> Option<TreeError>
         ensures own { (error : TreeError) → message.now ≡ tree_error_message error → result ≡ Some error }
         ensures some { IfSome result (λ error. IsMessageOf message.now error) }

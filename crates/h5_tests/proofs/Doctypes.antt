@@ -1,4 +1,4 @@
--- What doctypes mean: whether they are errors, and their quirks modes.
+-- Doctypes: parse errors, and quirks modes.
 use Rattle.std.proofs.Common.{◌≡◌, ℕ, ◌-◌, Bool, true, false, List, [], ◌∷◌, ◌++◌, map, length, take, replicate, refl, codes, Option, Some, None}
 use Rattle.std.specs.Str.{str_to_ascii_uppercase}
 use Rattle.h5_token.specs.TokenText.{DoctypeText}
@@ -9,7 +9,7 @@ use Rattle.h5_tables.specs.Doctypes.{good_identifiers, html4_public_prefixes, is
 abbrev doctype : List ℕ → (public_id system_id : Option (List ℕ)) → DoctypeText
 doctype name public_id system_id = record { name = Some name; public_id = public_id; system_id = system_id; force_quirks = false }
 
--- whether a doctype is no error, and its quirks mode in a document
+-- true if a doctype isn't an error, and its quirks mode in a document
 abbrev judged : DoctypeText → Bool × QuirksMode
 judged d = (is_good_doctype d, quirks_of false d)
 
@@ -44,7 +44,7 @@ xhtml : judged (doctype (codes "html") (Some (codes "-//W3C//DTD XHTML 1.0 Trans
 unfolding good_identifiers quirky_public_ids quirky_system_ids quirky_public_prefixes limited_quirky_public_prefixes
 xhtml = refl
 
--- in the `srcdoc` of an `iframe` too it is an error, but it means no quirks
+-- in the `srcdoc` of an `iframe` it is an error as well, but in no-quirks mode
 html4_in_a_srcdoc : quirks_of true (doctype (codes "html") (Some html4) None) ≡ NoQuirks
 html4_in_a_srcdoc = refl
 
@@ -55,7 +55,7 @@ forced_is_bad : is_good_doctype (record (doctype (codes "html") (Some html4) Non
 unfolding good_identifiers
 forced_is_bad = refl
 
--- what public identifiers begin with that mean quirks (HTML standard, section 13.2.6.4.1)
+-- the prefixes of public identifiers that mean quirks (HTML standard, section 13.2.6.4.1)
 unfoldable prefixes : List (List ℕ)
 prefixes =
     codes "-//ietf//dtd html//" ∷
@@ -128,7 +128,7 @@ prefixes_in_capitals : map (λ prefix. quirks_by (str_to_ascii_uppercase prefix)
 unfolding prefixes quirky_public_ids quirky_public_prefixes
 prefixes_in_capitals = refl
 
--- without its last '/' it is none
+-- without its last '/' it isn't one
 prefixes_cut_short : map (λ prefix. quirks_by (take (length prefix - 1) prefix)) prefixes ≡ replicate 54 NoQuirks
 unfolding prefixes quirky_public_ids quirky_public_prefixes limited_quirky_public_prefixes html4_public_prefixes
 prefixes_cut_short = refl

@@ -1,4 +1,4 @@
--- The encodings that the text of a `meta` element names.
+-- The encodings that the text of a `meta` element declares.
 use Rattle.std.proofs.Common.{◌≡◌, [], ◌∷◌, map, refl, codes, Some, None}
 use Rattle.h5_tables.specs.MetaEncoding.{meta_encoding}
 

@@ -1,4 +1,4 @@
--- Names that change inside SVG and MathML.
+-- Names that are adjusted inside SVG and MathML.
 use Rattle.std.proofs.Common.{◌≡◌, ℕ, List, [], ◌∷◌, map, refl, codes, Some, None}
 use Rattle.h5_names.specs.AttributeText.{AttributeText}
 use Rattle.h5_names.specs.declared.qualified.QualName.{QualName}
@@ -11,7 +11,7 @@ svg_tag_names = refl
 abbrev valued : QualName → AttributeText
 valued name = record { name = name; value = codes "1" }
 
--- an attribute as it is read
+-- an attribute of a token
 abbrev read : List ℕ → AttributeText
 read local = valued (record { prefix = None; ns = []; local = local })
 

@@ -35,7 +35,7 @@ table_row = refl
 table : name_text Table ≡ codes "table"
 table = refl
 
--- the names of SVG that have capitals (HTML standard, section 13.2.6.5, "any other start tag"), in lower case and as they are
+-- the adjusted names of SVG (HTML standard, section 13.2.6.5, "any other start tag"), in lower case and as they are
 unfoldable svg_names : List (List ℕ × List ℕ)
 svg_names =
     (codes "altglyph", codes "altGlyph") ∷

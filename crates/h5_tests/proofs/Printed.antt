@@ -1,4 +1,4 @@
--- A tree and a builder's replies as text.
+-- A tree and a tree builder's replies as text.
 use Rattle.std.proofs.Common.{◌≡◌, ℕ, List, [], ◌∷◌, ◌++◌, refl, codes, None}
 use Rattle.std.specs.Fmt.{digits}
 use Rattle.h5_names.specs.AttributeText.{AttributeText}
@@ -20,7 +20,7 @@ link_attributes =
     record { name = named xlink_text (codes "href"); value = 9 ∷ [] } ∷
     record { name = named [] (codes "id"); value = [] } ∷ []
 
--- a doctype, and behind it a link in SVG with two attributes, which holds a text and a comment
+-- a doctype, followed by an SVG link with two attributes, which contains a text and a comment
 lines_of_a_tree :
     kind_line 0 (DoctypeNode (codes "html") (codes "-//x") []) ++ kind_line 0 (ElementNode (named svg_text (codes "a"))) ++
     attribute_lines 1 link_attributes ++ line 1 (quoted (codes "x\n\\")) ++ kind_line 1 (CommentNode (codes "y\0"))

@@ -1,9 +1,9 @@
--- Named character references: the longest name, and how far a name may go on.
+-- Named character references: the longest name, and how far a name may continue.
 use Rattle.std.proofs.Common.{◌≡◌, ℕ, Bool, true, false, List, [], ◌∷◌, ◌++◌, map, take, refl, codes, Option, Some, None}
 use Rattle.h5_states.specs.ReferenceTable.{references}
 use Rattle.h5_states.specs.References.{Longest, is_beginning, longest}
 
--- a name was found, and this is left
+-- a name was found, and this text follows
 abbrev found : (name text rest : List ℕ) → Option Longest
 found name text rest = Some (record { name = name; text = text; rest = rest })
 
@@ -35,7 +35,7 @@ no_name : longest references (codes "x") ≡ None
 unfolding references
 no_name = refl
 
--- which front of a text a name begins with, from the empty one on
+-- the prefixes of a text with which a name begins, from the empty one on
 abbrev begins : List ℕ → List ℕ → List ℕ → List Bool
 begins seen text lengths = map (λ n. is_beginning references (seen ++ take n text)) lengths
 

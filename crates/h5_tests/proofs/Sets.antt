@@ -1,4 +1,4 @@
--- Sets of elements: members of each, and strangers.
+-- Sets of elements: examples of members and of others.
 use Rattle.std.proofs.Common.{◌≡◌, Bool, true, false, not, List, [], ◌∷◌, refl, codes, None}
 use Rattle.std.specs.List.{list_all}
 use Rattle.h5_names.specs.KnownNames.{name_text}
@@ -21,7 +21,7 @@ math known = record { prefix = None; ns = mathml_text; local = name_text known }
 abbrev svg : KnownName → QualName
 svg known = record { prefix = None; ns = svg_text; local = name_text known }
 
--- a test holds for each member, and for no stranger
+-- a test holds for each member, and for no other example
 abbrev Separates : (QualName → Bool) → (members strangers : List QualName) → Type 0
 Separates is members strangers = (list_all is members ≡ true) × (list_all (λ name. not (is name)) strangers ≡ true)
 

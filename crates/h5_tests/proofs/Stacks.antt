@@ -1,4 +1,4 @@
--- Where the newest value of a number is in a stack of numbered values.
+-- The index of the newest value of a number in a stack of numbered values.
 use Rattle.std.proofs.Common.{◌≡◌, ℕ, List, [], ◌∷◌, map, refl}
 use Rattle.h5_state.specs.Numbered.{Numbered, newest_under, one_of}
 

@@ -27,7 +27,7 @@ bold one other = record {
   had_duplicate_attributes = false;
 }
 
--- what two attributes count in either order, by whether each is the one that is counted
+-- the count of two attributes in either order, by whether each is the one that is counted
 counted_in_any_order : (is_one is_other : Bool) →
     (if is_one then 1 + (if is_other then 1 + 0 else 0) else (if is_other then 1 + 0 else 0))
     ≡ (if is_other then 1 + (if is_one then 1 + 0 else 0) else (if is_one then 1 + 0 else 0))

@@ -17,7 +17,7 @@ names = refl
 not_own : (message : List ℕ) (error : TreeError) → found_at message_rows message ≡ None → message ≡ tree_error_message error → ⊥
 not_own message error none same = none-some error (sym none ∙ subst (λ text. found_at message_rows text ≡ Some error) (sym same) (own_row error))
 
--- a message that isn't an error's own, but an exact one, is of that error alone
+-- an exact message is that of only one error
 abbrev IsExactOf : List ℕ → TreeError → Type 0
 IsExactOf message error = IsMessageOf message error × ((other : TreeError) → IsMessageOf message other → other ≡ error)
 

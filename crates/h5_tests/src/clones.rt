@@ -1,4 +1,4 @@
-//! Each `clone` that may need memory, with ample memory: its result is equal.
+//! Each `clone` that may allocate, with enough memory: its result is equal.
 use h5_driver::ParseOpts;
 use h5_interface::QuirksMode;
 use h5_names::{Attribute, LocalName, Namespace, Prefix, QualName, namespaces};
@@ -29,7 +29,7 @@ fn hash_of<T: Hash>(value: &T) -> u64 {
     hasher.finish()
 }
 
-// Equal, at the same place of the order, and with the same hash.
+// Returns true if two values are equal, compare as equal, and have the same hash.
 fn are_same<T: Ord + Hash>(value: &T, clone: &T) -> bool {
     clone == value && clone.cmp(value) == Ordering::Equal && hash_of(clone) == hash_of(value)
 }
@@ -44,7 +44,7 @@ fn check_name<T: Ord + Hash + Drop>(
     Ok(())
 }
 
-// An attribute whose name has a prefix, and that HTML doesn't know.
+// An attribute whose name has a prefix, and which HTML doesn't know.
 fn attribute(alloc: Global) -> Result<Attribute, AllocError> {
     let value = String::from_str(alloc, "1")?;
     let prefix = Prefix::new(alloc, "p")?;

@@ -1,10 +1,10 @@
-//! Each outcome of a run of the program.
+//! The outcomes of runs of the program.
 use super::running::{check_output, check_run};
 use h5_commands::refuse_words;
 use std::io::{self, ErrorKind, Read, Write};
 use std::test::Fail;
 
-// A reader, and a writer, that fails.
+// A reader and writer that fails.
 #[derive(Drop)]
 struct Broken;
 
@@ -24,7 +24,7 @@ impl Write for Broken {
     }
 }
 
-// A writer that takes all it is given, and fails when it is flushed.
+// A writer that accepts everything, and fails when it is flushed.
 #[derive(Drop)]
 struct Unflushed;
 
@@ -40,7 +40,7 @@ impl Write for Unflushed {
 
 const USAGE: &str = "h5: usage: h5 tokens | h5 tree [context] | h5 html\n";
 
-// The words of a command, its input, its exit status, and what it writes on standard output and on standard error.
+// The arguments of a command, its input, its exit status, and its text on standard output and on standard error.
 const RUNS: &[(&[&str], &[u8], u8, &str, &str)] = &[
     (
         &["tokens"],

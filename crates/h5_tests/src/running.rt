@@ -1,4 +1,4 @@
-//! Runs of the program over memory.
+//! Runs of the program in memory.
 use h5_commands::run;
 use std::alloc::{AllocError, Global};
 use std::io::{Read, Write};
@@ -12,7 +12,7 @@ fn words_of(alloc: Global, words: &[&str]) -> Result<Vec<String>, AllocError> {
     Ok(list)
 }
 
-/// Runs a command of these words, and checks its status and what it writes on standard error.
+/// Runs a command with these arguments, and checks its status and its text on standard error.
 pub fn check_run<R: Read + Drop, W: Write>(
     rt: &impl Abort,
     alloc: Global,
@@ -30,7 +30,7 @@ pub fn check_run<R: Read + Drop, W: Write>(
     Ok(())
 }
 
-/// Runs a command of these words over bytes, and checks what it writes on standard output, too.
+/// Runs a command with these arguments and bytes as input. Also checks its text on standard output.
 pub fn check_output(
     rt: &impl Abort,
     alloc: Global,

@@ -1,4 +1,4 @@
-//! Calls of the arena that no text makes: each of those that take memory succeeds once.
+//! Calls of the arena that no text causes: each that allocates succeeds once.
 use h5_arena::{Arena, NodeId};
 use h5_interface::example::build_small_tree;
 use h5_interface::{NodeOrText, TreeSink, create_element, create_element_with_flags};
@@ -12,13 +12,13 @@ fn name_in(alloc: Global, ns: Namespace, local: &str) -> Result<QualName, AllocE
     Ok(QualName::new(None, ns, local))
 }
 
-/// A name in the namespace of this URL.
+/// A name in the namespace with this URL.
 pub fn name_of(alloc: Global, ns: &str, local: &str) -> Result<QualName, AllocError> {
     let ns = Namespace::new(alloc, ns)?;
     name_in(alloc, ns, local)
 }
 
-/// An attribute of this name.
+/// An attribute with this name.
 pub fn attribute_of(
     alloc: Global,
     ns: &str,
@@ -30,7 +30,7 @@ pub fn attribute_of(
     Ok(Attribute { name, value })
 }
 
-// A list of one attribute, which is in no namespace.
+// A list of one attribute without a namespace.
 fn one_attribute(alloc: Global, local: &str, value: &str) -> Result<Vec<Attribute>, AllocError> {
     let mut attrs = Vec::new(alloc);
     attrs.push(attribute_of(alloc, namespaces::NONE, local, value)?)?;
@@ -42,7 +42,7 @@ pub fn text_child(alloc: Global, text: &str) -> Result<NodeOrText<NodeId>, Alloc
     Ok(NodeOrText::AppendText(String::from_str(alloc, text)?))
 }
 
-/// A new element of HTML, without attributes.
+/// A new HTML element without attributes.
 pub fn new_element(arena: &mut Arena, alloc: Global, local: &str) -> Result<NodeId, AllocError> {
     let name = name_of(alloc, namespaces::HTML, local)?;
     create_element(arena, name, Vec::new(alloc))
@@ -90,7 +90,7 @@ pub fn new_template(
     Ok(template)
 }
 
-// Puts a text before a node that has a parent.
+// Inserts a text before a node that has a parent.
 fn put_text_before(
     arena: &mut Arena,
     sibling: NodeId,
@@ -105,7 +105,7 @@ fn put_text_before(
     }
 }
 
-// Adds the attributes that an element lacks.
+// Adds the missing attributes to an element.
 fn add_attributes(
     arena: &mut Arena,
     id: NodeId,
@@ -119,7 +119,7 @@ fn add_attributes(
     }
 }
 
-// Tells the arena that an option was closed.
+// Reports an option as closed.
 fn copy_option(arena: &mut Arena, id: NodeId, rt: &impl Abort) -> Result<(), AllocError> {
     assert!(rt; arena.holds(id));
     match arena.name(id) {
@@ -137,14 +137,14 @@ fn own(arena: &mut Arena, id: NodeId, rt: &impl Abort) {
     }
 }
 
-// Asks the arena for a shadow root of its document.
+// Requests a shadow root for the document.
 fn attach_shadow(arena: &mut Arena, template: NodeId, rt: &impl Abort) -> Result<bool, AllocError> {
     let document = arena.document();
     assert!(rt; arena.holds(document) && arena.holds(template));
     arena.attach_declarative_shadow(&document, &template, &[])
 }
 
-// Makes the calls of the sink that no text makes. Returns the `p` of the document.
+// Makes the calls of the sink that no text causes. Returns the `p` of the document.
 fn call_sink(arena: &mut Arena, alloc: Global, rt: &impl Abort) -> Result<NodeId, Fail> {
     let root = small_tree(arena, alloc, "x", "some text", rt)?;
     let target = String::from_str(alloc, "xml")?;
@@ -183,7 +183,7 @@ fn reword(arena: &mut Arena, id: NodeId, rt: &impl Abort) -> Result<(), AllocErr
     }
 }
 
-// Makes the calls that edit a tree and take memory: a copy of the `p` comes in its place.
+// Makes the calls that edit a tree and allocate: a copy of the `p` replaces it.
 fn edit(arena: &mut Arena, root: NodeId, alloc: Global, rt: &impl Abort) -> Result<(), Fail> {
     let template = new_template(arena, alloc, "held", rt)?;
     arena.try_append(root, NodeOrText::AppendNode(template))?;
@@ -220,7 +220,7 @@ fn calls_succeed(rt: HostRuntime) -> Result<(), Fail> {
     made
 }
 
-// An element of MathML by its local name, with an attribute, and whether it may hold HTML.
+// A MathML element by its local name, with an attribute, and whether it is an HTML integration point.
 type Annotation = (&'static str, &'static str, &'static str, bool);
 
 const ANNOTATIONS: [Annotation; 5] = [

@@ -1,4 +1,4 @@
-//! Builders over sinks that report every shadow root as attached, and count the options that they copy.
+//! Tree builders over sinks that report every shadow root as attached, and count the options that they copy.
 use super::feeding::take_lines;
 use h5_arena::{Arena, NodeId};
 use h5_interface::TreeSink;
@@ -11,11 +11,10 @@ use std::test::Fail;
 
 type Builder<const DETACHES: bool> = TreeBuilder<NodeId, Attaching<DETACHES>>;
 
-// Lines of tokens, the HTML of the document that they make, how many options are copied, and whether a template is left without a
-// parent.
+// Lines of tokens, the HTML of their document, the number of copied options, and whether a template is left without a parent.
 type Row = (&'static str, &'static str, usize, bool);
 
-// A template that asks for a shadow root in a `div`, with a text in it and one after it: the page has only the text after it.
+// A template that requests a shadow root in a `div`, with a text in it and one after it: the page has only the text after it.
 const SHADOW_ROOT: Row = (
     "S div\nS template\nA shadowrootmode open\nT x\nE template\nT y",
     "<html><head></head><body><div>y</div></body></html>",
@@ -46,7 +45,7 @@ const OPTIONS: [Row; 4] = [
     ("E option", "", 0, false),
 ];
 
-// Returns true if a template of an arena is nobody's child.
+// Returns true if a template of an arena has no parent.
 fn has_loose_template(arena: &Arena) -> bool {
     for place in 0..arena.len() {
         let Some(node) = arena.id(place) else {

@@ -1,4 +1,4 @@
-//! Calls of the builder that no text makes.
+//! Calls of the tree builder that no text causes.
 use super::feeding::take_lines;
 use h5_arena::{Arena, NodeId};
 use h5_tables::TreeBuilderOpts;

@@ -1,4 +1,4 @@
-//! Bytes in any encoding, and what pages say of theirs.
+//! Bytes in any encoding, and the encodings that pages declare.
 use h5_encodings::{Decoder, Encoding, EncodingOpts, SingleByte, Source, sniff};
 use std::alloc::{AllocError, Global};
 use std::test::Fail;
@@ -95,7 +95,7 @@ fn decode(
 // Returns true if a decoder counts the errors that its text shows. Those of UTF-8 it doesn't count.
 fn counts_errors(decoder: &Decoder, text: &str) -> bool {
     let count = text.chars().filter(|c| *c == '\u{FFFD}').count();
-    let counted = decoder.replaced();
+    let counted = decoder.replacement_count();
     let is_utf8 = decoder.encoding() == Encoding::Utf8;
     decoder.has_errors() == (counted > 0) && (is_utf8 || counted == count as u64)
 }
@@ -160,12 +160,12 @@ fn sniffed(
     Ok((encoding.name(), source))
 }
 
-// What the transport says, how many spaces come first, and the bytes after them; and the name of their encoding, and how it is known.
+// The encoding of the transport, the number of spaces before the bytes, and the bytes; and the name of their encoding, and its source.
 type Known = (Option<Encoding>, usize, &'static [u8], &'static str, Source);
 
 const IBM866: Option<Encoding> = Some(Encoding::SingleByte(SingleByte::Ibm866));
 
-// A mark comes before the transport, and that before the page. A page is read up to its 1,024th byte.
+// A byte order mark comes before the transport, and that before the page. A page is read up to its 1,024th byte.
 #[rattlefmt::skip]
 const KNOWN: [Known; 6] = [
     (IBM866, 0, b"\xFE\xFF<meta charset=koi8-r>", "UTF-16BE", Source::Mark),
@@ -200,7 +200,7 @@ fn encodings_are_known_in_an_order(rt: HostRuntime) -> Result<(), Fail> {
     Ok(())
 }
 
-// Pages, and the names of the encodings that they name, if any.
+// Pages, and the names of the encodings that they declare, if any.
 #[rattlefmt::skip]
 static CASES: [(&str, &str); 106] = [
     ("", ""),

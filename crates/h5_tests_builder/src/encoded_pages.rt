@@ -14,7 +14,7 @@ type PageParser = BytesParser<StandardReader<Arena>>;
 
 const PAGE: &[u8] = b"<!DOCTYPE html><meta charset=koi8-r><p>\xF7";
 
-// With these a page decides its encoding.
+// These bytes complete the 1,024 that decide the encoding.
 const SPACES: [u8; 1024] = [b' '; 1024];
 
 const TREE: &str =
@@ -33,7 +33,7 @@ fn decide(rt: &impl Abort, parser: &mut PageParser) -> Result<(), BuildFault> {
     let koi8_r = Encoding::SingleByte(SingleByte::Koi8R);
     assert!(rt; parser.encoding() == Some((koi8_r, Source::Meta)));
     assert!(rt; !parser.has_errors());
-    assert_eq!(rt; parser.replaced(), 0);
+    assert_eq!(rt; parser.replacement_count(), 0);
     Ok(())
 }
 

@@ -1,4 +1,4 @@
-//! Texts, and the parse errors that are reported of them.
+//! Texts, and their parse errors.
 use super::recording::{Telling, feed, new_tokenizer};
 use h5_standard::Errors;
 use h5_tests_sinks::Answer;
@@ -7,7 +7,7 @@ use std::fmt::Write;
 use std::process::Abort;
 use std::test::Fail;
 
-// A text, a line for each error that is kept, with its line, its column, its offset and its name, and how many more there are.
+// A text, a line for each error that is stored, with its line, its column, its offset and its name, and the number of further errors.
 type Row = (&'static str, &'static str, u64);
 
 const ROWS: [Row; 5] = [
@@ -34,7 +34,7 @@ const ROWS: [Row; 5] = [
     ),
 ];
 
-// A line for each error that is kept.
+// A line for each error that is stored.
 fn lines_of(alloc: Global, errors: &Errors) -> Result<String, AllocError> {
     let mut lines = String::new(alloc);
     for told in errors.kept() {

@@ -35,7 +35,7 @@ enum Example {
     Reword,
 }
 
-/// An example, its page, and the text that it makes.
+/// An example, its page, and its resulting text.
 #[derive(Clone, Copy)]
 struct Row {
     example: Example,
@@ -72,7 +72,7 @@ fn tidied(alloc: Global, arena: &mut Arena) -> Result<String, Fail> {
     Ok(arena.outer_html(arena.document())?)
 }
 
-// What is around the first `em` of a reworded tree.
+// The surroundings of the first `em` of a reworded tree.
 fn reworded(alloc: Global, arena: &mut Arena) -> Result<String, Fail> {
     reword(alloc, arena)?;
     match found(alloc, arena, "em")?.first() {
@@ -81,7 +81,7 @@ fn reworded(alloc: Global, arena: &mut Arena) -> Result<String, Fail> {
     }
 }
 
-// Runs an example, and returns the text that it makes.
+// Runs an example, and returns its resulting text.
 fn text_of(alloc: Global, example: Example, arena: &mut Arena) -> Result<String, Fail> {
     match example {
         Example::Count => {

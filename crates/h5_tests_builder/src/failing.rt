@@ -8,7 +8,7 @@ use std::alloc::{AllocError, Global};
 use std::process::Abort;
 use std::test::Fail;
 
-// Makes one call. If none of its writes fails it returns this answer; if one does, `Write`; and from then on `Failed`, with nothing
+// Makes one call. If none of its writes fails it returns this result; if one does, `Write`; and from then on `Failed`, with nothing
 // written.
 fn take(
     rt: &impl Abort,

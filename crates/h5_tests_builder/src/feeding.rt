@@ -1,4 +1,4 @@
-//! Builders that take lines of tokens.
+//! Tree builders that process lines of tokens.
 use h5_interface::TreeSink;
 use h5_print::{Item, parse};
 use h5_token::Token;
@@ -17,7 +17,7 @@ fn tokens_of(alloc: Global, lines: &str) -> Result<Vec<(Token, u64)>, Fail> {
     Ok(tokens)
 }
 
-/// Gives a builder the tokens of lines.
+/// Passes the tokens of lines to a tree builder.
 pub fn take_lines<Handle: Drop, Sink: TreeSink<Handle = Handle> + Drop>(
     builder: &mut TreeBuilder<Handle, Sink>,
     alloc: Global,

@@ -1,4 +1,4 @@
-//! A tree as a block, and what is read of it.
+//! A tree as a block, and reads of it.
 use super::arena::small_tree;
 use h5_arena::Arena;
 use h5_flat::{
@@ -17,7 +17,7 @@ fn pack(arena: &mut Arena, alloc: Global, rt: &impl Abort) -> Result<Vec<u8>, Fa
     Ok(block?)
 }
 
-// The block of a document that holds a `p` with an id, a text and a comment.
+// The block of a document with a `p` that has an id, a text and a comment.
 fn new_block(alloc: Global, rt: &impl Abort) -> Result<Vec<u8>, Fail> {
     let mut arena = Arena::new(alloc)?;
     let block = pack(&mut arena, alloc, rt);

@@ -1,11 +1,11 @@
-//! Tests of all that stands on the arena: each kind is one function over a table of rows.
+//! Tests of the crates that use the arena: each kind is one function over a table of rows.
 //!
-//! `arena` has the calls of the arena that no text makes, `trees` trees as they are written, `serialize` the calls of the serializer,
-//! `failing` a writer whose writes fail in turn, and `flat` trees as blocks of bytes. `examples` runs the examples of `h5_examples`.
-//! `recording` runs a tokenizer, whichever it is; `plain` and `standard` have texts and their tokens, `errors` texts and their parse errors, and `reading` what the
-//! calls of a tokenizer return. `parser` has parsers of texts and bytes, `decoding` bytes in any encoding, and `encoded_pages` a page
-//! of them. `feeding` gives a builder lines of tokens, `attaching` runs builders over sinks that attach shadow roots, `calls` has the
-//! calls of a builder that no text makes, `selecting` selectors, and `listing` numbers as they are listed. Begin with `src/arena.rt`.
+//! `arena` has the calls of the arena that no text causes, `trees` trees as HTML, `serialize` the calls of the serializer, `failing` a
+//! writer whose writes fail in turn, and `flat` trees as blocks of bytes. `examples` runs the examples of `h5_examples`. `recording` runs a
+//! tokenizer of any kind; `plain` and `standard` have texts and their tokens, `errors` texts and their parse errors, and `reading` results
+//! of a tokenizer's calls. `parser` has parsers of texts and bytes, `decoding` bytes in any encoding, and `encoded_pages` a page of them.
+//! `feeding` passes lines of tokens to a tree builder, `attaching` runs tree builders over sinks that attach shadow roots, `calls` has the
+//! calls of a tree builder that no text causes, `selecting` selectors, and `listing` numbers in lists. Begin with `src/arena.rt`.
 #![tactic(auto)]
 
 #[cfg(test)]

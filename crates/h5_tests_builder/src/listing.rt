@@ -1,4 +1,4 @@
-//! Numbers as they are listed: on a line, where no program prints one, and in an array.
+//! Numbers in lists: on a line, where no program prints one, and in an array.
 use h5_listing::{Form, Item, print_items};
 use std::alloc::{AllocError, Global};
 use std::test::Fail;

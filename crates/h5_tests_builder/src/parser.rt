@@ -1,4 +1,4 @@
-//! Parsers over an arena that take texts and bytes, each in its own way.
+//! Parsers over an arena, for texts and bytes given in several ways.
 use super::arena::name_of;
 use h5_arena::Arena;
 use h5_driver::bytes::Utf8Parser;
@@ -17,7 +17,7 @@ type Output<R> = <<R as Reader>::Sink as TreeSink>::Output;
 
 type ArenaParser = standard::Parser<Arena>;
 
-// What is parsed.
+// The input is a document or a fragment.
 #[derive(Clone, Copy)]
 enum Context {
     Document,
@@ -27,18 +27,18 @@ enum Context {
     Element(&'static str),
 }
 
-// How a text or bytes come.
+// The way in which a text or bytes are given.
 #[derive(Clone, Copy)]
 enum Input {
-    /// A text, at once.
+    /// A text, whole.
     Text(&'static str),
     /// Texts, one after the other.
     Chunks(&'static [&'static str]),
-    /// Texts, which the parser takes as its own.
+    /// Texts that the parser owns.
     Owned(&'static [&'static str]),
     /// A list of texts.
     List(&'static [&'static str]),
-    /// Bytes, at once.
+    /// Bytes, whole.
     Bytes(&'static [u8]),
     /// Bytes, one chunk after the other.
     ByteChunks(&'static [&'static [u8]]),
@@ -94,7 +94,7 @@ fn give_owned<R: Reader + Drop>(
     Ok(())
 }
 
-// The last chunk is taken with the end.
+// The last chunk is passed with the end.
 fn take_owned<R: Reader + Drop>(
     parser: Parser<R>,
     alloc: Global,
@@ -144,7 +144,7 @@ fn take_bytes<R: Reader + Drop>(
     parser.finish()
 }
 
-// What the sink of a parser gives after this input.
+// The output of a parser's sink after this input.
 fn take<R: Reader + Drop>(
     parser: Parser<R>,
     alloc: Global,
@@ -160,7 +160,7 @@ fn take<R: Reader + Drop>(
     }
 }
 
-// A parser of a fragment in a new element of this name.
+// A fragment parser with a new element of this name as context.
 fn parser_in_element<S: TreeSink + Drop>(
     alloc: Global,
     sink: S,
@@ -209,7 +209,7 @@ fn parsers_take_texts_and_bytes(rt: HostRuntime) -> Result<(), Fail> {
     Ok(())
 }
 
-// What the sink of a parser gives after an error from outside and a page.
+// The output of a parser's sink after an error from outside and a page.
 fn take_error<R: Reader + Drop>(parser: Parser<R>) -> Result<Output<R>, BuildFault> {
     let mut parser = parser;
     parser.error("from outside");

@@ -1,4 +1,4 @@
-//! Texts, and what the plain tokenizer hands on of them.
+//! Texts, and the tokens that the plain tokenizer emits for them.
 use super::recording::Setting::{Foreign, Html, Raw};
 use super::recording::{Plain, Row, check_all};
 use h5_tests_sinks::Recorder;
@@ -44,7 +44,7 @@ fn plain_texts(rt: HostRuntime) -> Result<(), Fail> {
     Ok(())
 }
 
-/// Sees all that the recorder means.
+/// The relation that distinguishes everything that the recorder means.
 struct SeesAll;
 
 impl laws::Likeness for SeesAll {

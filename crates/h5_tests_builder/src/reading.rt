@@ -1,5 +1,5 @@
-//! Results of the calls of a tokenizer: where a token stops it, where it begins in a raw text, after the end, and out of memory.
-//! Each is tried with both tokenizers.
+//! Results of a tokenizer's calls: where a token stops it, where it begins in a raw text, after the end, and out of memory. Each is tried
+//! with both tokenizers.
 use super::recording::{Plain, Recording, Standard, new_tokenizer, queued};
 use h5_reading::{BufferQueue, TokenizerOpts, TokenizerResult};
 use h5_tests_sinks::{Answer, Recorder};
@@ -101,7 +101,7 @@ fn a_tokenizer_begins_in_a_raw_text(rt: HostRuntime) -> Result<(), Fail> {
     Ok(())
 }
 
-// Feeds both chunks and the end. Returns the first fault of the tokenizer.
+// Feeds both chunks and the end. Returns the first error of the tokenizer.
 fn first_fault<R: Recording>(
     tokenizer: &mut R,
     queue: &mut BufferQueue,

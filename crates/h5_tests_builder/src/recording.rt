@@ -1,6 +1,6 @@
-//! A tokenizer over a sink that writes down what it is handed, whichever tokenizer it is.
+//! A tokenizer of any kind over a sink that writes its tokens down.
 use h5_reading::{BufferQueue, TokenizerOpts, TokenizerResult};
-use h5_standard::{Errors, TellingTokenizer};
+use h5_standard::{Errors, ReportingTokenizer};
 use h5_tests_sinks::{Answer, Recorder};
 use h5_token::BuildFault;
 use h5_token::states::RawKind;
@@ -18,14 +18,14 @@ pub trait Recording: Drop {
     fn sink(&self) -> &Recorder;
 }
 
-/// The plain one.
+/// The plain tokenizer.
 pub type Plain = h5_tokenizer::Tokenizer<Recorder>;
 
-/// The standard one.
+/// The standard tokenizer.
 pub type Standard = h5_standard::Tokenizer<Recorder>;
 
-/// The standard one that reports errors, of which it keeps three.
-pub type Telling = TellingTokenizer<Recorder, Errors>;
+/// The standard tokenizer that reports errors, of which it stores three.
+pub type Telling = ReportingTokenizer<Recorder, Errors>;
 
 impl Recording for h5_tokenizer::Tokenizer<Recorder> {
     fn over(alloc: Global, sink: Recorder, opts: TokenizerOpts) -> Self {
@@ -63,17 +63,17 @@ impl Recording for h5_standard::Tokenizer<Recorder> {
     }
 }
 
-impl Recording for TellingTokenizer<Recorder, Errors> {
+impl Recording for ReportingTokenizer<Recorder, Errors> {
     fn over(alloc: Global, sink: Recorder, opts: TokenizerOpts) -> Self {
-        TellingTokenizer::new(alloc, sink, Errors::new(alloc, 3), opts)
+        ReportingTokenizer::new(alloc, sink, Errors::new(alloc, 3), opts)
     }
 
     fn feed(&mut self, input: &mut BufferQueue) -> Result<TokenizerResult<u8>, BuildFault> {
-        TellingTokenizer::feed(self, input)
+        ReportingTokenizer::feed(self, input)
     }
 
     fn end(&mut self) -> Result<(), BuildFault> {
-        TellingTokenizer::end(self)
+        ReportingTokenizer::end(self)
     }
 
     fn sink(&self) -> &Recorder {
@@ -81,12 +81,12 @@ impl Recording for TellingTokenizer<Recorder, Errors> {
     }
 }
 
-/// Puts a chunk to those that wait to be read.
+/// Appends a chunk to a queue.
 pub fn queued(alloc: Global, queue: &mut BufferQueue, chunk: &str) -> Result<(), AllocError> {
     queue.push_back(String::from_str(alloc, chunk)?)
 }
 
-/// A tokenizer with the default options, over a recorder with this answer.
+/// A tokenizer with the default options, over a recorder with this reply.
 pub fn new_tokenizer<R: Recording>(alloc: Global, foreign: bool, answer: Answer) -> R {
     R::over(
         alloc,
@@ -105,7 +105,7 @@ fn feed_chunk<R: Recording>(
     Ok(())
 }
 
-/// Feeds a text at once, or character by character, and then the end.
+/// Feeds a text whole, or character by character, and then the end.
 pub fn feed<R: Recording>(
     alloc: Global,
     tokenizer: &mut R,
@@ -123,14 +123,14 @@ pub fn feed<R: Recording>(
     tokenizer.end()
 }
 
-/// The sink over which a text is read.
+/// The sink of a text.
 #[derive(Clone, Copy)]
 pub enum Setting {
-    /// In HTML, it answers to go on.
+    /// In HTML; replies with "continue".
     Html,
-    /// In foreign content, it does the same.
+    /// In foreign content; replies with "continue".
     Foreign,
-    /// To a start tag it answers that its text is raw.
+    /// In HTML; replies to start tags with the state of this raw text.
     Raw(RawKind),
 }
 
@@ -143,10 +143,10 @@ impl Setting {
     }
 }
 
-/// The sink, a text, what is written down of it, and the lines of the tokens in it that are no texts.
+/// The sink, a text, the written tokens, and the lines of the tokens that aren't texts.
 pub type Row = (Setting, &'static str, &'static str, &'static str);
 
-// Checks what is written down of a text that is fed at once, or character by character.
+// Checks the written tokens of a text that is fed whole, or character by character.
 fn check<R: Recording>(
     rt: &impl Abort,
     alloc: Global,
@@ -163,7 +163,7 @@ fn check<R: Recording>(
     fed
 }
 
-/// Checks what is written down of the text of each row.
+/// Checks the written tokens of the text of each row.
 pub fn check_all<R: Recording>(
     rt: &impl Abort,
     alloc: Global,

@@ -2,7 +2,7 @@
 use h5_arena::Arena;
 use h5_driver::ParseOpts;
 use h5_driver::standard::parse_document;
-use h5_selectors::{Problem, Selector, SelectorFault};
+use h5_selectors::{Selector, SelectorError, SelectorProblem};
 use std::alloc::Global;
 use std::process::Abort;
 use std::test::Fail;
@@ -10,7 +10,7 @@ use std::test::Fail;
 const PAGE: &str =
     "<!DOCTYPE html><ul id=a class=\"x y\"><li>1<li lang=en-GB>2<li><a href=u>3</a></ul><p title=\"one two\">4<p><a>5</a><p>6<b></b>";
 
-// Selectors, and how many elements of the page each selects.
+// Selectors, and the number of elements of the page that each selects.
 const ROWS: [(&str, usize); 11] = [
     ("li", 3),
     ("ul.x.y#a", 1),
@@ -71,9 +71,9 @@ fn elements_are_selected(rt: HostRuntime) -> Result<(), Fail> {
 
 #[test]
 fn an_error_has_its_position(rt: HostRuntime) {
-    let fault = SelectorFault::Invalid {
+    let fault = SelectorError::Invalid {
         at: 1,
-        problem: Problem::PseudoClass,
+        problem: SelectorProblem::PseudoClass,
     };
     assert!(rt; Selector::parse(rt.alloc(), "p:hover").err() == Some(fault));
 }

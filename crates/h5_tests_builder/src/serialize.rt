@@ -1,4 +1,4 @@
-//! Calls of the serializer, and what they write.
+//! Calls of the serializer, and their text.
 use super::arena::{attribute_of, name_of};
 use super::trees::write_deep_tree;
 use h5_names::{Attribute, QualName, namespaces};
@@ -8,7 +8,7 @@ use std::alloc::{AllocError, Global};
 use std::process::Abort;
 use std::test::Fail;
 
-/// One call, its texts lent. Elements are those of HTML without attributes, and drawn ones those of SVG, whose attributes each have
+/// One call, with borrowed texts. Elements are HTML elements without attributes, and "drawn" ones SVG elements, whose attributes each have
 /// a namespace, a name and a value.
 #[derive(Clone, Copy)]
 pub enum Step<'a> {
@@ -24,20 +24,20 @@ pub enum Step<'a> {
 
 use Step::{Close, CloseDrawn, Comment, Doctype, Instruction, Open, OpenDrawn, Text};
 
-/// How a serializer begins.
+/// The options of a serializer.
 #[derive(Clone, Copy)]
 pub enum Options {
     Default,
     WithoutScripting,
     MakingParents,
-    /// Right inside an element, by its namespace and its name.
+    /// Directly inside an element, by its namespace and its name.
     Inside(&'static str, &'static str),
 }
 
 use Options::{Default, Inside, MakingParents, WithoutScripting};
 
 impl Options {
-    /// The same, as a serializer takes it.
+    /// The options as the serializer takes them.
     pub fn opts(self, alloc: Global) -> Result<SerializeOpts, AllocError> {
         let scope = match self {
             Inside(ns, local) => TraversalScope::ChildrenOnly(Some(name_of(alloc, ns, local)?)),
@@ -52,8 +52,7 @@ impl Options {
     }
 }
 
-/// How a serializer begins, the calls that it takes, the places of those that are refused since no parent is left, and what all of
-/// them write.
+/// The options, the calls, the indices of those that fail because they have no parent, and the text of all of them.
 pub type Walk = (
     Options,
     &'static [Step<'static>],
@@ -64,11 +63,11 @@ pub type Walk = (
 #[rattlefmt::skip]
 pub const WALKS: [Walk; 19] = [
     (Default, &[Open("div"), Text("a\u{a0}&<>\"\u{a2}")], &[], "<div>a&nbsp;&amp;&lt;&gt;\"\u{a2}"),
-    // Void elements have no end tag, and nothing is written of elements in them.
+    // Void elements have no end tag, and elements in them are omitted.
     (Default, &[Open("img"), Open("b"), Text("x"), Comment("c"), Close("b"), Close("img")], &[], "<img>x<!--c-->"),
     (Default, &[Open("br"), Text("x"), Open("b"), Close("b"), Close("br"), Open("p")], &[], "<br>x<p>"),
     (Default, &[OpenDrawn("br", &[]), CloseDrawn("br")], &[], "<br></br>"),
-    // Raw texts, right inside of their elements.
+    // Raw texts, directly inside their elements.
     (Default, &[Open("noscript"), Text("<"), Close("noscript")], &[], "<noscript><</noscript>"),
     (WithoutScripting, &[Open("noscript"), Text("<"), Close("noscript")], &[], "<noscript>&lt;</noscript>"),
     (Default, &[Open("style"), Open("b"), Text("<"), Close("b"), Text("<")], &[], "<style><b>&lt;</b><"),
@@ -77,11 +76,11 @@ pub const WALKS: [Walk; 19] = [
     (Default, &[Doctype("html"), Comment("a<b"), Instruction("xml", "a=\"b\"")], &[], "<!DOCTYPE html><!--a<b--><?xml a=\"b\">"),
     (Default, &[Doctype("html"), Open("p"), Text("a<b"), Close("p")], &[], "<!DOCTYPE html><p>a&lt;b</p>"),
     (Default, &[Open("i"), Comment("c"), Instruction("i", "j"), Close("i")], &[], "<i><!--c--><?i j></i>"),
-    // What is written lies inside of an element: its name says whether texts are raw, but it is never void.
+    // The output is inside an element: its name decides if texts are raw, but it is never void.
     (Inside(namespaces::SVG, "style"), &[Text("<")], &[], "<"),
     (Inside(namespaces::HTML, "p"), &[Text("<")], &[], "&lt;"),
     (Inside(namespaces::HTML, "br"), &[Open("b"), Close("b")], &[], "<b></b>"),
-    // No parent is left.
+    // A call without a parent.
     (Default, &[Close("p"), Close("p"), Text("a"), Open("b"), Comment("c")], &[1, 2, 3], "</p><!--c-->"),
     (MakingParents, &[Close("p"), Text("a<"), Close("q"), Close("r")], &[], "</p>a&lt;</q></r>"),
     (MakingParents, &[Close("p"), Close("p")], &[], "</p></p>"),
@@ -126,7 +125,7 @@ pub fn make<S: Serializer>(
     }
 }
 
-/// A serializer into a writer whose write after the given number of others fails.
+/// A serializer to a writer whose write after the given number of others fails.
 pub fn breaking(
     alloc: Global,
     opts: SerializeOpts,
@@ -135,12 +134,12 @@ pub fn breaking(
     HtmlSerializer::new(alloc, Broken::new(Vec::new(alloc), before), opts)
 }
 
-// A serializer into a writer that doesn't fail.
+// A serializer to a writer that doesn't fail.
 fn whole(alloc: Global) -> Result<HtmlSerializer<Broken>, SerializeFault> {
     breaking(alloc, SerializeOpts::default(), usize::MAX)
 }
 
-// Makes calls with names that are lent, and with attributes as pairs.
+// Makes calls with borrowed names, and with attributes as pairs.
 fn make_lent<S: Serializer>(
     serializer: &mut S,
     alloc: Global,
@@ -182,7 +181,7 @@ fn options_have_defaults(rt: HostRuntime) {
     assert!(rt; default.traversal_scope == TraversalScope::ChildrenOnly(None));
 }
 
-// Where a character is written a million times.
+// The place where a character is written a million times.
 #[derive(Clone, Copy)]
 enum Place {
     InText,
@@ -191,7 +190,7 @@ enum Place {
 
 use Place::{InText, InValue};
 
-// How many bytes are written of a text in this place.
+// The number of bytes written for a text in this place.
 fn length_of(
     serializer: &mut HtmlSerializer<Broken>,
     alloc: Global,
@@ -243,7 +242,7 @@ fn long_texts_take_no_quadratic_time(rt: HostRuntime) -> Result<(), Fail> {
     write_all_long(&rt, rt.alloc(), InText, &rows)
 }
 
-// Two tests have the values, so that each ends in time where nothing is optimized.
+// The values are split between two tests, so that each ends in time without optimization.
 #[test]
 fn long_values_take_no_quadratic_time(rt: HostRuntime) -> Result<(), Fail> {
     let rows = [("\"", 6_000_008), ("\u{a0}", 6_000_008)];
@@ -268,7 +267,7 @@ fn make_often(
     Ok(())
 }
 
-// Elements in each other, a hundred thousand deep.
+// Nested elements, a hundred thousand deep.
 fn write_deep(rt: &impl Abort, alloc: Global) -> Result<(), Fail> {
     let mut serializer = whole(alloc)?;
     let opened = make_often(&mut serializer, alloc, Open("div"));

@@ -1,4 +1,4 @@
-//! Texts, and what the standard tokenizer hands on of them.
+//! Texts, and the tokens that the standard tokenizer emits for them.
 use super::recording::Setting::{Foreign, Html, Raw};
 use super::recording::{Row, Standard, check_all};
 use h5_token::states::RawKind;

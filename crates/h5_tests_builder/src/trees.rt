@@ -1,4 +1,4 @@
-//! Trees of an arena as they are written.
+//! Trees of an arena as HTML.
 use super::arena::{new_element, new_template, small_tree, text_child};
 use h5_arena::{Arena, NodeId};
 use h5_interface::{NodeOrText, TreeSink};
@@ -29,11 +29,11 @@ pub fn build_document(arena: &mut Arena, alloc: Global, rt: &impl Abort) -> Resu
     Ok(Parts { template, element })
 }
 
-/// What is written of it.
+/// Its HTML.
 pub const DOCUMENT: &str =
     "<!DOCTYPE html><template>inside</template>&amp;<p id=\"&quot;x&quot;\">1 &lt; 2<!--a note--></p>";
 
-// What is written of a node.
+// The part of a node that is written.
 #[derive(Clone, Copy)]
 enum Part {
     Whole,
@@ -98,7 +98,7 @@ fn build_nest(arena: &mut Arena, alloc: Global) -> Result<NodeId, Fail> {
     Ok(outer)
 }
 
-// How many bytes are written of that.
+// The length of its HTML in bytes.
 fn length_of_nest(arena: &mut Arena, alloc: Global, rt: &impl Abort) -> Result<usize, Fail> {
     let outer = build_nest(arena, alloc)?;
     assert!(rt; arena.holds(outer));
@@ -106,7 +106,7 @@ fn length_of_nest(arena: &mut Arena, alloc: Global, rt: &impl Abort) -> Result<u
     Ok(html.len())
 }
 
-/// Writes elements in each other, a hundred thousand deep.
+/// Writes nested elements, a hundred thousand deep.
 pub fn write_deep_tree(alloc: Global, rt: &impl Abort) -> Result<(), Fail> {
     let mut arena = Arena::new(alloc)?;
     let length = length_of_nest(&mut arena, alloc, rt);

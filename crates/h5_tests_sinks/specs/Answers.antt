@@ -1,4 +1,4 @@
--- What takers of tokens answer.
+-- The replies of token sinks.
 use Rattle.std.specs.Prelude.{Bool, true, false, if◌then◌else◌}
 use Rattle.h5_token.specs.TokenText.{TokenText, DoctypeIs, TagIs, CommentIs, Characters, NullCharacter, EndOfFile, ParseErrorIs}
 use Rattle.h5_token.specs.Reply.{Reply, Continues, RunsScript, TurnsRaw}
@@ -25,11 +25,11 @@ reply_of answer.ReadsOn = Continues
 reply_of answer.Stops = RunsScript 7
 reply_of (answer.TurnsRaw kind) = TurnsRaw kind
 
--- to a start tag it answers as it was told, to all else that reading goes on
+-- the given reply to a start tag, and "continue" to all other tokens
 abbrev pub reply_to : Answer → TokenText → Reply
 reply_to told token = if is_start token then reply_of told else Continues
 
--- what it answers, and whether it says that what is read is foreign
+-- the reply to start tags, and whether the adjusted current node is foreign
 pub record Wishes : Type 0 where
   pub foreign : Bool
   pub answer : Answer

@@ -1,4 +1,4 @@
--- What a sink chooses that says of every shadow root that it attached it.
+-- The choices of a sink that reports every shadow root as attached.
 use Rattle.std.specs.Prelude.{◌≡◌, ◌≢◌, ℕ, Bool, true, false, Option, None, Some, refl}
 use Rattle.std.specs.Option.{option_and_then}
 use Rattle.h5_interface.specs.Changes.{detach_from}
@@ -7,11 +7,11 @@ use Rattle.h5_interface.specs.SinkChoices.{Rearranges, SinkChoices}
 use Rattle.h5_interface.proofs.HangingLaws.{detach_rearranges}
 use Rattle.h5_arena.specs.ArenaModel.{arena_choices, child_parent, child_parent_of_kind, same_forest}
 
--- a node is taken from the node whose child it is; nothing changes where it is nobody's child
+-- a node is removed from its parent; nothing changes if it isn't a child
 abbrev pub detach_child : ℕ → Forest → Forest
 detach_child c f = detach_from (option_and_then child_parent (f.node c)) c f
 
--- that rearranges a forest
+-- removing a child rearranges a forest
 pub detach_child_rearranges : (f : Forest) (c : ℕ) → IsForest f → IsNode f c → Rearranges f (detach_child c f)
 detach_child_rearranges f c k there = at (f.node c) refl
   where
@@ -32,7 +32,7 @@ detach_child_rearranges f c k there = at (f.node c) refl
     at None e = absurd (there e)
     at (Some d) e = rw e (by_kind d.kind d e refl)
 
--- a template that is a child of a node is taken from it, or nothing changes
+-- a template that is a child is removed from its parent, or nothing changes
 abbrev pub attached_in : (detaches : Bool) → ℕ → Forest → Forest
 attached_in true template f = detach_child template f
 attached_in false template f = f
@@ -41,7 +41,7 @@ pub attached_rearranges : (detaches : Bool) (f : Forest) (template : ℕ) → Is
 attached_rearranges true f template k there = detach_child_rearranges f template k there
 attached_rearranges false f template k there = same_forest f k
 
--- the choices of an arena, but that every shadow root is said to be attached
+-- the choices of an arena, except that every shadow root is reported as attached
 abbrev pub attaching_choices : (detaches : Bool) → SinkChoices
 attaching_choices detaches = record arena_choices {
   attaches = λ f host template attrs. true;

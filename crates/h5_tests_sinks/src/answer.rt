@@ -1,4 +1,4 @@
-//! What a taker answers.
+//! Replies of token sinks.
 ghost use Rattle.std.specs.Prelude.{◌≡◌};
 ghost use Rattle.h5_token.specs.Reply.{reply};
 ghost use Rattle.h5_token.specs.TokenText.{token_text};
@@ -7,7 +7,7 @@ ghost use Rattle.h5_tests_sinks.specs.Answers.{is_start, reply_of, reply_to};
 use h5_token::states::RawKind;
 use h5_token::{TagKind, Token, TokenSinkResult};
 
-/// What is answered to a start tag. To all else it is `Continue`.
+/// The reply to start tags. The reply to all other tokens is `Continue`.
 #[derive(Clone, Copy, Debug, PartialEq, Eq)]
 pub enum Answer {
     /// `Continue`.
@@ -40,7 +40,7 @@ fn result_of(answer: Answer) -> TokenSinkResult<u8>
     }
 }
 
-/// The answer to a token.
+/// The reply to a token.
 pub fn reply_to(answer: Answer, token: &Token) -> TokenSinkResult<u8>
     ensures { reply (λ handle. handle) result ≡ reply_to answer (token_text token.now) }
 {

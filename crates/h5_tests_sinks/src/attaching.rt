@@ -1,4 +1,4 @@
-//! Lawful sinks that say of every shadow root that they attached it.
+//! Lawful sinks that report every shadow root as attached.
 ghost use Rattle.std.specs.Prelude.{◌≡◌, OnOk, OnErr};
 ghost use Rattle.h5_interface.specs.Seen.{CanAppend, CanAppendBasedOnParent, CanInsertBefore, after_append, after_append_before, after_append_by, child_of};
 ghost use Rattle.h5_arena.specs.ArenaModel.{place, seen_of};
@@ -9,22 +9,22 @@ use h5_interface::{ElementFlags, NodeOrText, QuirksMode, TreeSink};
 use h5_names::{Attribute, QualName};
 use std::alloc::{AllocError, Global};
 
-/// An arena that says of every shadow root that it attached it. It takes the template out of its parent then, or changes
-/// nothing. It also counts the options that it was told to copy.
+/// An arena that reports every shadow root as attached. When it does, it removes the template from its parent, or changes nothing. It also
+/// counts the options that it is asked to copy.
 #[derive(Drop)]
 pub struct Attaching<const DETACHES: bool> {
     arena: Arena,
     pub copies: usize,
 }
 
-/// The one that changes nothing.
+/// The sink that changes nothing.
 pub type Agreeing = Attaching<false>;
 
-/// The one that takes the template out of its parent.
+/// The sink that removes the template from its parent.
 pub type Detaching = Attaching<true>;
 
 impl<const DETACHES: bool> Attaching<DETACHES> {
-    /// Over an empty arena. An `AllocError` where memory is refused.
+    /// Returns a sink over an empty arena. Fails with `AllocError` if an allocation fails.
     pub fn new(alloc: Global) -> Result<Attaching<DETACHES>, AllocError> {
         Ok(Attaching {
             arena: Arena::new(alloc)?,
@@ -195,7 +195,7 @@ impl<const DETACHES: bool> TreeSink for Attaching<DETACHES> {
     ) -> Result<bool, AllocError> {
         let _ = host;
         let _ = attrs;
-        // The contents of a template are nobody's child.
+        // The contents of a template aren't a child.
         if DETACHES && self.arena.parent(*template).is_some() {
             self.arena.remove_from_parent(template)?;
         }

@@ -3,7 +3,7 @@ ghost use Rattle.std.specs.Prelude.{◌≡◌, Some};
 
 use std::io::{self, Write};
 
-/// A writer over memory, one call of which fails: the call after so many others. Later calls are taken again.
+/// A writer to memory, one call of which fails: the call after the given number of others. Later calls succeed again.
 #[derive(Drop)]
 pub struct Broken {
     bytes: Vec<u8>,
@@ -12,7 +12,7 @@ pub struct Broken {
 }
 
 impl Broken {
-    /// A writer into these bytes, whose call of `write` behind so many others fails.
+    /// A writer that appends to these bytes. Its call of `write` after `before` others fails.
     pub fn new(bytes: Vec<u8>, before: usize) -> Broken
         ensures { result.bytes ≡ bytes }
     {
@@ -23,14 +23,14 @@ impl Broken {
         }
     }
 
-    /// What was written.
+    /// The written bytes.
     pub fn bytes(&self) -> &[u8]
         ensures { result.now ≡ self.now.bytes.items }
     {
         self.bytes.as_slice()
     }
 
-    /// Whether a call has failed.
+    /// Returns true if a call has failed.
     pub fn has_failed(&self) -> bool
         ensures { result ≡ self.now.failed }
     {

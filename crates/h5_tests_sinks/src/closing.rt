@@ -1,14 +1,14 @@
-//! A taker of tokens that refuses them after the end, and one over any other that counts what it hands on.
+//! A token sink that rejects tokens after the end, and one that counts tokens and passes them to another sink.
 use h5_token::{BuildFault, Token, TokenSink, TokenSinkResult};
 
-/// Takes tokens up to the end, and refuses them after it.
+/// Accepts tokens up to the end, and rejects them after it.
 #[derive(Drop)]
 pub struct Closing {
     ended: bool,
 }
 
 impl Closing {
-    /// One that has not ended.
+    /// A sink that has not ended.
     pub fn new() -> Closing {
         Closing { ended: false }
     }
@@ -56,7 +56,7 @@ impl TokenSink for Closing {
     }
 }
 
-/// Hands tokens on, and counts them.
+/// Counts tokens, and passes them to another sink.
 #[derive(Drop)]
 pub struct Counting<S: TokenSink> {
     inner: S,
@@ -64,12 +64,12 @@ pub struct Counting<S: TokenSink> {
 }
 
 impl<S: TokenSink> Counting<S> {
-    /// Over this taker.
+    /// Counts the tokens of this sink.
     pub fn new(inner: S) -> Counting<S> {
         Counting { inner, taken: 0 }
     }
 
-    /// How many tokens it handed on.
+    /// The number of tokens so far.
     pub fn taken(&self) -> u64 {
         self.taken
     }

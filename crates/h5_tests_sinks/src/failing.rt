@@ -7,7 +7,7 @@ fn is_failed(answer: Result<(), SerializeFault>) -> bool {
     matches!(answer, Err(SerializeFault::Failed))
 }
 
-// Whether the calls of a start tag and of an end tag are answered `Failed`.
+// Returns true if the calls of a start tag and of an end tag fail with `Failed`.
 fn fail_at_tags<S: Serializer>(alloc: Global, serializer: &mut S) -> Result<bool, AllocError> {
     let name = QualName::new(None, Namespace::html(), LocalName::new(alloc, "p")?);
     let attrs: Vec<Attribute> = Vec::new(alloc);
@@ -16,7 +16,7 @@ fn fail_at_tags<S: Serializer>(alloc: Global, serializer: &mut S) -> Result<bool
     Ok(is_failed(start) && is_failed(end))
 }
 
-// Whether the other four calls are answered `Failed`.
+// Returns true if the other four calls fail with `Failed`.
 fn fail_at_texts<S: Serializer>(serializer: &mut S) -> bool {
     let text = serializer.write_text("t");
     let comment = serializer.write_comment("c");
@@ -25,7 +25,7 @@ fn fail_at_texts<S: Serializer>(serializer: &mut S) -> bool {
     is_failed(text) && is_failed(comment) && is_failed(doctype) && is_failed(instruction)
 }
 
-/// Whether each of the six calls of a serializer is answered `Failed`. They are made with names that take no memory.
+/// Returns true if each of the six calls of a serializer fails with `Failed`. Their names need no memory.
 pub fn all_calls_fail<S: Serializer>(
     alloc: Global,
     serializer: &mut S,

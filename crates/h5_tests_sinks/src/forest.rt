@@ -1,7 +1,7 @@
-//! Whether the nodes of an arena are a forest, as its reading calls tell.
+//! Tests by the reading calls of an arena that its nodes are a forest.
 use h5_arena::{Arena, Child, NodeId};
 
-// How often a node stands among children.
+// The number of times that a node occurs among children.
 fn count_of(children: &[Child], id: NodeId) -> usize {
     children
         .iter()
@@ -9,7 +9,7 @@ fn count_of(children: &[Child], id: NodeId) -> usize {
         .count()
 }
 
-// Whether no text is empty, and none stands right behind another.
+// Returns true if no text is empty, and no text directly follows another.
 fn are_parted(children: &[Child]) -> bool {
     let mut behind_text = false;
     for child in children {
@@ -25,7 +25,7 @@ fn are_parted(children: &[Child]) -> bool {
     true
 }
 
-// Whether the way up from a node ends.
+// Returns true if the way up from a node ends.
 fn has_top(arena: &Arena, id: NodeId) -> bool {
     let mut node = id;
     for _ in 0..=arena.len() {
@@ -40,7 +40,7 @@ fn has_top(arena: &Arena, id: NodeId) -> bool {
     false
 }
 
-// Whether a node among these children has them as its siblings, and once.
+// Returns true if this is the parent of a node, which occurs once among its children.
 fn hangs_once(arena: &Arena, parent: NodeId, id: NodeId) -> bool {
     if !arena.holds(id) || !arena.holds(parent) {
         return false;
@@ -48,7 +48,7 @@ fn hangs_once(arena: &Arena, parent: NodeId, id: NodeId) -> bool {
     arena.parent(id) == Some(parent) && count_of(arena.children(parent), id) == 1
 }
 
-// Whether a node and its children are as in a forest.
+// Returns true if a node and its children are as in a forest.
 fn is_in_forest(arena: &Arena, id: NodeId) -> bool {
     if !arena.holds(id) {
         return false;
@@ -67,7 +67,8 @@ fn is_in_forest(arena: &Arena, id: NodeId) -> bool {
     true
 }
 
-/// Whether each node hangs once at the most, none is its own ancestor, no text is empty, and no two texts are neighbours.
+/// Returns true if each child has its parent and occurs once among its children, no node is its own ancestor, no text is empty, and no two
+/// texts are neighbours.
 pub fn is_forest(arena: &Arena) -> bool {
     for index in 0..arena.len() {
         match arena.id(index) {

@@ -1,9 +1,9 @@
-//! Test doubles, for tests and programs: sinks of trees, takers of tokens, and a writer that fails. And what tests ask
-//! of an arena, of a sink, or of a serializer that was refused something.
+//! Test doubles for tests and programs: tree sinks, token sinks and a writer that fails; and checks of an arena and of a serializer that
+//! has failed.
 //!
-//! `attaching` has sinks that attach shadow roots, `starved` one that is refused memory once. `recorder` and `closing`
-//! take tokens, `answer` has what is answered, and `broken` is the writer; `forest`, `html` and `failing`
-//! have what is asked. The crates of tests stand on it. Begin with `specs/Answers.antt` and `src/recorder.rt`.
+//! `attaching` has sinks that attach shadow roots, and `starved` a sink with one failing allocation; both are lawful. `recorder` and
+//! `closing` are token sinks, with the replies in `answer`; `broken` is the writer. `forest`, `html` and `failing` have the checks. The
+//! crates of tests use these. Begin with `specs/Answers.antt` and `src/recorder.rt`.
 #![tactic(auto)]
 
 mod answer;

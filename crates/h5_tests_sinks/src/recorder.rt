@@ -1,4 +1,4 @@
-//! A taker of tokens that writes them down.
+//! A token sink that writes its tokens down.
 ghost use Rattle.std.specs.Prelude.{◌≡◌};
 
 use super::answer::{Answer, reply_to};
@@ -6,12 +6,11 @@ use h5_token::{BuildFault, Doctype, Tag, TagKind, Token, TokenSink, TokenSinkRes
 use std::alloc::{AllocError, Global};
 use std::fmt::Write;
 
-/// Writes down what it is handed: texts as they are, so that neighbouring ones are one, and of each other token
-/// its line, too.
+/// Writes its tokens down: texts as they are, so that neighbouring ones are joined, and the lines of all other tokens.
 #[derive(Drop)]
 pub struct Recorder {
     pub text: String,
-    /// The lines of the tokens that are no texts.
+    /// The lines of the tokens that aren't texts.
     pub lines: String,
     pub foreign: bool,
     pub answer: Answer,
@@ -68,7 +67,7 @@ fn put_token(out: &mut String, token: &Token) -> Result<(), AllocError> {
 }
 
 impl Recorder {
-    /// One that has written nothing. It takes no memory.
+    /// A recorder that has written nothing. Doesn't allocate.
     pub fn new(alloc: Global, foreign: bool, answer: Answer) -> Recorder
         ensures foreign { result.foreign ≡ foreign }
         ensures answer { result.answer ≡ answer }

@@ -1,4 +1,4 @@
-//! A lawful sink that is refused memory once.
+//! A lawful sink with one failing allocation.
 ghost use Rattle.std.specs.Prelude.{◌≡◌, IfOk, OnOk, OnErr};
 ghost use Rattle.h5_interface.specs.Seen.{CanAppend, CanAppendBasedOnParent, CanInsertBefore, after_append, after_append_before, after_append_by, child_of};
 
@@ -6,8 +6,8 @@ use h5_interface::{ElementFlags, NodeOrText, QuirksMode, TreeSink};
 use h5_names::{Attribute, QualName};
 use std::alloc::AllocError;
 
-/// A sink over another, one call of which is refused memory: of those that answer a `Result` the one after so many others.
-/// That call leaves the forest. All other calls are those of the sink below, later ones too.
+/// A sink over another, one call of which fails with `AllocError`: the call that returns a `Result` after the given number of others. This
+/// call changes nothing. All other calls, also later ones, are those of the sink below.
 ///
 /// It also counts the calls of `pop`.
 #[derive(Drop)]
@@ -19,7 +19,7 @@ pub struct Starved<S: TreeSink + Drop> {
 }
 
 impl<S: TreeSink + Drop> Starved<S> {
-    /// Over this sink. The call after so many others that answer a `Result` is refused.
+    /// A sink over this one. Its call after `before` others that return a `Result` fails.
     pub fn new(sink: S, before: usize) -> Starved<S>
         ensures { result.sink ≡ sink }
     {
@@ -38,21 +38,21 @@ impl<S: TreeSink + Drop> Starved<S> {
         &self.sink
     }
 
-    /// Whether a call was refused.
+    /// Returns true if a call has failed.
     pub fn was_refused(&self) -> bool
         ensures { result ≡ self.now.refused }
     {
         self.refused
     }
 
-    /// How many calls of `pop` there were.
+    /// The number of calls of `pop`.
     pub fn pops(&self) -> usize
         ensures { result ≡ self.now.pops }
     {
         self.pops
     }
 
-    // Whether a call that comes now is the one that is refused.
+    // Returns true if the current call is the one that fails.
     fn refuses(&mut self) -> bool
         ensures { self.new.sink ≡ self.old.sink }
     {

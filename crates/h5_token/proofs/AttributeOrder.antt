@@ -1,4 +1,4 @@
--- The order of attributes is one in which only what is equal ties.
+-- In the order of attributes, only equal ones tie.
 use Rattle.std.proofs.Common.{◌≡◌, ℕ, List, Option, Some, None, refl, ap, ◌∙◌}
 use Rattle.std.specs.Cmp.{IsTotalOrder}
 use Rattle.std.specs.Cmp.Lexicographic.{options_total, texts_ties}

@@ -25,7 +25,7 @@ one_less a x xs ys = step (is_same_attribute x a) (occurrences a xs) (occurrence
     step true m n e = omega (arith, e)
     step false m n e = e
 
--- an order doesn't matter
+-- a permutation changes no number of occurrences
 abbrev once : AttributeText → AttributeText → ℕ
 once a x = cond (is_same_attribute x a) 1 0
 
@@ -39,7 +39,7 @@ occurrences_sum a = is_sum_by (λ xs. occurrences a xs) (once a) refl (λ x xs. 
 pub occurrences-permuted : (a : AttributeText) (xs ys : List AttributeText) → IsPermutation xs ys → occurrences a ys ≡ occurrences a xs
 occurrences-permuted a xs ys p = occurrences_sum a ys ∙ sum_by-IsPermutation (once a) xs ys p ∙ sym (occurrences_sum a xs)
 
--- what occurs stands at some place
+-- an attribute that occurs has an index
 record StandsIn (a : AttributeText) (xs : List AttributeText) : Type 0 where
   place : ℕ
   below : place < length xs
@@ -61,7 +61,7 @@ found a (x ∷ xs) there = found_from a x xs (found a xs) there
 first_found : (x : AttributeText) (xs ys : List AttributeText) → occurrences x (x ∷ xs) ≡ occurrences x ys → occurrences x ys ≢ 0
 first_found x xs ys e none = let h = occurrences_here x xs in absurd (omega (arith, e, none, h))
 
--- the same attributes are the same list in another order
+-- lists with the same attributes are permutations of each other
 pub permuted : (xs ys : List AttributeText) → HaveSameAttributes xs ys → IsPermutation xs ys
 permuted [] [] h = IsPermutation-refl []
 permuted [] (y ∷ ys) h = absurd (first_found y ys [] (sym (h y)) refl)
@@ -78,7 +78,7 @@ same_length xs ys h = length_permutation xs ys (permuted xs ys h)
 pub same_sum : (f : AttributeText → ℕ) (xs ys : List AttributeText) → HaveSameAttributes xs ys → sum_by f xs ≡ sum_by f ys
 same_sum f xs ys h = sym (sum_by-IsPermutation f xs ys (permuted xs ys h))
 
--- nothing that occurs in a sorted list is lower than its first
+-- no attribute that occurs in a sorted list is lower than the first
 lowest : (x y : AttributeText) (ys : List AttributeText) → IsSorted attribute_order (y ∷ ys) → occurrences x (y ∷ ys) ≢ 0 → is_lt (attribute_order x y) ≡ false
 lowest x y ys up there =
     let at = found x (y ∷ ys) there in
@@ -114,7 +114,7 @@ same_in_order xs ys us vs p q up down = (
   λ h. sorted_same us vs up down (λ a. occurrences-permuted a xs us p ∙ h a ∙ sym (occurrences-permuted a ys vs q)),
 )
 
--- a list in the order of what is seen of its elements
+-- a list in the order of the views of its elements
 pub sorted_seen : {A : Type 0} (seen : A → AttributeText) (xs : List A) → IsSorted (λ x y. attribute_order (seen x) (seen y)) xs → IsSorted attribute_order (map seen xs)
 sorted_seen seen [] up k d low high = absurd (omega arith)
 sorted_seen seen (x ∷ xs) up k d low high =

@@ -1,4 +1,4 @@
--- A text that may be missing, without where it lies in memory.
+-- A text that may be missing, independent of where it is in memory.
 use Rattle.std.specs.Prelude.{ℕ, List, Option, String, string_bytes}
 use Rattle.std.specs.Option.{option_map}
 use Rattle.std.specs.declared.alloc.Global.{Global}

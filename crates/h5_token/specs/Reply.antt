@@ -1,4 +1,4 @@
--- Answers to tokens, without where their texts lie in memory.
+-- Replies to tokens, independent of where their texts are in memory.
 use Rattle.std.specs.Prelude.{◌≡◌, ℕ, List, Result, Ok, Err, string_bytes}
 use Rattle.h5_token.specs.declared.fault.BuildFault.{BuildFault}
 use Rattle.h5_token.specs.declared.fault.BuildFault.TheVariants.{Memory, AfterEnd, NotInText, Failed}
@@ -14,7 +14,7 @@ pub data Reply : Type 0 where
   Indicates : (encoding : List ℕ) → Reply
   Refuses : (fault : BuildFault) → Reply
 
--- what is answered, with each handle as the node that it names
+-- a reply, with each handle as the node that it names
 abbrev pub reply : {H : Type 0} → (H → ℕ) → TokenSinkResult H → Reply
 reply node Continue = Continues
 reply node (Script handle) = RunsScript (node handle)
@@ -22,7 +22,7 @@ reply node Plaintext = TurnsPlain
 reply node (RawData kind) = TurnsRaw kind
 reply node (EncodingIndicator encoding) = Indicates (string_bytes encoding)
 
--- this is answered, unless memory was refused
+-- this is the reply, unless an allocation failed
 abbrev pub Answers : {H : Type 0} → (H → ℕ) → Result (TokenSinkResult H) BuildFault → Reply → Type 0
 Answers node (Ok answer) r = r ≡ reply node answer
 Answers node (Err Memory) r = Unit {0}

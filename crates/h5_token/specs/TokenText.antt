@@ -1,4 +1,4 @@
--- Tokens, without where their texts lie in memory.
+-- Tokens, independent of where their texts are in memory.
 use Rattle.std.specs.Prelude.{◌≡◌, ℕ, Bool, List, Option, string_bytes}
 use Rattle.std.specs.List.{find}
 use Rattle.std.specs.Option.{option_map}

@@ -1,4 +1,4 @@
-//! Whether two lists have the same attributes, in whatever order.
+//! Compares two lists of attributes up to their order.
 ghost use Rattle.std.specs.Prelude.{◌≡◌, ◌==◌, ◌↔◌, IfOk, IsTrue, min};
 ghost use Rattle.std.specs.List.{list_all, sum_by};
 ghost use Rattle.std.specs.List.Sorted.{IsPermutation, IsSorted};
@@ -10,17 +10,17 @@ ghost use Rattle.h5_token.specs.Occurrences.{occurrences, HaveSameAttributes};
 use h5_names::Attribute;
 use std::alloc::{AllocError, Global};
 
-// Shorter lists are compared by counting, which takes no memory; others by sorting.
+// Shorter lists are compared by counting, which takes no memory; longer ones by sorting.
 const FEW: usize = 9;
 
-// How often an attribute stands in a list.
+// The number of times that an attribute occurs in a list.
 fn occurrences_of(attribute: &Attribute, attrs: &[Attribute]) -> usize
     ensures { result ≡ occurrences (attribute_text attribute.now) (attribute_texts attrs.now) }
 {
     attrs.iter().filter(|other| **other == *attribute).count()
 }
 
-// Whether each of these attributes stands as often in the one list as in the other.
+// Returns true if each of `these` attributes occurs in both lists equally often.
 fn each_is_as_often(these: &[Attribute], left: &[Attribute], right: &[Attribute]) -> bool
     ensures { result ≡ list_all (λ x. occurrences (attribute_text x) (attribute_texts left.now)
         == occurrences (attribute_text x) (attribute_texts right.now)) these.now }
@@ -29,14 +29,14 @@ fn each_is_as_often(these: &[Attribute], left: &[Attribute], right: &[Attribute]
         == occurrences_of(attribute, right))
 }
 
-// By counting, in a walk over both lists for each attribute.
+// Compares by counting: reads both lists once per attribute.
 fn have_same_counts(left: &[Attribute], right: &[Attribute]) -> bool
     ensures { IsTrue result ↔ HaveSameAttributes (attribute_texts left.now) (attribute_texts right.now) }
 {
     each_is_as_often(left, left, right) && each_is_as_often(right, left, right)
 }
 
-// How many bytes the local name and the value of an attribute have.
+// The length of the local name and the value, in bytes.
 fn text_len(attribute: &Attribute) -> usize
     ensures { result ≡ min (attribute_len (attribute_text attribute.now)) usize.MAX }
 {
@@ -44,7 +44,7 @@ fn text_len(attribute: &Attribute) -> usize
     name.len().saturating_add(attribute.value.len())
 }
 
-// How many bytes they have together, of all attributes of a list.
+// The length of all local names and values of a list, in bytes.
 fn texts_len(attrs: &[Attribute]) -> usize
     ensures { result ≡ min (sum_by attribute_len (attribute_texts attrs.now)) usize.MAX }
 {
@@ -55,14 +55,14 @@ fn texts_len(attrs: &[Attribute]) -> usize
     len
 }
 
-// The attributes of a list.
+// The attributes of a list, borrowed.
 fn lent(alloc: Global, attrs: &[Attribute]) -> Result<Vec<&Attribute>, AllocError>
     ensures { IfOk result (λ all. lent_texts all.items ≡ attribute_texts attrs.now) }
 {
     attrs.iter().collect(alloc)
 }
 
-// The attributes of a list in their order: by name, then by value.
+// The attributes of a list, sorted by name, then by value.
 pub(super) fn in_order(alloc: Global, attrs: &[Attribute]) -> Result<Vec<&Attribute>, AllocError>
     ensures all { IfOk result (λ sorted. IsPermutation (attribute_texts attrs.now) (lent_texts sorted.items)) }
     ensures sorted { IfOk result (λ sorted. IsSorted attribute_order (lent_texts sorted.items)) }
@@ -72,7 +72,7 @@ pub(super) fn in_order(alloc: Global, attrs: &[Attribute]) -> Result<Vec<&Attrib
     Ok(sorted)
 }
 
-// By sorting both lists.
+// Compares by sorting both lists.
 fn are_equal_in_order(
     alloc: Global,
     left: &[Attribute],
@@ -86,7 +86,7 @@ fn are_equal_in_order(
     Ok(left == right)
 }
 
-// Whether two lists have the same attributes in some order. Where memory is refused, all lists are compared by counting.
+// Returns true if two lists have the same attributes, in any order. If an allocation fails, compares by counting.
 pub(super) fn have_same_attributes(alloc: Global, left: &[Attribute], right: &[Attribute]) -> bool
     ensures { IsTrue result ↔ HaveSameAttributes (attribute_texts left.now) (attribute_texts right.now) }
 {
@@ -96,7 +96,7 @@ pub(super) fn have_same_attributes(alloc: Global, left: &[Attribute], right: &[A
     if left.len() != right.len() {
         return false;
     }
-    // So no long text is looked at for a short one.
+    // Avoids comparing long texts with short ones.
     if texts_len(left) != texts_len(right) {
         return false;
     }

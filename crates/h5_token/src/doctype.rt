@@ -15,7 +15,7 @@ pub struct Doctype {
 impl Doctype {
     ghost use Rattle.h5_token.specs.TokenText.{doctype_text};
 
-    /// An equal doctype, or an `AllocError` where memory is refused.
+    /// Returns an equal doctype. Fails with `AllocError` if an allocation fails.
     pub fn clone(&self) -> Result<Doctype, AllocError>
         ensures { IfOk result (λ doctype. doctype_text doctype ≡ doctype_text self.now) }
     {

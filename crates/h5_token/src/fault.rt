@@ -1,12 +1,12 @@
-//! Why a token wasn't taken.
+//! The errors of tree builders, tokenizers and parsers.
 ghost use Rattle.std.specs.Prelude.{◌≡◌};
 
 use std::alloc::{AllocError, AllocFailed};
 use thiserror::Error;
 
-/// Why a tree builder, a reader or a parser refused a call.
+/// The error of a call of a tree builder, a tokenizer or a parser.
 ///
-/// `Failed` is looked at before `AfterEnd`, and that before `NotInText`; `Memory` comes after these.
+/// If several apply, `Failed` comes before `AfterEnd`, that before `NotInText`, and `Memory` last.
 #[derive(Clone, Copy, Debug, PartialEq, Eq, Error)]
 pub enum BuildFault {
     /// A token came after the end. Nothing has changed.
@@ -15,10 +15,10 @@ pub enum BuildFault {
     /// A start tag, a comment or a NUL came where only text can. Nothing has changed.
     #[error("a token inside text")]
     NotInText,
-    /// Memory was refused. What was built so far is sound, and every later call fails.
+    /// An allocation failed. The tree that was built so far is sound, and every later call fails.
     #[error("out of memory")]
     Memory,
-    /// An earlier call met a fault. Nothing has changed.
+    /// An earlier call failed. Nothing has changed.
     #[error("after a fault")]
     Failed,
 }

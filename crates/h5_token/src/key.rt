@@ -1,4 +1,4 @@
-//! Keys of tags: tags that are alike have the same.
+//! Keys of tags: tags that are alike have equal keys.
 ghost use Rattle.std.specs.Prelude.{◌≡◌, ◌++◌, IfOk, OnOk};
 ghost use Rattle.std.specs.String.{string_bytes};
 ghost use Rattle.h5_names.specs.AttributeText.{attribute_text};
@@ -10,10 +10,10 @@ use super::tag::Tag;
 use h5_names::Attribute;
 use std::alloc::AllocError;
 
-// It stands in no name or value that comes from a document, so there different attributes have different keys.
+// No name or value in a document has a NUL, so different attributes of documents have different keys.
 const SEPARATOR: &str = "\0";
 
-// Writes the part of an attribute.
+// Appends the part of an attribute to a key.
 fn write_attribute(key: &mut String, attribute: &Attribute) -> Result<(), AllocError>
     ensures { OnOk result (string_bytes key.new ≡ string_bytes key.old ++ attribute_key (attribute_text attribute.now)) }
 {
@@ -24,8 +24,8 @@ fn write_attribute(key: &mut String, attribute: &Attribute) -> Result<(), AllocE
     Ok(())
 }
 
-/// A text of a tag: tags that `equiv_modulo_attr_order` takes for equal have the same. Others may have the same too. It is
-/// refused where memory is.
+/// Returns a key of a tag. Tags that are equal by `equiv_modulo_attr_order` have equal keys; other tags may have equal keys as well. Fails
+/// with `AllocError` if an allocation fails.
 pub fn tag_key(tag: &Tag) -> Result<String, AllocError>
     ensures { IfOk result (λ key. IsKeyOf (tag_text tag.now) (string_bytes key)) }
 {

@@ -1,18 +1,18 @@
-//! Laws of tokens, each the contract of a function that does nothing.
+//! Laws of tokens. Each is the contract of a function that does nothing.
 ghost use Rattle.std.specs.Prelude.{◌≡◌, ◌↔◌, IsTrue};
 ghost use Rattle.h5_token.specs.Keys.{KeysAreEqual};
 ghost use Rattle.h5_token.specs.TokenText.{TagText, IsAlike, doctype_text, tag_text, token_text};
 
 use super::{Doctype, Tag, Token};
 
-/// That two tags are alike up to the order of their attributes is an equivalence.
+/// "Alike" (equal up to the order of attributes) is an equivalence of tags.
 pub fn likeness_is_an_equivalence()
     ensures reflexive { (x : TagText) → IsAlike x x }
     ensures symmetric { (x y : TagText) → IsAlike x y → IsAlike y x }
     ensures transitive { (x y z : TagText) → IsAlike x y → IsAlike y z → IsAlike x z }
 {}
 
-/// Tags that are alike have equal keys.
+/// If two tags are alike, their keys are equal.
 pub fn alike_tags_have_equal_keys()
     ensures { KeysAreEqual }
 {}

@@ -1,13 +1,12 @@
-//! Tokens, what takes them, and what it answers (HTML standard, section 13.2.5, "Tokenization").
+//! Tokens, the sinks that take them, and their replies (HTML standard, section 13.2.5, "Tokenization").
 //!
-//! `tokens` has what a reader hands on; `tag` and `doctype` have tags and doctypes, `alike` whether two lists have the
-//! same attributes, and `key` texts that are the same for tags that are alike. `sink` has the trait of what takes tokens,
-//! and its answers, `fault` why a call was refused, and `states` the states of a reader that a builder chooses. `laws` has
-//! those of tokens: they are equal exactly if their texts are.
+//! `tokens` has the tokens that a tokenizer emits; `tag` and `doctype` have tags and doctypes. `alike` compares lists of attributes up to
+//! their order, and `key` has texts that are equal for tags that are alike. `sink` has the trait of a token sink, with its replies; `fault`
+//! has the errors of a call, and `states` the states that a tree builder sets in a tokenizer. `laws` has the laws of tokens.
 //!
-//! It stands on names alone. The reader (`h5_tokenizer`) hands tokens on, and the rules of tree construction take them.
-//! Begin with `specs/TokenText.antt`, a token without where its texts lie in memory, and `specs/Reply.antt`, an answer;
-//! then `src/tokens.rt` and `src/sink.rt`.
+//! This crate depends on h5_names only. The tokenizers emit its tokens, and the rules of tree construction take them. Begin with
+//! `specs/TokenText.antt` (a token, independent of where its texts are in memory) and `specs/Reply.antt` (a reply); then read
+//! `src/tokens.rt` and `src/sink.rt`.
 #![tactic(auto)]
 
 mod alike;

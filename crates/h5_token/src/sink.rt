@@ -1,4 +1,4 @@
-//! What takes tokens.
+//! The trait of a token sink.
 ghost use Rattle.std.specs.Prelude.{◌≡◌, ◌⊎◌, ℕ, Bool, Err};
 ghost use Rattle.h5_token.specs.TokenText.{TokenText, token_text};
 ghost use Rattle.h5_token.specs.Reply.{Reply, Answers};
@@ -7,30 +7,29 @@ use super::fault::BuildFault;
 use super::states::RawKind;
 use super::tokens::Token;
 
-/// What a taker of tokens asks of the reader.
+/// The reply of a token sink to the tokenizer.
 #[derive(Debug, Drop)]
 pub enum TokenSinkResult<Handle> {
-    /// Read on.
+    /// Continue.
     Continue,
-    /// This script is to be run before more is read.
+    /// Run this script before the tokenizer continues.
     Script(Handle),
-    /// All that follows is text.
+    /// Switch to the PLAINTEXT state.
     Plaintext,
-    /// What follows is the text of an element without inner tags.
+    /// Switch to the RCDATA, RAWTEXT or script data state.
     RawData(RawKind),
-    /// The document names this encoding.
+    /// The document declares this encoding.
     EncodingIndicator(String),
 }
 
-/// A taker of tokens, as a tree builder.
+/// A token sink, such as a tree builder.
 ///
-/// What it answers, and what it is afterwards, are functions of what it meant before and of the token. What it
-/// answers doesn't depend on the line; what it means afterwards may. Where memory is refused, nothing is
-/// promised of the meaning.
+/// The reply is a function of the sink's meaning before the call and of the token. The meaning after the call is a function of these and of
+/// the line. If an allocation fails, nothing is promised about either.
 pub trait TokenSink {
     type Handle: Drop;
 
-    // All of it that its answers depend on.
+    // Everything that the replies depend on.
     ghost Meaning: { Type 0 };
 
     ghost meaning: { Self → Meaning };
@@ -38,20 +37,20 @@ pub trait TokenSink {
     // The node that a handle names.
     ghost node: { Self.Handle → ℕ };
 
-    // What it answers to a token, unless memory is refused.
+    // The reply to a token, unless an allocation fails.
     ghost reply_to: { Meaning → TokenText → Reply };
 
-    // What it means after a token that is told with this line, unless memory is refused.
+    // The meaning after a token that was passed with this line, unless an allocation fails.
     ghost after: { Meaning → TokenText → ℕ → Meaning };
 
-    // What it means after the end.
+    // The meaning after the end.
     ghost ended: { Meaning → Meaning };
 
-    // Whether the adjusted current node isn't in the HTML namespace.
+    // True if there is an adjusted current node, and it isn't in the HTML namespace.
     ghost is_foreign: { Meaning → Bool };
 
-    /// Takes a token that began in this line. A fault is `BuildFault::Memory` where memory is refused,
-    /// and otherwise what the meaning has for the token.
+    /// Takes a token that began on this line. Fails with `BuildFault::Memory` if an allocation fails; any other error is the one that the
+    /// meaning has for the token.
     fn process_token(
         &mut self,
         token: Token,
@@ -61,13 +60,12 @@ pub trait TokenSink {
         ensures after { (result ≡ Err BuildFault.Memory)
             ⊎ (meaning self.new ≡ after (meaning self.old) (token_text token) line_number) };
 
-    /// Takes note that no token comes any more.
+    /// Ends the tokens: no token follows.
     fn end(&mut self)
         ensures { meaning self.new ≡ ended (meaning self.old) };
 
-    /// Whether there is an adjusted current node, and it isn't in the HTML namespace: then a reader takes
-    /// `<![CDATA[` for the start of a text (HTML standard, section 13.2.5.42, "Markup declaration open
-    /// state").
+    /// Returns true if there is an adjusted current node, and it isn't in the HTML namespace. If so, a tokenizer takes `<![CDATA[` for the
+    /// start of a CDATA section (HTML standard, section 13.2.5.42, "Markup declaration open state").
     fn adjusted_current_node_present_but_not_in_html_namespace(&self) -> bool
         ensures { result ≡ is_foreign (meaning self.now) };
 }

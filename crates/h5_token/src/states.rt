@@ -1,24 +1,23 @@
-//! The states in which a reader of text may be, as far as a tree builder chooses them (HTML standard,
-//! section 13.2.5, "Tokenization").
+//! The tokenizer states that a tree builder sets (HTML standard, section 13.2.5, "Tokenization").
 
-/// How the text of an element without inner tags is read.
+/// The tokenizer state for an element that holds text only.
 #[derive(Clone, Copy, Debug, PartialEq, Eq)]
 pub enum RawKind {
-    /// With character references, as in `title` and `textarea`.
+    /// RCDATA: with character references, as in `title` and `textarea`.
     Rcdata,
-    /// Without, as in `style`.
+    /// RAWTEXT: without character references, as in `style`.
     Rawtext,
-    /// As in `script`.
+    /// Script data, as in `script`.
     ScriptData,
 }
 
-/// What a reader does with the text that comes.
+/// A tokenizer state.
 #[derive(Clone, Copy, Debug, PartialEq, Eq)]
 pub enum State {
-    /// Tags, comments and references are read.
+    /// The data state.
     Data,
-    /// All is text up to the end tag of the element.
+    /// RCDATA, RAWTEXT or script data: everything up to the element's end tag is text.
     RawData(RawKind),
-    /// All is text, to the end.
+    /// PLAINTEXT: everything that follows is text.
     Plaintext,
 }

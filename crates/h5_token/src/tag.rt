@@ -15,10 +15,10 @@ pub enum TagKind {
 /// A start tag or an end tag (HTML standard, section 13.2.5, "Tokenization").
 #[derive(Debug, Drop, PartialEq, Eq)]
 pub struct Tag {
-    // What is small comes first and together: so a tag, which is moved from the reader to its rule, takes 64 bytes.
+    // The small fields come first and together, so that a tag takes 64 bytes; it is moved from the tokenizer to the rule.
     pub kind: TagKind,
     pub self_closing: bool,
-    /// Whether the reader dropped an attribute, since one of its name came before.
+    /// True if the tokenizer dropped an attribute because its name was a duplicate.
     pub had_duplicate_attributes: bool,
     pub name: LocalName,
     pub attrs: Vec<Attribute>,
@@ -28,8 +28,8 @@ impl Tag {
     ghost use Rattle.std.specs.Option.{option_copied};
     ghost use Rattle.h5_token.specs.TokenText.{tag_text, IsAlike, first_value};
 
-    /// Whether kind and name are equal, and the attributes are equal in some order. The flags aren't
-    /// looked at (HTML standard, section 13.2.4.3, "The list of active formatting elements").
+    /// Returns true if kind and name are equal, and the attributes are equal in any order. The flags are ignored (HTML standard, section
+    /// 13.2.4.3, "The list of active formatting elements").
     pub fn equiv_modulo_attr_order(&self, other: &Tag) -> bool
         ensures { IsTrue result ↔ IsAlike (tag_text self.now) (tag_text other.now) }
     {
@@ -38,7 +38,7 @@ impl Tag {
             && have_same_attributes(*self.attrs.allocator(), &self.attrs, &other.attrs)
     }
 
-    /// The value of the first attribute with this local name, in whatever namespace.
+    /// The value of the first attribute with this local name, in any namespace.
     pub fn get_attribute(&self, name: &LocalName) -> Option<&str>
         ensures { option_copied result ≡ first_value name.now (tag_text self.now).attrs }
     {
@@ -50,7 +50,7 @@ impl Tag {
         None
     }
 
-    /// An equal tag, or an `AllocError` where memory is refused.
+    /// Returns an equal tag. Fails with `AllocError` if an allocation fails.
     pub fn clone(&self) -> Result<Tag, AllocError>
         ensures { IfOk result (λ tag. tag_text tag ≡ tag_text self.now) }
     {

@@ -1,4 +1,4 @@
--- Tags that are nothing but their names.
+-- Tags with only a name.
 use Rattle.std.proofs.Common.{◌≡◌, ℕ, zero, suc, ◌<◌, ◌≤◌, ◌+◌, ◌-◌, ◌&&◌, Bool, true, false, List, [], ◌∷◌, eqb, length, take, drop, get_or, refl, sym, ap, ◌∙◌, subst, arith, zero-le}
 use Rattle.std.proofs.lemmas.Bool.Decides.{nat_tests}
 use Rattle.std.proofs.lemmas.List.{length-drop}
@@ -35,7 +35,7 @@ none_from stop xs zero h = refl
 none_from stop [] (suc n) h = refl
 none_from stop (x ∷ xs) (suc n) h = rw (h 0 (omega arith)) (none_from stop xs n (λ k lt. h (suc k) (omega arith)))
 
--- what is read of such a tag, from behind its opening on
+-- what is read of such a tag, from after its opening on
 record ReadsBare (xs name rest : List ℕ) : Type 0 where
   some : 0 < length xs
   letter : is_ascii_alphabetic (get_or xs 0 0) ≡ true
@@ -97,7 +97,7 @@ start_is xs name rest h =
 end_is : (xs name rest : List ℕ) → ReadsBare xs name rest → end_tag name ≡ bare_tag kind.EndTag name
 end_is xs name rest h = ap (bare_tag kind.EndTag) h.all
 
--- a byte that is no '!' and no '/'
+-- a byte other than '!' and '/'
 record Letter (x : ℕ) : Type 0 where
   bang : eqb x 33 ≡ false
   low : eqb (to_ascii_lowercase x) 33 ≡ false
@@ -145,7 +145,7 @@ end_in_line (y ∷ xs) inner name rest some e g f h =
     let below : newlines_passed xs rest ≡ 0 = in_line_more xs inner rest (omega arith) (omega (arith, g)) f h.shorter h.line in
     in_line_more (y ∷ xs) xs rest (omega arith) (omega (arith, e)) refl (omega (arith, ap length f, length-drop 1 xs, h.shorter)) below
 
--- such a tag is at the front
+-- the input begins with such a tag
 begins_start : (xs inner name rest : List ℕ) → 0 < length xs → get_or xs 0 0 ≡ 60 → inner ≡ drop 1 xs → ReadsBare inner name rest → BeginsBare Data xs kind.StartTag name rest
 begins_start xs inner name rest some e f h = λ last foreign.
     front_concluded Data last foreign xs inner name rest StartTag (start_begins foreign xs inner some e f h.some h.letter) h.end
@@ -156,7 +156,7 @@ begins_end xs inner name rest some e g f h = λ last foreign.
     front_concluded Data last foreign xs inner name rest EndTag (end_begins foreign xs inner some e g f h.some h.letter) h.end
     ∙ ap (λ t. Found (Whole t) rest) (end_is inner name rest h)
 
--- the tag that stands at the front, and the line that it ends in
+-- the tag that the input begins with, and the line that it ends in
 pub begins_bare : (xs : List ℕ) (k : TagKind) (name rest : List ℕ) → IsBareTag xs k name rest → BeginsBare Data xs k name rest
 begins_bare xs kind.StartTag name rest h = begins_start xs h.inner name rest h.opens.0 h.opens.1 h.opens.2 (reads_bare h.inner name rest h.bare)
 begins_bare xs kind.EndTag name rest h = begins_end xs h.inner name rest h.opens.0 h.opens.1 h.opens.2 h.opens.3 (reads_bare h.inner name rest h.bare)

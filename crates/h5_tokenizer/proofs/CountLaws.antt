@@ -1,4 +1,4 @@
--- The line that a reading comes to.
+-- The line at the end of a reading.
 use Rattle.std.proofs.Common.{◌≡◌, ℕ, ◌+◌, ◌-◌, ◌^◌, ◌≤◌, Bool, false, List, [], ◌∷◌, ◌++◌, refl, sym, ap, ◌∙◌, subst, arith, append_assoc, append-nil}
 use Rattle.h5_token.specs.TokenText.{TokenText, DoctypeIs, TagIs, CommentIs, Characters, NullCharacter, EndOfFile, ParseErrorIs}
 use Rattle.h5_token.specs.Reply.{Reply}
@@ -15,7 +15,7 @@ use Rattle.h5_tokenizer.specs.Whole.{Readings, no_reading, more_reading}
 use Rattle.h5_tokenizer.proofs.PartLaws.{Part, part_none, part_twice}
 use Rattle.h5_tokenizer.proofs.FrontKeeps.{bits_part, step_part, read_part}
 
--- a CR before some bytes that doesn't matter for these and what follows doesn't matter for these alone
+-- a CR before some bytes that changes nothing for these and what follows changes nothing for these alone
 apart_alone : (c : Bool) (front rest : List ℕ) → newlines c (front ++ rest) ≡ newlines false (front ++ rest) → newlines c front ≡ newlines false front
 apart_alone c [] rest h = refl
 apart_alone c (x ∷ front) rest h = omega (arith, h, newlines_append c (x ∷ front) rest, newlines_append false (x ∷ front) rest)
@@ -83,6 +83,6 @@ module _ {M : Type 0} (reply_to : M → TokenText → Reply) (after : M → Toke
   all_part : (xs : List ℕ) → Part xs []
   all_part xs = record { front = xs; split = sym (append-nil xs); apart = refl }
 
-  -- the line behind all that is left, and behind all of the input
+  -- the line after all that is left, and after all of the input
   pub last_line : {p : ReaderPlace} {m : M} {xs : List ℕ} {ts : List TokenText} {q : ReaderPlace} {n : M} {ys : List ℕ} → p.line ≤ 2 ^ 64 - 1 → Readings reply_to after foreign p m xs ts q n ys → line_behind q.line ys [] ≡ line_behind p.line xs []
   last_line {p} {xs} {ys} le readings = ap (λ l. line_behind l ys []) (readings_line le readings) ∙ line_twice p.line xs ys [] (readings_part readings) (all_part ys)

@@ -1,4 +1,4 @@
--- Readings do what is done bit by bit, up to cuts of texts.
+-- Readings do what deeds bit by bit do, except how texts are split.
 use Rattle.std.proofs.Common.{◌≡◌, ℕ, ◌<◌, Bool, true, false, List, [], ◌∷◌, ◌++◌, length, refl, sym, ap, ◌∙◌, subst, arith, append-nil}
 use Rattle.h5_token.specs.TokenText.{TokenText, Characters, EndOfFile}
 use Rattle.h5_token.specs.Reply.{Reply}
@@ -20,7 +20,7 @@ use Rattle.h5_tokenizer.specs.End.{settle}
 use Rattle.h5_tokenizer.proofs.ProperLaws.{IsFull, bit_full, bits_full}
 use Rattle.h5_tokenizer.proofs.DeedLaws.{Deed, Begun, Done, behind_mark, done, deed, deed_begins, deed_goes_on, deed_waits, tokens_of, place_behind, meaning_behind, unlined, next_unlined, Runs, stays, does, runs_join, same_runs}
 
--- what is text where a CDATA part might begin is text where none may
+-- what is text where a CDATA section may begin is also text where none may
 bit_by : (c d : Match Opening) (m : Match (Unit {0})) (r : Match Opening) (o : Match Piece) (bit rest : List ℕ)
     → or_else (and_then (or_else c (or_else d (or_else (says (Turns Cdata) m) r))) finished) o ≡ Found (Bit bit) rest
     → or_else (and_then (or_else c (or_else d (or_else No r))) finished) o ≡ Found (Bit bit) rest
@@ -48,12 +48,12 @@ told_glues (x ∷ bit) [] full = ap (λ l. Characters (x ∷ l) ∷ []) (append-
 told_glues (x ∷ bit) (y ∷ text) full = refl
 
 module _ {M : Type 0} (reply_to : M → TokenText → Reply) (after : M → TokenText → ℕ → M) (foreign : M → Bool) (ended : M → M) (alike : M → M → Type 0) (blind : IsBlindToCuts reply_to after foreign ended alike) where
-  -- a bit, and the text behind it; texts are told with any line
+  -- a bit, and the text after it; texts are passed with any line
   after_cut : (m n : M) (bit text : List ℕ) → IsFull bit → alike (after_text after (after m (Characters bit) 0) text 0) n → alike (after_text after m (bit ++ text) 0) n
   after_cut m n [] text full h = absurd full
   after_cut m n (x ∷ bit) text full h = blind.transitive _ _ n (text_cut reply_to after foreign ended alike blind m (x ∷ bit) text 0 0 0) h
 
-  -- the same was done bit by bit, but for the line
+  -- bit by bit the effect is equal, except for the line
   pub record Follows (p : ReaderPlace) (m : M) (xs : List ℕ) (ts : List TokenText) (q : ReaderPlace) (n : M) (ys : List ℕ) : Type 0 where
     pub tokens : List TokenText
     pub meaning : M
@@ -84,14 +84,14 @@ module _ {M : Type 0} (reply_to : M → TokenText → Reply) (after : M → Toke
       one_bit p m n xs bit rest text ys begun like (bit_anyway p.mode p.last (foreign n) xs bit rest h)
       (follow_bits p (after m (Characters bit) 0) (after n (Characters bit) 0) begun (blind.kept m n (Characters bit) 0 0 like) bits)
 
-  -- the first bit is read where the sink's answer counts
+  -- the first bit is read when the sink's reply matters
   follow_first : (p : ReaderPlace) (m n : M) (xs text ys : List ℕ) → p.at_start ≡ false → alike m n → length ys < length xs → Bits p.mode p.last (foreign m) xs text ys → Follows p n xs (told text) p (after_text after m text 0) ys
   follow_first p m n xs text ys begun like less no_bit = absurd (omega arith)
   follow_first p m n xs text ys begun like less (more_bits {rest} {text = others} bit h bits) =
       one_bit p m n xs bit rest others ys begun like (ap (λ b. front p.mode p.last b xs) (sym (blind.spaces m n like)) ∙ h)
       (follow_bits p (after m (Characters bit) 0) (after n (Characters bit) 0) begun (blind.kept m n (Characters bit) 0 0 like) bits)
 
-  -- one deed, from a meaning that is alike
+  -- one deed, from an equivalent meaning
   one_deed : (p : ReaderPlace) (n : M) (xs rest : List ℕ) (d : Deed) (ts : List TokenText) (q : ReaderPlace) (k : M)
       → deed p (foreign n) xs ≡ Found d rest → place_behind reply_to after foreign (unlined p) n d ≡ unlined q → ts ≡ tokens_of d
       → alike k (meaning_behind reply_to after foreign n d) → Follows p n xs ts q k rest
@@ -167,7 +167,7 @@ module _ {M : Type 0} (reply_to : M → TokenText → Reply) (after : M → Toke
   closing_alike None m n i j k l like = blind.kept m n EndOfFile j l like
   closing_alike (Some t) m n i j k l like = blind.kept (after m t i) (after n t k) EndOfFile j l (blind.kept m n t i k like)
 
-  -- the end, behind readings that came to alike meanings and the same rest
+  -- the end, after readings with equivalent meanings and equal suffixes
   ends_alike : (m n : M) (s t : Option TokenText) (i j k l : ℕ) → s ≡ t → alike m n → alike (ended (after_closing after m s i j)) (ended (after_closing after n t k l))
   ends_alike m n s t i j k l e like =
       subst (λ (o : Option TokenText). alike (ended (after_closing after m s i j)) (ended (after_closing after n o k l))) e
@@ -184,7 +184,7 @@ module _ {M : Type 0} (reply_to : M → TokenText → Reply) (after : M → Toke
       (subst (λ (o : M). alike (ended (after_closing after a.meaning s a.place.line i)) o) (sym b.closed)
       (ends_alike a.meaning b.meaning s t a.place.line i b.place.line j settled meanings))
 
-  -- how an input is cut doesn't matter
+  -- how an input is split doesn't matter
   pub cuts_agree : (p : ReaderPlace) (m n : M) (xs : List ℕ) (ts us : List TokenText) (k l : M) → alike m n
       → ReadsToEnd reply_to after foreign ended p m xs ts k → ReadsToEnd reply_to after foreign ended p n xs us l
       → (join ts ≡ join us) × alike k l

@@ -10,7 +10,7 @@ use Rattle.h5_tokenizer.specs.declared.front.Mode.{Mode}
 use Rattle.h5_tokenizer.specs.Front.{ReaderPlace, Piece, Bit, Whole, Switch, front, mark}
 use Rattle.h5_tokenizer.specs.Read.{after_tag, next_place, in_mode, started, IsUndecided}
 
--- what is done first: the place where a mark may come is passed, or a piece is taken
+-- the first deed: the place where a mark may come is passed, or a part is taken
 pub data Deed : Type 0 where
   Begun : Deed
   Done : (piece : Piece) → Deed
@@ -63,7 +63,7 @@ next_unlined p NullCharacter reply = refl
 next_unlined p EndOfFile reply = refl
 next_unlined p (ParseErrorIs message) reply = refl
 
--- where nothing is decided nothing is done
+-- if nothing is decided, nothing is done
 pub deed_waits : (p : ReaderPlace) (foreign : Bool) (xs : List ℕ) → IsUndecided p foreign xs → deed p foreign xs ≡ Open
 deed_waits p foreign xs h = waits_by p foreign xs p.at_start refl h
 
@@ -74,7 +74,7 @@ module _ {M : Type 0} (reply_to : M → TokenText → Reply) (after : M → Toke
   place_behind p m (Done (Whole t)) = next_place p t (reply_to m t)
   place_behind p m (Done (Switch mode)) = in_mode mode p
 
-  -- whatever the line, so that is always 0 here
+  -- for any line, so here it is always 0
   abbrev pub meaning_behind : M → Deed → M
   meaning_behind m Begun = m
   meaning_behind m (Done (Bit text)) = after m (Characters text) 0
@@ -112,7 +112,7 @@ module _ {M : Type 0} (reply_to : M → TokenText → Reply) (after : M → Toke
   meaning_alike m n (Done (Whole t)) h = blind.kept m n t 0 0 h
   meaning_alike m n (Done (Switch mode)) h = h
 
-  -- two runs from one input, each to a front that what follows decides, do the same
+  -- two runs from one input, each until further input decides, do the same
   pub same_runs : {p q r : ReaderPlace} {m n k o : M} {xs ys zs : List ℕ} {ts us : List TokenText}
       → alike m k → Runs reply_to after foreign p m xs ts q n ys → deed q (foreign n) ys ≡ Open
       → Runs reply_to after foreign p k xs us r o zs → deed r (foreign o) zs ≡ Open

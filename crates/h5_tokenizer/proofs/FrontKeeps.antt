@@ -1,4 +1,4 @@
--- What is left behind the front is an end of the input, and no CR LF is cut there.
+-- What is left after a part is a suffix of the input, and no CR LF is split there.
 use Rattle.std.proofs.Common.{◌≡◌, ℕ, Bool, true, false, List, [], ◌∷◌, cond, eqb, refl, sym, ap, subst}
 use Rattle.std.proofs.lemmas.Bool.{eqb-true}
 use Rattle.std.specs.Prelude.{codes}
@@ -157,7 +157,7 @@ module _ {M : Type 0} (reply_to : M → TokenText → Reply) (after : M → Toke
   step_part (switch_step {p} {m} {xs} {rest} mode s h) = found_part (Switch mode) xs rest (front_keeps p.mode p.last (foreign m)) h
   step_part (text_step text s less bits) = bits_part bits
 
-  -- what is left unread is an end of the input
+  -- what is left unread is a suffix of the input
   pub read_part : {p : ReaderPlace} {m : M} {xs : List ℕ} {ts : List TokenText} {reply : Reply} {q : ReaderPlace} {n : M} {ys : List ℕ} → Read reply_to after foreign p m xs ts reply q n ys → Part xs ys
   read_part {xs} nothing_read = part_none xs
   read_part (read_on read goes step) = part_twice (read_part read) (step_part step)

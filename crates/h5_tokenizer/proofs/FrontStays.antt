@@ -1,4 +1,4 @@
--- What stands at the front stays there, whatever follows.
+-- What the input begins with stays the same, whatever follows.
 use Rattle.std.proofs.Common.{◌≡◌, ℕ, Bool, true, false, List, [], ◌∷◌, ◌++◌, refl, subst}
 use Rattle.std.specs.Prelude.{codes}
 use Rattle.std.specs.Char.{is_ascii_alphabetic}

@@ -1,4 +1,4 @@
--- Readings over meanings of which something holds that every token keeps.
+-- Readings over meanings with a property that every token keeps.
 use Rattle.std.proofs.Common.{◌≡◌, ℕ, Bool, List, [], ◌∷◌, ◌++◌, Option, None, Some, refl, ap, sym, ◌∙◌}
 use Rattle.h5_token.specs.TokenText.{Characters, EndOfFile, TokenText}
 use Rattle.h5_token.specs.Reply.{Reply}
@@ -10,7 +10,7 @@ use Rattle.h5_tokenizer.specs.End.{settle}
 use Rattle.h5_tokenizer.specs.Whole.{Readings, ReadsToEnd, after_closing, more_reading, no_reading}
 use Rattle.h5_tokenizer.proofs.CutLaws.{cuts_agree}
 
--- a meaning of which it holds
+-- a meaning with the property
 pub record Kept (M : Type 0) (Holds : M → Type 0) : Type 0 where
   pub meaning : M
   pub holds : Holds meaning
@@ -55,7 +55,7 @@ module _ {M : Type 0} (reply_to : M → TokenText → Reply) (after : M → Toke
   readings_kept no_reading h = record { holds = h; readings = no_reading }
   readings_kept (more_reading a r f) h = let k = readings_kept a h in let l = read_kept r k.holds in record { holds = l.holds; readings = more_reading k.readings l.read f }
 
-  -- and to the end, but for what the end itself does
+  -- and to the end, except for what the end itself does
   pub record KeptEnd (p : ReaderPlace) (m : M) (xs : List ℕ) (ts : List TokenText) (n : M) (h : Holds m) : Type 0 where
     pub holds : Holds n
     pub reads : ReadsToEnd kept_reply kept_after kept_foreign (λ k. k) p (kept m h) xs ts (kept n holds)
@@ -69,7 +69,7 @@ module _ {M : Type 0} (reply_to : M → TokenText → Reply) (after : M → Toke
   closing_kept m None i j h = refl
   closing_kept m (Some t) i j h = refl
 
-  -- what is meant right before the end
+  -- the meaning right before the end
   abbrev before_end : {ended : M → M} {p : ReaderPlace} {m : M} {xs : List ℕ} {ts : List TokenText} {n : M} → ReadsToEnd reply_to after foreign ended p m xs ts n → M
   before_end r = after_closing after r.meaning (settle r.place.mode r.place.last (foreign r.meaning) r.rest) r.place.line (line_behind r.place.line r.rest [])
 
@@ -91,7 +91,7 @@ module _ {M : Type 0} (reply_to : M → TokenText → Reply) (after : M → Toke
         };
       }
 
-  -- Where lines don't matter, nor how a text is cut to a meaning of which it holds, a text means the same however it is
+  -- If lines don't matter, nor, for a meaning with the property, how a text is split, then a text has one meaning however it is
   -- read.
   module _ (ended : M → M) (lines : (m : M) (t : TokenText) (k l : ℕ) → after m t k ≡ after m t l)
       (cut : (m : M) (x y : ℕ) (xs ys : List ℕ) (j k l : ℕ) → Holds m → after m (Characters ((x ∷ xs) ++ y ∷ ys)) j ≡ after (after m (Characters (x ∷ xs)) k) (Characters (y ∷ ys)) l) where

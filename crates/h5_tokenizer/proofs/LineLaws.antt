@@ -1,4 +1,4 @@
--- The place behind a part.
+-- The place after a part.
 use Rattle.std.proofs.Common.{◌≡◌, ℕ, List, ◌++◌, sym, ap}
 use Rattle.h5_reading.specs.Lines.{newlines_passed}
 use Rattle.h5_reading.proofs.LineLaws.{line_on}
@@ -6,7 +6,7 @@ use Rattle.h5_tokenizer.specs.Front.{ReaderPlace}
 use Rattle.h5_tokenizer.specs.Read.{behind}
 use Rattle.h5_tokenizer.specs.Steps.{further}
 
--- the place behind a part, by the newlines in it
+-- the place after a part, by the newlines in it
 pub behind_by : (p : ReaderPlace) (lines : ℕ) (xs ys : List ℕ) → lines ≡ newlines_passed xs ys → behind p xs ys ≡ further lines p
 behind_by p lines xs ys h = ap (λ l. further l p) (sym h)
 

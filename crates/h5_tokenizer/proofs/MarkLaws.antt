@@ -1,4 +1,4 @@
--- The byte order mark, and what is kept.
+-- The byte order mark, and what is stored.
 use Rattle.std.proofs.Common.{◌≡◌, ℕ, ◌<◌, ◌≤◌, ◌-◌, Bool, true, List, [], ◌∷◌, ◌++◌, length, drop, refl, sym, ap, ◌∙◌, subst, arith, Option, Some, None, Result, Ok, Err, ⊎_elim, IsUtf8, length-append}
 use Rattle.std.proofs.Math.Seq.{drop-append_seam}
 use Rattle.std.specs.Str.{IsCharBoundary}
@@ -34,7 +34,7 @@ pub behind_shorter : (p : ReaderPlace) (xs rest : List ℕ) → IsBehindMark p x
 behind_shorter p xs rest way =
     ⊎_elim (λ here. omega (arith, ap length here.1)) (λ at. ⊎_elim (λ found. omega (arith, mark_shorter xs rest found)) (λ none. omega (arith, ap length none.1)) at.1) way
 
--- a search holds when more has come
+-- a search still holds when more has come
 pub pending_more : (search : Option Search) (mode : Mode) (last xs more : List ℕ) → Pending search mode last xs → Pending search mode last (xs ++ more)
 pending_more None mode last xs more h = tt
 pending_more (Some search) mode last xs more h =
@@ -99,7 +99,7 @@ module _ {M : Type 0} (reply_to : M → TokenText → Reply) (after : M → Toke
         pending = tt;
       })
 
-  -- what is left is an end of the text, and may be cut off there
+  -- what is left is a suffix of the text, and the text may be split there
   pub kept : (p : ReaderPlace) (m : M) (xs : List ℕ) (reply : Reply) (q : ReaderPlace) (n : M) (ys : List ℕ) → Reads reply_to after foreign p m xs reply q n ys → drop (length xs - length ys) xs ≡ ys
   kept p m xs reply q n ys reads =
       let part : Part xs ys = read_part reply_to after foreign reads.read in

@@ -1,4 +1,4 @@
--- What a run comes to, as an answer of the reader.
+-- The result of a run, as a result of the tokenizer.
 use Rattle.std.proofs.Common.{◌≡◌, ◌++◌, ℕ, Bool, List, [], length, drop, ◌-◌, refl, sym, ◌∙◌, subst, Option, Ok, IsUtf8}
 use Rattle.std.specs.Str.{IsCharBoundary}
 use Rattle.h5_token.specs.TokenText.{TokenText}
@@ -15,7 +15,7 @@ use Rattle.h5_tokenizer.specs.declared.front.Mode.{Mode}
 use Rattle.h5_tokenizer.specs.declared.state.Search.{Search}
 use Rattle.h5_tokenizer.proofs.MarkLaws.{kept, kept_boundary, pending_more}
 
--- the search that was kept, for what is held and waits now
+-- the search that was stored, for what is held and waits now
 pub pending_on : (old search : Option Search) (mode : Mode) (last held whole input : List ℕ) → search ≡ old → whole ≡ held ++ input → Pending old mode last held → Pending search mode last whole
 pending_on old search mode last held whole input e f h =
     subst (λ (s : Option Search). Pending s mode last whole) (sym e)

@@ -1,4 +1,4 @@
--- What a search passes is a front of its input, and no CR LF is cut where that ends.
+-- A search skips a prefix of its input, and splits no CR LF at its end.
 use Rattle.std.proofs.Common.{◌≡◌, ℕ, Bool, true, false, List, [], ◌∷◌, ◌++◌, cond, eqb, refl, sym, ap, ◌∙◌, arith, append_assoc}
 use Rattle.std.proofs.lemmas.Bool.{eqb-true, false≢true}
 use Rattle.std.proofs.lemmas.Bool.Decides.{nat_tests}
@@ -9,7 +9,7 @@ use Rattle.h5_markup.specs.declared.ending.Inside.{Inside}
 use Rattle.h5_reading.specs.Lines.{ends_in_cr, newlines}
 use Rattle.h5_reading.proofs.LineLaws.{ends_append}
 
--- a front that is passed, and what it leaves; no CR LF stands across the cut
+-- a prefix that is skipped, and what it leaves; the split isn't inside a CR LF
 pub record Part (xs rest : List ℕ) : Type 0 where
   pub front : List ℕ
   pub split : xs ≡ front ++ rest
@@ -52,7 +52,7 @@ or_else_parts xs Open o h g = tt
 or_else_parts xs No o h g = g
 or_else_parts xs (Found a r) o h g = h
 
--- the same of a front whose last byte is no CR; c is whether one came before it
+-- a part whose last byte isn't a CR; c is true if a CR was before the part
 record Clean (c : Bool) (xs rest : List ℕ) : Type 0 where
   front : List ℕ
   split : xs ≡ front ++ rest
@@ -81,7 +81,7 @@ clean_parts xs Open h = tt
 clean_parts xs No h = tt
 clean_parts xs (Found a rest) h = record { front = h.front; split = h.split; apart = ap (λ b. newlines b rest) h.clean }
 
--- one byte more of a needle, where it stands in the input
+-- one more byte of a needle, at its position in the input
 byte_by : (c : Bool) (x : ℕ) (xs : List ℕ) (m : Match (Unit {0})) (same : Bool) → (same ≡ true → Cleans (eqb x 13) xs m) → Cleans c (x ∷ xs) (cond same m No)
 byte_by c x xs m true h = cleans_more c x xs m (h refl)
 byte_by c x xs m false h = tt
@@ -104,7 +104,7 @@ word_cleans c (p ∷ ps) (x ∷ xs) e =
     let cr : eqb x 13 ≡ eqb p 13 = sym (low_cr x) ∙ ap (λ y. eqb y 13) (eqb-true (to_ascii_lowercase x) (to_ascii_lowercase p) same) ∙ low_cr p in
     word_cleans (eqb x 13) ps xs (ap (λ b. ends_in_cr b ps) cr ∙ e))
 
--- what ends a construct is no CR
+-- the byte that ends a construct isn't a CR
 end_by : (place : Inside) (x : ℕ) (t : Bool) → eqb x 62 ≡ t → cond t (may_end place) false ≡ true → eqb x 13 ≡ false
 end_by place x true same h = ap (λ y. eqb y 13) (eqb-true x 62 same)
 end_by place x false same h = absurd (false≢true h)

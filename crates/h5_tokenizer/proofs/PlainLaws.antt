@@ -12,7 +12,7 @@ use Rattle.h5_markup.specs.Plain.{is_plain}
 use Rattle.h5_markup.proofs.PlainBytes.{Plain, plain}
 use Rattle.h5_markup.proofs.TextTakes.{found_shorter}
 
--- where nothing else stands, and where something stands for a piece of text
+-- if nothing else begins here, and if a text replaces what begins here
 pub front_no : (mode : Mode) (last : List ℕ) (foreign : Bool) (xs : List ℕ) → opening mode last foreign xs ≡ No → front mode last foreign xs ≡ other xs
 front_no mode last foreign xs h = ap (λ m. or_else (and_then m finished) (other xs)) h
 
@@ -35,7 +35,7 @@ plain_opening (RawData ScriptData) last foreign x xs p = simp (plain_raw last x 
 plain_opening Plaintext last foreign x xs p = simp (p.cr, p.nul)
 plain_opening Cdata last foreign x xs p = simp (p.bracket, p.cr, p.nul)
 
--- a byte where nothing else is
+-- a byte where nothing else begins
 one_bit : {mode : Mode} {last : List ℕ} {foreign : Bool} (x : ℕ) (xs : List ℕ) → opening mode last foreign (x ∷ xs) ≡ No → Bits mode last foreign (x ∷ xs) (x ∷ []) xs
 one_bit {mode} {last} {foreign} x xs h = more_bits (x ∷ []) (front_no mode last foreign (x ∷ xs) h) no_bit
 

@@ -1,4 +1,4 @@
--- Bits of text aren't empty, and tokens that stand at the front are proper.
+-- Bits of text aren't empty, and the tokens of parts are proper.
 use Rattle.std.proofs.Common.{◌≡◌, ℕ, ◌<◌, Bool, true, false, List, [], ◌∷◌, ◌++◌, length, subst, arith}
 use Rattle.std.specs.Prelude.{codes}
 use Rattle.std.specs.Char.{is_ascii_alphabetic}
@@ -142,7 +142,7 @@ other_fits (x ∷ xs) = tt
 front_fits : (mode : Mode) (last : List ℕ) (foreign : Bool) (xs : List ℕ) → Holds Fits (front mode last foreign xs)
 front_fits mode last foreign xs = or_holds Fits _ _ (then_holds Opens Fits (opening mode last foreign xs) finished (opening_opens mode last foreign xs) finished_fits) (other_fits xs)
 
--- a bit at the front is not empty
+-- a bit that the input begins with isn't empty
 pub bit_full : (mode : Mode) (last : List ℕ) (foreign : Bool) (xs bit rest : List ℕ) → front mode last foreign xs ≡ Found (Bit bit) rest → IsFull bit
 bit_full mode last foreign xs bit rest h = subst (Holds Fits) h (front_fits mode last foreign xs)
 

@@ -31,12 +31,12 @@ next_started p EndOfFile reply h = h
 next_started p (ParseErrorIs message) reply h = h
 
 module _ {M : Type 0} (reply_to : M → TokenText → Reply) (after : M → TokenText → ℕ → M) (foreign : M → Bool) where
-  -- the line is the same, whatever follows
+  -- the line doesn't depend on what follows
   same_line : (p : ReaderPlace) (m : M) (xs : List ℕ) (ts : List TokenText) (reply : Reply) (q : ReaderPlace) (n : M) (ys more : List ℕ)
       → Step reply_to after foreign p m (xs ++ more) ts reply (behind q (xs ++ more) (ys ++ more)) n (ys ++ more) → Step reply_to after foreign p m (xs ++ more) ts reply (behind q xs ys) n (ys ++ more)
   same_line p m xs ts reply q n ys more step = subst (λ (r : ReaderPlace). Step reply_to after foreign p m (xs ++ more) ts reply r n (ys ++ more)) (behind_on q xs ys more) step
 
-  -- a step behind which more follows
+  -- a step after which more follows
   step_goes_on : {p : ReaderPlace} {m : M} {xs : List ℕ} {ts : List TokenText} {reply : Reply} {q : ReaderPlace} {n : M} {ys : List ℕ} (rest : List ℕ) → Step reply_to after foreign p m xs ts reply q n ys → Step reply_to after foreign p m (xs ++ rest) ts reply q n (ys ++ rest)
   step_goes_on rest (marked {xs} {rest = r} s h) = marked s (found_stays tt xs r rest (literal_stable (0xef ∷ 0xbb ∷ 0xbf ∷ [])) h)
   step_goes_on rest (unmarked {xs} s h) = unmarked s (no_stays xs rest (literal_stable (0xef ∷ 0xbb ∷ 0xbf ∷ [])) h)
@@ -50,7 +50,7 @@ module _ {M : Type 0} (reply_to : M → TokenText → Reply) (after : M → Toke
       same_line p m xs (Characters text ∷ []) (reply_to m (Characters text)) p (after m (Characters text) p.line) ys rest
       (text_step text s (omega (arith, length-append xs rest, length-append ys rest)) (bits_go_on rest bits))
 
-  -- what was read is read so, whatever follows
+  -- what was read is read in the same way, whatever follows
   pub read_goes_on : {p : ReaderPlace} {m : M} {xs : List ℕ} {ts : List TokenText} {reply : Reply} {q : ReaderPlace} {n : M} {ys : List ℕ} (rest : List ℕ) → Read reply_to after foreign p m xs ts reply q n ys → Read reply_to after foreign p m (xs ++ rest) ts reply q n (ys ++ rest)
   read_goes_on rest nothing_read = nothing_read
   read_goes_on rest (read_on read goes step) = read_on (read_goes_on rest read) goes (step_goes_on rest step)
@@ -75,12 +75,12 @@ module _ {M : Type 0} (reply_to : M → TokenText → Reply) (after : M → Toke
     no_longer = omega (arith, before.no_longer, now.shorter);
   }
 
-  -- a step that hands nothing on, and then a reading
+  -- a step that emits nothing, and then a reading
   pub read_after : {p : ReaderPlace} {m : M} {xs : List ℕ} {q : ReaderPlace} {ys : List ℕ} {us : List TokenText} {reply : Reply} {r : ReaderPlace} {o : M} {zs : List ℕ} → Step reply_to after foreign p m xs [] Continues q m ys → Read reply_to after foreign q m ys us reply r o zs → Read reply_to after foreign p m xs us reply r o zs
   read_after first nothing_read = read_on nothing_read refl first
   read_after first (read_on read goes step) = read_on (read_after first read) goes step
 
-  -- one reading, and then another; its last answer is the second's, if that has one
+  -- one reading, and then another; if tokenization goes on after the second, it goes on after both
   pub read_joins : {p : ReaderPlace} {m : M} {xs : List ℕ} {ts : List TokenText} {reply : Reply} {q : ReaderPlace} {n : M} {ys : List ℕ} {us : List TokenText} {next : Reply} {r : ReaderPlace} {o : M} {zs : List ℕ} → Read reply_to after foreign p m xs ts reply q n ys → goes_on reply ≡ true → Read reply_to after foreign q n ys us next r o zs → (last : Reply) × ((goes_on next ≡ true → goes_on last ≡ true) × Read reply_to after foreign p m xs (ts ++ us) last r o zs)
   read_joins {ts} {reply} first goes nothing_read = (reply, ((λ _. goes), rw append-nil first))
   read_joins {ts} first goes (read_on {ts = vs} {us = ws} {next} read on step) =

@@ -1,4 +1,4 @@
--- What the parts of a step do is a step of Read.
+-- The parts of a step make a `Step`.
 use Rattle.std.proofs.Common.{◌≡◌, ℕ, ◌<◌, Bool, false, List, [], ◌∷◌, ◌++◌, length, refl, sym, ap, ◌∙◌, subst, arith, Option, Some, None, Ok, Err}
 use Rattle.std.specs.Borrow.{Bor}
 use Rattle.h5_token.specs.TokenText.{TokenText, Characters}
@@ -22,7 +22,7 @@ use Rattle.h5_markup.proofs.TextTakes.{found_shorter}
 use Rattle.h5_tokenizer.proofs.PlainLaws.{front_found, bits_join}
 
 module _ {M : Type 0} (reply_to : M → TokenText → Reply) (after : M → TokenText → ℕ → M) (foreign : M → Bool) where
-  -- a token's step, wherever it leads
+  -- a token's step, for any reply
   pub record Leads (p : ReaderPlace) (m : M) (xs : List ℕ) (t : TokenText) (ys : List ℕ) : Type 0 where
     pub moves : (q : ReaderPlace) (n : M) → q ≡ next_place p t (reply_to m t) → n ≡ after m t p.line → Moves reply_to after foreign p m xs (reply_to m t) (behind q xs ys) n ys
 
@@ -56,7 +56,7 @@ module _ {M : Type 0} (reply_to : M → TokenText → Reply) (after : M → Toke
       subst (λ l. Leads p m xs (Characters l) ys) (sym whole)
       (text_leads_by p m xs ys (first.text ++ second.text) started less (bits_join first.shorter first.bits second.bits))
 
-  -- a token that was taken, behind so many newlines
+  -- a token that was taken, after this number of newlines
   pub turned : {H : Type 0} (node : H → ℕ) (p : ReaderPlace) (m : M) (xs : List ℕ) (ys : Bor (List ℕ)) (t : TokenText) (q : ReaderPlace) (n : M) (lines : ℕ) (stopped : Option (Stop H)) → lines ≡ newlines_passed xs ys.now → Leads p m xs t ys.now → HandedOn reply_to after node p m t q n stopped → Makes reply_to after foreign node p m xs q n (Ok (turn_of stopped ys lines))
   turned node p m xs ys t q n lines None line leads h = record {
     reply = reply_to m t;
@@ -67,7 +67,7 @@ module _ {M : Type 0} (reply_to : M → TokenText → Reply) (after : M → Toke
       subst (λ (r : ReaderPlace). Moves reply_to after foreign p m xs (stops_as node s) r n ys.now) (behind_by q lines xs ys.now line)
       (subst (λ (r : Reply). Moves reply_to after foreign p m xs r (behind q xs ys.now) n ys.now) h.answer (leads.moves q n h.place h.meaning))
 
-  -- one that was refused
+  -- a token that was refused
   refused_by : (p : ReaderPlace) (m : M) (xs ys : List ℕ) (t : TokenText) (n : M) (f : BuildFault) → Leads p m xs t ys → reply_to m t ≡ Refuses f → n ≡ after m t p.line → MovesInto reply_to after foreign p m xs f n
   refused_by p m xs ys t n f leads e g = record {
     place = behind (next_place p t (reply_to m t)) xs ys;
@@ -91,10 +91,10 @@ module _ {M : Type 0} (reply_to : M → TokenText → Reply) (after : M → Toke
             (record { tokens = []; step = switch_step mode started here; shorter = found_shorter (Switch mode) xs ys (front_eats p.mode p.last (foreign m)) here });
       }
 
--- a construct whose end is there, and one whose end isn't
+-- a construct with its end, and one without
 pub front_concluded : (mode : Mode) (last : List ℕ) (foreign : Bool) (xs inner text rest : List ℕ) (construct : Construct) → opening mode last foreign xs ≡ Found (Begins construct) inner → up_to_end (start_of construct) inner ≡ Found text rest → front mode last foreign xs ≡ Found (Whole (token_of construct text)) rest
 front_concluded mode last foreign xs inner text rest construct h e = front_found mode last foreign xs h ∙ ap (λ m. or_else (concluded construct m) (other xs)) e
 
--- the search, at the state and the sink's answer
+-- the opening, for the state and the sink's reply
 pub opening_at : (mode : Mode) (last name : List ℕ) (asked foreign : Bool) (xs : List ℕ) (m : Match Opening) → m ≡ opening mode name asked xs → name ≡ last → asked ≡ foreign → opening mode last foreign xs ≡ m
 opening_at mode last name asked foreign xs m h e f = sym (h ∙ (λ i. opening mode (e i) (f i) xs))

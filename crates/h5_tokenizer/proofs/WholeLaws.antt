@@ -1,4 +1,4 @@
--- Readings of pieces, one behind the other, and the end.
+-- Readings of chunks, one after another, and the end.
 use Rattle.std.proofs.Common.{◌≡◌, ℕ, Bool, false, List, [], ◌∷◌, ◌++◌, refl, sym, ap, ◌∙◌, subst, append-nil, Option, Some, None, Ok}
 use Rattle.h5_token.specs.TokenText.{TokenText}
 use Rattle.h5_token.specs.Reply.{Reply}
@@ -30,7 +30,7 @@ front_nothing (RawData kind) (c ∷ cs) foreign = refl
 front_nothing Plaintext last foreign = refl
 front_nothing Cdata last foreign = refl
 
--- nothing is decided of nothing
+-- nothing is decided about the empty input
 pub undecided_nothing : (p : ReaderPlace) (foreign : Bool) → IsUndecided p foreign []
 undecided_nothing p foreign = ((λ _. refl), (λ _. front_nothing p.mode p.last foreign))
 
@@ -51,7 +51,7 @@ module _ {M : Type 0} (reply_to : M → TokenText → Reply) (after : M → Toke
       subst (λ (l : List ℕ). HasRead reply_to after foreign p m (xs ++ more) r o l) e
       (record { tokens = had.tokens ++ reads.tokens; readings = pieces_join more had.readings reads.read goes })
 
-  -- a call of `feed` that goes well goes on with what was read
+  -- a call of `feed` that succeeds continues what was read
   pub feeds_join : {H : Type 0} (node : H → ℕ) (p : ReaderPlace) (m : M) (xs more : List ℕ) (q : ReaderPlace) (n : M) (ys : List ℕ) (new : ReaderText) (o : M) (queue : List ℕ) (answer : TokenizerResult H)
       → HasRead reply_to after foreign p m xs q n ys → Feeds reply_to after foreign node q n (ys ++ more) new o queue (Ok answer)
       → HasRead reply_to after foreign p m (xs ++ more) new.place o (new.held ++ queue)

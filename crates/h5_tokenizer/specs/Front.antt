@@ -1,4 +1,4 @@
--- What stands at the front of the input, in each state of the reader (HTML standard, section 13.2.5).
+-- What the input begins with, in each state of the plain tokenizer (HTML standard, section 13.2.5).
 use Rattle.std.specs.Prelude.{ℕ, Bool, true, false, List, [], ◌∷◌, if◌then◌else◌, codes}
 use Rattle.std.specs.Char.{is_ascii_alphabetic}
 use Rattle.h5_token.specs.TokenText.{TokenText, NullCharacter}
@@ -15,8 +15,8 @@ use Rattle.h5_tokenizer.specs.declared.front.Mode.TheVariants.{Data, RawData, Pl
 use Rattle.h5_tokenizer.specs.declared.front.Construct.{Construct}
 use Rattle.h5_tokenizer.specs.declared.front.Construct.TheVariants.{Comment, Doctype, StartTag, EndTag, RawEndTag}
 
--- how something other than plain text begins: a construct, what stands for a piece of text, a NUL that is a
--- token, or the way to another state
+-- the beginning of something other than plain text: a construct, something that a text replaces, a NUL that is a token, or a
+-- switch to another state
 pub data Opening : Type 0 where
   Begins : (construct : Construct) → Opening
   Gives : (text : List ℕ) → Opening
@@ -35,7 +35,7 @@ comment xs = says (Begins Comment) (literal (codes "<!--") xs)
 abbrev pub doctype : List ℕ → Match Opening
 doctype xs = says (Begins Doctype) (word (codes "<!DOCTYPE") xs)
 
--- only where the adjusted current node isn't in the HTML namespace
+-- only if the adjusted current node isn't in the HTML namespace
 abbrev pub cdata : Bool → List ℕ → Match Opening
 cdata foreign xs = if foreign then says (Turns Cdata) (literal (codes "<![CDATA[") xs) else No
 
@@ -53,7 +53,7 @@ in_data foreign xs =
     or_else (comment xs) (or_else (doctype xs) (or_else (cdata foreign xs) (or_else (end_tag xs) (or_else (start_tag xs)
     (or_else (stands_for (reference xs)) (or_else (stands_for (newline xs)) (null xs)))))))
 
--- the end tag of the element that is read: its name is the last start tag's
+-- the end tag of the current raw element, whose name is the last start tag's
 abbrev pub raw_end_tag : List ℕ → List ℕ → Match Opening
 raw_end_tag [] xs = No
 raw_end_tag (c ∷ cs) xs = and_then (literal (codes "</") xs) (λ _ rest.
@@ -70,14 +70,14 @@ in_raw kind last xs = or_else (raw_end_tag last xs) (stands_for (escape (reads_r
 abbrev pub in_cdata : List ℕ → Match Opening
 in_cdata xs = or_else (says (Turns Data) (literal (codes "]]>") xs)) (stands_for (cleaned xs))
 
--- what is more than a byte of plain text
+-- the beginning of something other than a byte of plain text
 abbrev pub opening : Mode → List ℕ → Bool → List ℕ → Match Opening
 opening Data last foreign xs = in_data foreign xs
 opening (RawData kind) last foreign xs = in_raw kind last xs
 opening Plaintext last foreign xs = stands_for (cleaned xs)
 opening Cdata last foreign xs = in_cdata xs
 
--- a part of the input: a bit of text, a token, or the way to another state
+-- a part of the input: a bit of text, a token, or a switch to another state
 pub data Piece : Type 0 where
   Bit : (text : List ℕ) → Piece
   Whole : (token : TokenText) → Piece
@@ -98,8 +98,8 @@ abbrev pub other : List ℕ → Match Piece
 other [] = Open
 other (x ∷ xs) = Found (Bit (x ∷ [])) xs
 
--- where the reader is: whether a byte order mark may come, its state, the last start tag's name, and the line in
--- which what comes next begins
+-- the state of the tokenizer: true if a byte order mark may come, the state between tokens, the last start tag's name, and the
+-- line in which the next token begins
 pub record ReaderPlace : Type 0 where
   pub at_start : Bool
   pub mode : Mode
@@ -110,6 +110,6 @@ pub record ReaderPlace : Type 0 where
 abbrev pub mark : List ℕ → Match (Unit {0})
 mark xs = literal (0xef ∷ 0xbb ∷ 0xbf ∷ []) xs
 
--- what stands at the front
+-- the part that the input begins with
 abbrev pub front : Mode → List ℕ → Bool → List ℕ → Match Piece
 front mode last foreign xs = or_else (and_then (opening mode last foreign xs) finished) (other xs)

@@ -1,4 +1,4 @@
--- What the code found at the front, without where its texts lie in memory.
+-- The code's openings, with texts as lists of bytes.
 use Rattle.h5_tokenizer.specs.Front as front
 use Rattle.h5_tokenizer.specs.declared.front.Opening.{Opening}
 use Rattle.h5_tokenizer.specs.declared.front.Opening.TheVariants.{Begins, Gives, Null, Turns}

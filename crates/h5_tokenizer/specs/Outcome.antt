@@ -1,4 +1,4 @@
--- What the reader's calls answer, and what it is then.
+-- The results of the tokenizer's calls, and its state afterwards.
 use Rattle.std.specs.Prelude.{◌≡◌, ℕ, Bool, true, List, [], length, ◌<◌, Result, Ok, Err, string_bytes}
 use Rattle.h5_token.specs.TokenText.{TokenText}
 use Rattle.h5_token.specs.Reply.{Reply, RunsScript, Indicates, Refuses}
@@ -13,7 +13,7 @@ use Rattle.h5_tokenizer.specs.Read.{Reads, IsUndecided}
 use Rattle.h5_tokenizer.specs.ReaderText.{ReaderText}
 
 module _ {M : Type 0} (reply_to : M → TokenText → Reply) (after : M → TokenText → ℕ → M) (foreign : M → Bool) where
-  -- all is handed on but an undecided rest
+  -- all was read except an undecided suffix
   pub record ReadsAll (p : ReaderPlace) (m : M) (xs : List ℕ) (new : ReaderText) (n : M) (queue : List ℕ) : Type 0 where
     pub reply : Reply
     pub goes_on : goes_on reply ≡ true
@@ -22,21 +22,21 @@ module _ {M : Type 0} (reply_to : M → TokenText → Reply) (after : M → Toke
     pub undecided : IsUndecided new.place (foreign n) new.held
     pub stage : new.stage ≡ Reading
 
-  -- reading stopped at a token that was answered so, and the rest is in the queue
+  -- reading stopped at a token with this reply, and the remaining input is in the queue
   pub record StopsAt (p : ReaderPlace) (m : M) (xs : List ℕ) (reply : Reply) (new : ReaderText) (n : M) (queue : List ℕ) : Type 0 where
     pub reads : Reads reply_to after foreign p m xs reply new.place n queue
     pub nothing_held : new.held ≡ []
     pub shorter : length queue < length xs
     pub stage : new.stage ≡ Reading
 
-  -- the sink refused the last token that was handed on
+  -- the sink refused the last token
   pub record RefusedAt (p : ReaderPlace) (m : M) (xs : List ℕ) (fault : BuildFault) (new : ReaderText) (n : M) : Type 0 where
     pub place : ReaderPlace
     pub rest : List ℕ
     pub reads : Reads reply_to after foreign p m xs (Refuses fault) place n rest
     pub stage : new.stage ≡ Failed
 
-  -- what `feed` did, by its answer
+  -- what `feed` did, by its result
   abbrev pub Feeds : {H : Type 0} → (H → ℕ) → ReaderPlace → M → List ℕ → ReaderText → M → List ℕ → Result (TokenizerResult H) BuildFault → Type 0
   Feeds node p m xs new n queue (Ok result.Done) = ReadsAll p m xs new n queue
   Feeds node p m xs new n queue (Ok (result.Script handle)) = StopsAt p m xs (RunsScript (node handle)) new n queue

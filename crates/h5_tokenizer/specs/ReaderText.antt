@@ -1,9 +1,9 @@
--- A reader, without where its texts lie in memory.
+-- A tokenizer without its sink, with texts as lists of bytes.
 use Rattle.std.specs.Prelude.{ℕ, List}
 use Rattle.h5_reading.specs.declared.stage.Stage.{Stage}
 use Rattle.h5_tokenizer.specs.Front.{ReaderPlace}
 
--- where it is, what it keeps undecided, and whether it still reads
+-- its place, its undecided input, and whether it has ended or failed
 pub record ReaderText : Type 0 where
   pub place : ReaderPlace
   pub held : List ℕ

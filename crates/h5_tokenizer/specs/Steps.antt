@@ -1,4 +1,4 @@
--- What one step of the reader did.
+-- What one step of the tokenizer did.
 use Rattle.std.specs.Prelude.{◌≡◌, ℕ, ◌+◌, Bool, true, false, List, ◌++◌, length, ◌<◌, ◌≤◌, ◌⊎◌, take, Result, Ok, Err, Option, Some, None}
 use Rattle.std.specs.Borrow.{Bor}
 use Rattle.std.specs.Io.Iter.{u64_saturate}
@@ -26,7 +26,7 @@ use Rattle.h5_tokenizer.specs.declared.state.Turn.TheVariants.{Waits, Goes, Stop
 abbrev pub place_of : State → ReaderPlace
 place_of state = record { at_start = state.at_start; mode = state.mode; last = state.last; line = state.line }
 
--- From xs on, up to ys, there is text, which was put behind what had been there.
+-- From `xs` up to `ys` there is text, and it was appended to `old`.
 pub record TakesBits (mode : Mode) (last : List ℕ) (foreign : Bool) (xs ys old new : List ℕ) : Type 0 where
   pub text : List ℕ
   pub bits : Bits mode last foreign xs text ys
@@ -44,7 +44,7 @@ pub record TakesMany (mode : Mode) (last xs ys old new : List ℕ) : Type 0 wher
   pub put : new ≡ old ++ text
   pub no_longer : length ys ≤ length xs
 
--- at the front a construct begins, and its end isn't in the bytes behind its opening that were looked at
+-- a construct begins at the start, and its end isn't in the bytes after its opening that were searched
 pub record IsPending (search : Search) (mode : Mode) (last xs : List ℕ) : Type 0 where
   pub construct : Construct
   pub inner : List ℕ
@@ -56,11 +56,11 @@ abbrev pub Pending : Option Search → Mode → List ℕ → List ℕ → Type 0
 Pending None mode last xs = Unit {0}
 Pending (Some search) mode last xs = IsPending search mode last xs
 
--- a search that has looked at nothing
+-- a search that hasn't looked at any bytes
 abbrev pub fresh : Bool → Construct → Search
 fresh foreign construct = record { foreign = foreign; at = 0; place = start_of construct }
 
--- Behind the byte order mark, if one may come and does. Nothing else is passed.
+-- After the byte order mark, if one is allowed and there. Nothing else is skipped.
 abbrev pub IsBehindMark : ReaderPlace → List ℕ → List ℕ → Type 0
 IsBehindMark p xs rest =
     ((p.at_start ≡ false) × (rest ≡ xs))
@@ -79,12 +79,13 @@ abbrev pub turn_of : {H : Type 0} → Option (Stop H) → Bor (List ℕ) → ℕ
 turn_of None rest lines = Goes rest lines
 turn_of (Some s) rest lines = Stops s rest lines
 
--- the same place, so many newlines further on
+-- the place, after this number of newlines
 abbrev pub further : ℕ → ReaderPlace → ReaderPlace
 further lines p = record { at_start = p.at_start; mode = p.mode; last = p.last; line = u64_saturate (p.line + lines) }
 
 module _ {M : Type 0} (reply_to : M → TokenText → Reply) (after : M → TokenText → ℕ → M) where
-  -- a token was handed on: where reading goes on from but for the line, whether it stops, and what the sink is then
+  -- a token was passed to the sink: the next place except for the line, whether reading stops, and the sink's meaning
+  -- afterwards
   pub record HandedOn {H : Type 0} (node : H → ℕ) (p : ReaderPlace) (m : M) (t : TokenText) (q : ReaderPlace) (n : M) (stopped : Option (Stop H)) : Type 0 where
     pub place : q ≡ next_place p t (reply_to m t)
     pub meaning : n ≡ after m t p.line
@@ -98,19 +99,19 @@ module _ {M : Type 0} (reply_to : M → TokenText → Reply) (after : M → Toke
   HandsOn node p m t q n (Err fault.Failed) = (reply_to m t ≡ Refuses fault.Failed) × (n ≡ after m t p.line)
 
 module _ {M : Type 0} (reply_to : M → TokenText → Reply) (after : M → TokenText → ℕ → M) (foreign : M → Bool) where
-  -- one step was made, up to an answer
+  -- one step was taken, up to a reply
   pub record Moves (p : ReaderPlace) (m : M) (xs : List ℕ) (reply : Reply) (q : ReaderPlace) (n : M) (ys : List ℕ) : Type 0 where
     pub tokens : List TokenText
     pub step : Step reply_to after foreign p m xs tokens reply q n ys
     pub shorter : length ys < length xs
 
-  -- one step was made, after which reading goes on
+  -- one step was taken, after which tokenization goes on
   pub record MovesOn (p : ReaderPlace) (m : M) (xs : List ℕ) (q : ReaderPlace) (n : M) (ys : List ℕ) : Type 0 where
     pub reply : Reply
     pub goes_on : goes_on reply ≡ true
     pub moves : Moves p m xs reply q n ys
 
-  -- no step can be made, and nothing has changed
+  -- no step can be taken, and nothing has changed
   pub record StandsStill (p : ReaderPlace) (m : M) (xs : List ℕ) (q : ReaderPlace) (n : M) (search : Option Search) : Type 0 where
     pub place : q ≡ p
     pub meaning : n ≡ m
@@ -123,7 +124,7 @@ module _ {M : Type 0} (reply_to : M → TokenText → Reply) (after : M → Toke
     pub rest : List ℕ
     pub moves : Moves p m xs (Refuses fault) place n rest
 
-  -- what one step did. The place is still in the line in which the step began
+  -- what one step did; the place is still in the line in which the step began
   abbrev pub Makes : {H : Type 0} → (H → ℕ) → ReaderPlace → M → List ℕ → ReaderPlace → M → Result (Turn H) BuildFault → Type 0
   Makes node p m xs q n (Ok (Waits search)) = StandsStill p m xs q n search
   Makes node p m xs q n (Ok (Goes rest lines)) = MovesOn p m xs (further lines q) n rest.now
@@ -133,7 +134,7 @@ module _ {M : Type 0} (reply_to : M → TokenText → Reply) (after : M → Toke
   Makes node p m xs q n (Err fault.NotInText) = MovesInto p m xs fault.NotInText n
   Makes node p m xs q n (Err fault.Failed) = MovesInto p m xs fault.Failed n
 
-  -- Steps were made up to a front that what follows decides.
+  -- Steps were taken until further input decides what comes next.
   pub record ComesTo (p : ReaderPlace) (m : M) (xs : List ℕ) (q : ReaderPlace) (n : M) (ys : List ℕ) (search : Option Search) : Type 0 where
     pub reply : Reply
     pub goes_on : goes_on reply ≡ true
@@ -142,12 +143,12 @@ module _ {M : Type 0} (reply_to : M → TokenText → Reply) (after : M → Toke
     pub pending : Pending search q.mode q.last ys
     pub started : q.at_start ≡ false
 
-  -- Steps were made up to an answer that stops the reader.
+  -- Steps were taken until a reply stopped the tokenizer.
   pub record HaltsAt (p : ReaderPlace) (m : M) (xs : List ℕ) (reply : Reply) (q : ReaderPlace) (n : M) (ys : List ℕ) : Type 0 where
     pub reads : Reads reply_to after foreign p m xs reply q n ys
     pub shorter : length ys < length xs
 
-  -- Steps were made up to a token that the sink refused.
+  -- Steps were taken until the sink refused a token.
   pub record RunsInto (p : ReaderPlace) (m : M) (xs : List ℕ) (fault : BuildFault) (n : M) : Type 0 where
     pub place : ReaderPlace
     pub rest : List ℕ
@@ -161,7 +162,7 @@ module _ {M : Type 0} (reply_to : M → TokenText → Reply) (after : M → Toke
   Runs node p m xs q n (Err fault.NotInText) = RunsInto p m xs fault.NotInText n
   Runs node p m xs q n (Err fault.Failed) = RunsInto p m xs fault.Failed n
 
-  -- The same, where a byte order mark may come first.
+  -- As `ComesTo`, but a byte order mark may come first.
   pub record WaitsAt (p : ReaderPlace) (m : M) (xs : List ℕ) (q : ReaderPlace) (n : M) (ys : List ℕ) (search : Option Search) : Type 0 where
     pub reply : Reply
     pub goes_on : goes_on reply ≡ true

@@ -1,4 +1,4 @@
--- The tokens that comments, doctypes and tags are.
+-- The tokens of comments, doctypes and tags.
 use Rattle.std.specs.Prelude.{ℕ, Bool, true, false, ◌&&◌, List, [], ◌∷◌, ◌==◌, if◌then◌else◌}
 use Rattle.h5_token.specs.TokenText.{TokenText, DoctypeIs, TagIs, CommentIs}
 use Rattle.h5_token.specs.declared.tag.TagKind.TheVariants as kind
@@ -13,7 +13,7 @@ use Rattle.h5_markup.specs.Doctypes.{doctype_of}
 use Rattle.h5_tokenizer.specs.declared.front.Construct.{Construct}
 use Rattle.h5_tokenizer.specs.declared.front.Construct.TheVariants.{Comment, Doctype, StartTag, EndTag, RawEndTag}
 
--- where in it the first byte behind its opening stands
+-- where in a construct the first byte after its opening is
 abbrev pub start_of : Construct → Inside
 start_of Comment = inside.Comment
 start_of Doctype = inside.Doctype
@@ -30,7 +30,7 @@ last_is byte [] = false
 last_is byte (x ∷ []) = x == byte
 last_is byte (x ∷ y ∷ xs) = last_is byte (y ∷ xs)
 
--- whether a tag ends in a '/' that belongs to no value
+-- true if a tag ends in a '/' that isn't part of a value
 abbrev pub is_self_closing : List ℕ → Bool
 is_self_closing tag = last_is 47 tag && is_between (place_after inside.TagName tag)
 
@@ -45,7 +45,7 @@ start_tag tag =
       had_duplicate_attributes = has_duplicates attributes;
     })
 
--- an end tag keeps neither attributes nor flags
+-- an end tag has neither attributes nor flags
 abbrev pub end_tag : List ℕ → TokenText
 end_tag tag = TagIs (record {
   kind = kind.EndTag;
@@ -61,12 +61,12 @@ is_dashes (x ∷ []) = false
 is_dashes (x ∷ y ∷ []) = x == 45 && y == 45
 is_dashes (x ∷ y ∷ z ∷ xs) = false
 
--- all but two dashes at the end
+-- all except two dashes at the end
 abbrev pub without_dashes : List ℕ → List ℕ
 without_dashes [] = []
 without_dashes (x ∷ xs) = if is_dashes (x ∷ xs) then [] else x ∷ without_dashes xs
 
--- the token, by what stands between its opening and the '>' that ends it
+-- the token of the text between a construct's opening and the '>' that ends it
 abbrev pub token_of : Construct → List ℕ → TokenText
 token_of Comment text = CommentIs (text_of false (without_dashes text))
 token_of Doctype text = DoctypeIs (doctype_of text)

@@ -1,4 +1,4 @@
-//! Tags that are nothing but their names, as the reader finds them.
+//! Tags with only a name, found faster.
 ghost use Rattle.std.specs.Prelude.{◌≡◌, IfSome};
 ghost use Rattle.h5_reading.specs.Lines.{newlines_passed};
 ghost use Rattle.h5_tokenizer.specs.Bare.{BeginsBare};
@@ -7,8 +7,8 @@ use super::front::Mode;
 use super::state::Search;
 use h5_token::TagKind;
 
-/// The kind and the name of the tag at the front, and what follows it, where it is nothing but its name and its end
-/// wasn't looked for before.
+/// Returns the kind and the name of the tag at the start of the text, and what follows it, if the tag has only a name and no
+/// search for its end has begun.
 #[inline(always)]
 pub fn find_bare<'a>(
     mode: Mode,

@@ -32,7 +32,7 @@ fn unfinished(alloc: Global, construct: Construct, inner: &str) -> Result<Option
     }
 }
 
-// The token that the end makes of an undecided rest, if it makes one.
+// Returns the token that the end of the input makes of an undecided suffix, if any.
 fn settle(
     alloc: Global,
     mode: Mode,
@@ -54,8 +54,8 @@ fn settle(
     }
 }
 
-/// Hands on what the end makes of the undecided rest, with the line in which that begins, and the end of the file,
-/// with the line behind it, and tells the sink.
+/// Passes the token of the undecided suffix to the sink, with the line in which that begins, then the end-of-file token, with
+/// the line after the suffix, and calls the sink's `end`.
 pub fn close<S: TokenSink>(
     sink: &mut S,
     state: &State,

@@ -1,4 +1,4 @@
-//! What stands at the front of the input, in each state.
+//! What the input begins with, in each state.
 ghost use Rattle.std.specs.Prelude.{◌≡◌, Bool};
 ghost use Rattle.h5_markup.specs.Matching.{and_then, or_else, Found};
 ghost use Rattle.h5_markup.specs.MatchOf.{match_of};
@@ -9,17 +9,17 @@ ghost use Rattle.h5_markup.specs.Text as t;
 use h5_markup::{Match, cleaned, escape, literal, name_is, newline, peek_letter, reference, word};
 use h5_token::states::RawKind;
 
-/// The states that are told apart between two tokens.
+/// The states of the plain tokenizer between two tokens.
 #[derive(Clone, Copy, Debug, PartialEq, Eq)]
 pub enum Mode {
     Data,
     RawData(RawKind),
     Plaintext,
-    /// Inside a CDATA part.
+    /// In a CDATA section.
     Cdata,
 }
 
-/// What goes up to a `>`.
+/// The constructs that a `>` ends.
 #[derive(Clone, Copy, Debug, PartialEq, Eq)]
 pub enum Construct {
     Comment,
@@ -30,11 +30,11 @@ pub enum Construct {
     RawEndTag,
 }
 
-/// How something other than plain text begins.
+/// The beginning of something other than plain text.
 #[derive(Drop)]
 pub enum Opening {
     Begins(Construct),
-    /// This text stands for it.
+    /// Something that this text replaces.
     Gives(&'static str),
     Null,
     Turns(Mode),
@@ -115,7 +115,7 @@ fn declaration<'a>(foreign: bool, text: &'a str) -> Match<'a, Opening>
     }
 }
 
-// What begins with `<`.
+// Finds what begins with `<`.
 fn markup<'a>(foreign: bool, text: &'a str) -> Match<'a, Opening>
     ensures { match_of opening_of result
         ≡ or_else (f.comment text.now) (or_else (f.doctype text.now) (or_else (f.cdata foreign text.now)
@@ -184,7 +184,7 @@ fn in_cdata<'a>(text: &'a str) -> Match<'a, Opening>
     }
 }
 
-/// What is more than a byte of plain text.
+/// Finds the beginning of something other than a byte of plain text, at the start of the text.
 #[inline(always)]
 pub fn find_opening<'a>(mode: Mode, last: &str, foreign: bool, text: &'a str) -> Match<'a, Opening>
     ensures { match_of opening_of result ≡ f.opening mode last.now foreign text.now }

@@ -1,4 +1,4 @@
-//! Laws of what the reader hands on, each the contract of a function that does nothing.
+//! The laws of readings. Each is the contract of a function that does nothing.
 ghost use Rattle.std.specs.Prelude.{◌≡◌, ℕ, Bool, true, List, ◌++◌};
 ghost use Rattle.h5_token.specs.Reply.{Reply};
 ghost use Rattle.h5_token.specs.TokenText.{TokenText};
@@ -10,21 +10,22 @@ ghost use Rattle.h5_tokenizer.specs.Read.{Read};
 pub use h5_reading::Likeness;
 use h5_token::TokenSink;
 
-/// Reading hands on no parse errors and no empty texts, over any taker of tokens.
+/// A reading emits no parse errors and no empty texts, over any token sink.
 pub fn no_errors_and_no_empty_texts<S: TokenSink>()
     ensures { (p : ReaderPlace) (m : S.Meaning) (xs : List ℕ) (ts : List TokenText) (reply : Reply) (q : ReaderPlace) (n : S.Meaning) (ys : List ℕ) →
         Read S.reply_to S.after S.is_foreign p m xs ts reply q n ys → AreProper ts }
 {}
 
-/// What was read is read so whatever follows: a piece that is read early is read as in the whole input.
+/// If an input was read, it is read in the same way whatever follows it. So a chunk that is read early is read as in the whole
+/// input.
 pub fn reading_goes_on<S: TokenSink>()
     ensures { (p : ReaderPlace) (m : S.Meaning) (xs : List ℕ) (ts : List TokenText) (reply : Reply) (q : ReaderPlace) (n : S.Meaning) (ys more : List ℕ) →
         Read S.reply_to S.after S.is_foreign p m xs ts reply q n ys
         → Read S.reply_to S.after S.is_foreign p m (xs ++ more) ts reply q n (ys ++ more) }
 {}
 
-/// One reading, and then another from where it came to, are one reading of both lists of tokens. Its last
-/// answer is the second's, if that has one.
+/// A reading and another from where it ended are together a reading of both lists of tokens. If the second reading's last reply
+/// lets tokenization go on, so does that of both.
 pub fn readings_join<S: TokenSink>()
     ensures { (p : ReaderPlace) (m : S.Meaning) (xs : List ℕ) (ts : List TokenText) (reply : Reply) (q : ReaderPlace) (n : S.Meaning) (ys : List ℕ)
         (us : List TokenText) (next : Reply) (r : ReaderPlace) (o : S.Meaning) (zs : List ℕ) →
@@ -45,8 +46,8 @@ ghost use Rattle.h5_tokenizer.specs.Outcome.{Feeds};
 ghost use Rattle.h5_tokenizer.specs.ReaderText.{ReaderText};
 ghost use Rattle.h5_tokenizer.specs.Whole.{closing, HasRead, Readings, ReadsToEnd};
 
-/// Readings, and then one of what they left and of more input behind it, are readings of the whole input.
-/// So what calls of `feed` read in turn is read of all that was fed, one piece behind the other.
+/// Readings, followed by one of what they left and of more input, are readings of the whole input. So calls of `feed` one after
+/// another read all that was fed, with its chunks joined.
 pub fn pieces_join<S: TokenSink>()
     ensures { (p : ReaderPlace) (m : S.Meaning) (xs : List ℕ) (ts : List TokenText) (q : ReaderPlace) (n : S.Meaning) (ys more : List ℕ)
         (us : List TokenText) (reply : Reply) (r : ReaderPlace) (o : S.Meaning) (zs : List ℕ) →
@@ -56,8 +57,8 @@ pub fn pieces_join<S: TokenSink>()
         → Readings S.reply_to S.after S.is_foreign p m (xs ++ more) (ts ++ us) r o zs }
 {}
 
-/// The same of a call of `feed` that goes well: what waits then, held or in the queue, is what is left of all
-/// that was fed.
+/// If a call of `feed` succeeds after readings, all that was fed has been read, except what the tokenizer holds and what is in
+/// the queue.
 pub fn feeds_join<S: TokenSink>()
     ensures { (p : ReaderPlace) (m : S.Meaning) (xs more : List ℕ) (q : ReaderPlace) (n : S.Meaning) (ys : List ℕ)
         (new : ReaderText) (o : S.Meaning) (queue : List ℕ) (answer : TokenizerResult S.Handle) →
@@ -66,9 +67,9 @@ pub fn feeds_join<S: TokenSink>()
         → HasRead S.reply_to S.after S.is_foreign p m (xs ++ more) new.place o (new.held ++ queue) }
 {}
 
-/// A reading comes to the line in which it began and the newlines of what it passed, and so do readings. The line behind
-/// what is left is then the line behind the whole input. So where reading begins in line 1, each token is told with 1
-/// and the newlines before its first character, and the end of the file with 1 and all newlines.
+/// A reading ends in the line in which it began plus the newlines of what it read, and so do readings. The line after what is
+/// left is then the line after the whole input. So if a reading begins in line 1, the line of each token is 1 plus the newlines
+/// before its first character, and that of the end-of-file token is 1 plus all newlines.
 pub fn lines_are_counted<S: TokenSink>()
     ensures reading { (p : ReaderPlace) (m : S.Meaning) (xs : List ℕ) (ts : List TokenText) (reply : Reply) (q : ReaderPlace) (n : S.Meaning) (ys : List ℕ) →
         p.line ≤ u64.MAX → Read S.reply_to S.after S.is_foreign p m xs ts reply q n ys → q.line ≡ line_behind p.line xs ys }
@@ -77,12 +78,12 @@ pub fn lines_are_counted<S: TokenSink>()
         → (q.line ≡ line_behind p.line xs ys) × (line_behind q.line ys [] ≡ line_behind p.line xs []) }
 {}
 
-/// Nothing is decided where no input is left.
+/// If no input is left, nothing is decided.
 pub fn nothing_is_undecided()
     ensures { (p : ReaderPlace) (foreign : Bool) → IsUndecided p foreign [] }
 {}
 
-/// Readings up to an undecided rest, and then the end, read the input to its end.
+/// Readings up to an undecided suffix, and then the end, read the input to its end.
 pub fn the_end_ends_readings<S: TokenSink>()
     ensures { (p : ReaderPlace) (m : S.Meaning) (xs : List ℕ) (ts : List TokenText) (q : ReaderPlace) (n : S.Meaning) (ys : List ℕ) (o : S.Meaning) →
         Readings S.reply_to S.after S.is_foreign p m xs ts q n ys
@@ -91,11 +92,11 @@ pub fn the_end_ends_readings<S: TokenSink>()
         → ReadsToEnd S.reply_to S.after S.is_foreign S.ended p m xs (ts ++ closing (settle q.mode q.last (S.is_foreign n) ys)) o }
 {}
 
-/// How an input is cut doesn't matter: two readings of it to its end, over two meanings of a sink that are
-/// alike, hand on lists of tokens that differ in cuts of texts alone, and leave meanings that are alike.
+/// How an input is split doesn't matter: two readings of it to its end, over two equivalent meanings of a sink, emit lists of
+/// tokens that differ only in how texts are split, and leave equivalent meanings.
 ///
-/// That holds for every equivalence of meanings that is kept by equal tokens, gives equal answers, and sees neither
-/// how a text is cut nor lines.
+/// This holds for every equivalence that equal tokens keep, whose equivalent meanings give equal replies, and which depends
+/// neither on how texts are split nor on lines.
 pub fn cuts_of_the_input_agree<S: TokenSink, L: Likeness>()
     ensures { (see : S.Meaning → L.Seen) →
         IsBlindToCuts S.reply_to S.after S.is_foreign S.ended (λ m n. L.alike (see m) (see n))

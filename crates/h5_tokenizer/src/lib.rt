@@ -1,15 +1,15 @@
-//! The plain reader: from text to tokens, for every taker of tokens. It reads one exact subset of HTML (HTML standard,
-//! section 13.2.5).
+//! The plain tokenizer: from text to tokens, for any token sink. It reads one exact subset of HTML (HTML standard, section
+//! 13.2.5).
 //!
-//! `tokenizer` has the reader over what takes its tokens, and `reader` the reader apart from that. `front` finds what
-//! stands at the front of the input, `plain` takes text, `bare` tags that are nothing but their names, and `tokens`
-//! makes tokens. `steps` takes one step and `run` one after another, and `ending` has the end of the input. `laws` has
-//! what holds of readings, as that no cut of the input matters to a taker that doesn't see how texts are cut.
+//! `tokenizer` has the tokenizer with its sink, and `reader` the rest of its state. `front` finds what the input begins with,
+//! `plain` takes text, `bare` finds tags with only a name, and `tokens` makes tokens. `steps` takes one step, `run` takes steps
+//! one after another, and `ending` handles the end of the input. `laws` has the laws of readings, among them that it doesn't
+//! matter how the input is split.
 //!
-//! It stands on tokens, on `h5_markup`, and on `h5_reading` for what every reader has: text that waits, options, lines, the
-//! length of plain text. The parser in `h5_driver` puts it over the builder, and `h5_round_trip` has what it reads of a document that
-//! was written. Begin with `specs/Front.antt` (what stands at the front) and `specs/Read.antt` (what is handed on, and where
-//! reading stops), then `src/steps.rt`.
+//! This crate depends on tokens, on `h5_markup`, and on `h5_reading` for what the tokenizers have in common. The parser in
+//! `h5_driver` runs it over the tree builder; `h5_round_trip` has what it reads of a serialized document. Begin with
+//! `specs/Front.antt` (what the input begins with) and `specs/Read.antt` (what is emitted, and where reading stops), then
+//! `src/steps.rt`.
 #![tactic(auto)]
 
 mod bare;

@@ -1,4 +1,4 @@
-//! Text, up to what is more than that.
+//! Text, up to what isn't plain text.
 ghost use Rattle.std.specs.Prelude.{◌≡◌, List, [], ℕ, Bool, true, IfOk, IfSome, ◌<◌, ◌≤◌, length};
 ghost use Rattle.std.specs.String.{string_bytes};
 ghost use Rattle.std.specs.Option.{option_copied};
@@ -15,7 +15,8 @@ use h5_reading::count_plain;
 use memchr::memchr;
 use std::alloc::{AllocError, Global};
 
-/// Takes text where nothing else stands: all that is plain, or one byte that might have begun something.
+/// Takes text where nothing else begins: all that is plain, or one byte that might have begun something. The text must not be
+/// empty.
 #[inline(always)]
 pub fn take_plain<'a>(text: &'a str, out: &mut String) -> Result<&'a str, AllocError>
     requires { 0 < length text.now }
@@ -33,11 +34,11 @@ pub fn take_plain<'a>(text: &'a str, out: &mut String) -> Result<&'a str, AllocE
 pub struct Plain<'a> {
     pub front: &'a str,
     pub after: &'a str,
-    /// How many newlines are in it.
+    /// The number of newlines in the plain text.
     pub lines: u64,
 }
 
-/// The plain text at the front and what follows it, where there is some.
+/// Splits a text after the plain text at its start, if there is any.
 #[inline(always)]
 pub fn cut_plain<'a>(text: &'a str) -> Option<Plain<'a>>
     ensures begins { IfSome result (λ plain. (mode : Mode) (last : List ℕ) (foreign : Bool)
@@ -56,10 +57,10 @@ pub fn cut_plain<'a>(text: &'a str) -> Option<Plain<'a>>
     })
 }
 
-// How far a text is looked ahead for the tag behind it.
+// How many bytes of the text are searched for the next tag.
 const AHEAD: usize = 1024;
 
-// How many bytes come before the next tag, as far as that is looked for.
+// Returns the number of bytes before the next tag, as far as it is searched for.
 fn length_ahead(text: &str) -> usize
     ensures { result ≤ 1024 }
 {
@@ -71,7 +72,8 @@ fn length_ahead(text: &str) -> usize
     }
 }
 
-/// A text that begins with this front, with room for what comes before the next tag, which belongs to it mostly.
+/// Returns a text that begins with `front`, with room for what comes before the next tag, since that mostly belongs to the
+/// text.
 pub fn begin_long(alloc: Global, front: &str, after: &str) -> Result<String, AllocError>
     ensures { IfOk result (λ text. string_bytes text ≡ front.now) }
 {
@@ -80,7 +82,7 @@ pub fn begin_long(alloc: Global, front: &str, after: &str) -> Result<String, All
     Ok(text)
 }
 
-/// A text that begins with this front. A reference behind it goes on with it.
+/// Returns a text that begins with `front`. If a reference follows, it will continue the text.
 #[inline(always)]
 pub fn begin_text(alloc: Global, front: &str, after: &str) -> Result<String, AllocError>
     ensures { IfOk result (λ text. string_bytes text ≡ front.now) }
@@ -91,7 +93,7 @@ pub fn begin_text(alloc: Global, front: &str, after: &str) -> Result<String, All
     }
 }
 
-// Takes text where the search found nothing but text.
+// Takes text if the search found nothing but text.
 fn take_bit<'a>(
     found: Match<'a, Opening>,
     text: &'a str,
@@ -115,7 +117,7 @@ fn take_bit<'a>(
     }
 }
 
-// Whether a tag begins here in the state "data". Most texts end so, and nothing else needs to be looked for then.
+// Returns true if a tag begins here in the data state. Most texts end this way, and then nothing else is tested.
 fn is_at_tag(mode: Mode, text: &str) -> bool {
     match text.as_bytes() {
         [b'<', b'/', b, ..] | [b'<', b, ..] => mode == Mode::Data && b.is_ascii_alphabetic(),
@@ -123,7 +125,7 @@ fn is_at_tag(mode: Mode, text: &str) -> bool {
     }
 }
 
-// Takes text where some stands.
+// Takes a part of text, if there is one.
 #[inline(always)]
 fn take_some<'a>(
     mode: Mode,
@@ -153,7 +155,7 @@ pub fn take_texts<'a>(
 {
     let mut rest = text;
     while let Some(after) = take_some(mode, last, rest, out)? {
-        // That it is text holds for the loop's next turn.
+        // For the loop's next turn: `after` is UTF-8.
         let _bytes = after.as_bytes();
         rest = after;
     }

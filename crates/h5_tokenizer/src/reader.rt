@@ -1,4 +1,4 @@
-//! The reader, apart from what takes its tokens.
+//! The tokenizer without its sink.
 ghost use Rattle.std.specs.Prelude.{◌≡◌, ◌++◌, [], true, false, length};
 ghost use Rattle.h5_reading.specs.Stops.{result_of};
 ghost use Rattle.h5_tokenizer.specs.Outcome.{Feeds};
@@ -11,11 +11,11 @@ use std::alloc::Global;
 use std::marker::Model;
 use std::mem;
 
-/// Where the reader is, what it keeps undecided, and whether it still reads.
+/// The tokenizer's state and undecided input, and whether it has ended or failed.
 pub struct Reader {
     pub state: State,
     pub held: BufferQueue,
-    // How far the end of what stands at the front of it was looked for.
+    // How far the end of the construct at the start of `held` was searched for.
     pub search: Option<Search>,
     pub stage: Stage,
 }
@@ -51,7 +51,7 @@ impl Reader {
     }
 }
 
-/// Reads what is held and what waits in the queue.
+/// Reads what is held and what is in the queue.
 pub fn read<S: TokenSink>(
     sink: &mut S,
     reader: &mut Reader,
@@ -61,7 +61,7 @@ pub fn read<S: TokenSink>(
     ensures { Feeds S.reply_to S.after S.is_foreign S.node reader.old.place (S.meaning sink.old) (reader.old.held ++ input.old)
         reader.new (S.meaning sink.new) input.new result }
 {
-    // Until the call has gone well.
+    // In case the call fails.
     reader.stage = Stage::Failed;
     let search = reader.search.take();
     let mut buffer = mem::replace(&mut reader.held, BufferQueue::new(alloc));

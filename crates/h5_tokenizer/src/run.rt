@@ -8,7 +8,7 @@ use h5_markup::{Match, literal};
 use h5_token::{BuildFault, TokenSink};
 use std::alloc::Global;
 
-// Steps up to an answer that stops the reader, or to a front that what follows decides.
+// Takes steps until a reply stops the tokenizer, or further input decides what comes next.
 fn run<'a, S: TokenSink>(
     sink: &mut S,
     state: &mut State,
@@ -32,7 +32,7 @@ fn run<'a, S: TokenSink>(
             }
             Turn::Goes(after, lines) => {
                 state.line = state.line.saturating_add(lines);
-                // That it is text holds for the loop's next turn.
+                // For the loop's next turn: `after` is UTF-8.
                 let _bytes = after.as_bytes();
                 rest = after;
                 search = None;
@@ -41,7 +41,7 @@ fn run<'a, S: TokenSink>(
     }
 }
 
-// Passes the byte order mark, where one may come and does. Nothing, if what follows decides that.
+// Skips the byte order mark, if one is allowed and there. Returns nothing if further input decides that.
 fn skip_mark<'a>(
     state: &mut State,
     text: &'a str,
@@ -66,8 +66,8 @@ fn skip_mark<'a>(
     }
 }
 
-/// Steps up to an answer that stops the reader, or to a front that what follows decides. The byte order
-/// mark is passed first.
+/// Skips the byte order mark, if there is one, and takes steps until a reply stops the tokenizer, or further input decides what
+/// comes next.
 pub fn run_from<'a, S: TokenSink>(
     sink: &mut S,
     state: &mut State,

@@ -1,50 +1,50 @@
-//! Where the reader is, and what a step comes to.
+//! The state of the tokenizer, and the results of steps.
 ghost use Rattle.std.specs.Prelude.{◌≡◌};
 
 use super::front::Mode;
 use h5_markup::{Inside, SharedNames};
 use h5_reading::{LastName, Stop};
 
-/// Where the reader is between two tokens.
+/// The state of the tokenizer between two tokens.
 #[derive(Drop)]
 pub struct State {
-    /// Whether a byte order mark may still come.
+    /// True if a byte order mark may still come.
     pub at_start: bool,
     pub mode: Mode,
     /// The last start tag's name, or the empty text.
     pub last: LastName,
-    /// The line in which what comes next begins. It stays at the most a `u64` holds.
+    /// The line in which the next token begins. It stops at the maximum of `u64`.
     pub line: u64,
     /// The names that HTML doesn't know.
     pub names: SharedNames,
 }
 
-/// How far the end of the construct at the front was looked for.
+/// How far the end of the construct at the start was searched for.
 #[derive(Clone, Copy)]
 pub struct Search {
-    /// What the sink said of CDATA parts when its opening was found.
+    /// The sink's reply about CDATA sections when the construct's opening was found.
     pub foreign: bool,
-    /// How many bytes behind the opening were looked at.
+    /// How many bytes after the opening were searched.
     pub at: usize,
-    /// Where in the construct the next byte stands.
+    /// Where in the construct the next byte is.
     pub place: Inside,
 }
 
-/// What a step comes to.
+/// The result of a step.
 #[derive(Drop)]
 pub enum Turn<'a, H> {
-    /// What follows decides the front.
+    /// Further input decides what the input begins with.
     Waits(Option<Search>),
-    /// Reading goes on here, behind so many newlines.
+    /// Tokenization goes on with this input, after the given number of newlines.
     Goes(&'a str, u64),
-    /// The reader stops here, behind so many newlines.
+    /// Tokenization stops before this input, after the given number of newlines.
     Stops(Stop<H>, &'a str, u64),
 }
 
-/// Where steps come to.
+/// The result of steps.
 #[derive(Drop)]
 pub enum Halt<'a, H> {
-    /// What follows decides the front.
+    /// Further input decides what the input begins with.
     Waits(&'a str, Option<Search>),
     Stops(Stop<H>, &'a str),
 }

@@ -1,4 +1,4 @@
-//! One step of the reader: the token at the front is handed on, or a part that is none is passed.
+//! One step of the tokenizer: passes the next token to the sink, or skips a part that emits no token.
 ghost use Rattle.std.specs.Prelude.{◌≡◌, ℕ, false, [], length, ◌<◌};
 ghost use Rattle.std.specs.String.{string_bytes};
 ghost use Rattle.h5_markup.specs.Matching as m;
@@ -28,7 +28,7 @@ fn chosen_mode<H>(answer: &TokenSinkResult<H>) -> Mode
     }
 }
 
-// Hands a tag on, and goes where it and the answer lead.
+// Passes a tag to the sink, and changes the state as the tag and the reply say.
 #[inline(never)]
 fn hand_on_tag<S: TokenSink>(
     sink: &mut S,
@@ -53,7 +53,7 @@ fn hand_on_tag<S: TokenSink>(
     }
 }
 
-// Hands a token on, and goes where it and the answer lead.
+// Passes a token to the sink, and changes the state as the token and the reply say.
 fn hand_on<S: TokenSink>(
     sink: &mut S,
     state: &mut State,
@@ -71,7 +71,7 @@ fn hand_on<S: TokenSink>(
     }
 }
 
-// Hands a text on, which leads nowhere else.
+// Passes a text to the sink, which doesn't change the state.
 fn hand_on_text<S: TokenSink>(
     sink: &mut S,
     state: &State,
@@ -99,7 +99,7 @@ ghost use Rattle.h5_reading.specs.Lines.{newlines_passed};
 ghost use Rattle.h5_tokenizer.specs.Tokens.{start_of};
 ghost use Rattle.h5_tokenizer.specs.Steps.{fresh};
 
-// A whole token stands at the front.
+// The step of a whole token at the start.
 #[inline(always)]
 fn token_step<'a, S: TokenSink>(
     sink: &mut S,
@@ -118,7 +118,7 @@ fn token_step<'a, S: TokenSink>(
     Ok(turn(stopped, after, newlines_passed(rest, after)))
 }
 
-// A tag that is nothing but its name stands at the front.
+// The step of a tag with only a name at the start.
 #[inline(always)]
 fn tag_step<'a, S: TokenSink>(
     sink: &mut S,
@@ -139,7 +139,7 @@ fn tag_step<'a, S: TokenSink>(
     Ok(turn(stopped, after, 0))
 }
 
-// A text has begun, behind so many newlines.
+// The step of a text that has begun, after the given number of newlines.
 #[inline(always)]
 fn text_step<'a, S: TokenSink>(
     sink: &mut S,
@@ -161,7 +161,7 @@ fn text_step<'a, S: TokenSink>(
     Ok(turn(stopped, end, lines + newlines_passed(after, end)))
 }
 
-// A construct has begun, and its end is looked for.
+// The step of a construct that has begun: searches for its end.
 fn construct_step<'a, S: TokenSink>(
     sink: &mut S,
     state: &mut State,
@@ -206,7 +206,7 @@ fn start_of(construct: Construct) -> Inside
     }
 }
 
-// The search to go on with: the last one, where it was for the same front.
+// Returns the search to continue: the last one, if it was for the same construct.
 fn resumed(search: Option<Search>, foreign: bool, construct: Construct) -> Search
     ensures { (result ≡ fresh foreign construct) ⊎ ((search ≡ Some result) × (result.foreign ≡ foreign)) }
 {
@@ -222,7 +222,7 @@ fn resumed(search: Option<Search>, foreign: bool, construct: Construct) -> Searc
     }
 }
 
-// A step, whatever stands at the front.
+// A step, whatever the input begins with.
 fn any_step<'a, S: TokenSink>(
     sink: &mut S,
     state: &mut State,
@@ -261,7 +261,7 @@ fn any_step<'a, S: TokenSink>(
     }
 }
 
-/// One step, unless what follows decides the front. The line stays as it is.
+/// Takes one step, unless further input decides what the input begins with. Doesn't change the line.
 pub fn step<'a, S: TokenSink>(
     sink: &mut S,
     state: &mut State,

@@ -1,4 +1,4 @@
-//! The reader, over what takes its tokens.
+//! The tokenizer with its sink.
 ghost use Rattle.std.specs.Prelude.{◌≡◌, ◌++◌, [], Err, OnErr};
 ghost use Rattle.h5_tokenizer.specs.End.{Closes, ClosedAs};
 ghost use Rattle.h5_tokenizer.specs.Outcome.{Feeds};
@@ -13,9 +13,9 @@ use h5_reading::{BufferQueue, LastName, Stage, TokenizerOpts, TokenizerResult};
 use h5_token::{BuildFault, TokenSink, states};
 use std::alloc::Global;
 
-/// The plain reader. It reads newlines, the byte order mark, comments, doctypes, CDATA parts, tags with
-/// attributes, five character references and the text of raw elements, and leaves out the rest of the
-/// standard's tokenizer (HTML standard, section 13.2.5).
+/// The plain tokenizer. It reads newlines, the byte order mark, comments, doctypes, CDATA sections, tags with attributes, five
+/// character references and the text of raw elements, and leaves out the rest of the standard's tokenizer (HTML standard,
+/// section 13.2.5).
 #[derive(Drop)]
 pub struct Tokenizer<Sink: TokenSink> {
     pub sink: Sink,
@@ -35,7 +35,7 @@ fn mode_of(state: Option<states::State>) -> Mode
 }
 
 impl<Sink: TokenSink> Tokenizer<Sink> {
-    /// A reader that has read nothing, and whose first line is 1. It takes no memory.
+    /// Returns a new tokenizer, in line 1. Allocates nothing.
     pub fn new(alloc: Global, sink: Sink, opts: TokenizerOpts) -> Tokenizer<Sink>
         ensures sink { result.sink ≡ sink }
         ensures reader { result.reader ≡ record { place = first_place opts; held = []; stage = Stage.Reading } }
@@ -68,20 +68,19 @@ impl<Sink: TokenSink> Tokenizer<Sink> {
         }
     }
 
-    /// Reads what waits in the queue, and hands on each token that is decided, with the line in which it begins:
-    /// 1 and the newlines before its first character in all that was fed. CR LF, CR and LF are one newline each,
-    /// and the count stays at the most a `u64` holds.
+    /// Reads the queue, and passes each decided token to the sink, with the line in which it begins: 1 plus the newlines before
+    /// its first character in all that was fed. CR LF, CR and LF are one newline each, and the count stops at the maximum of
+    /// `u64`.
     ///
-    /// Where it answers `Done` the queue is empty, and all is handed on but an undecided rest: a CR at the
-    /// end, or a front off which no step can be taken that is right whatever input follows. Where it
-    /// answers `Script` or `EncodingIndicator`, that is the sink's answer to the last token, and what
-    /// follows it is in the queue. A fault of the sink is answered as it is; after any fault the reader
-    /// has failed.
+    /// If it returns `Done`, the queue is empty, and all was passed except an undecided suffix: a CR at the end, or input on
+    /// which no step is right for every input that may follow. `Script` or `EncodingIndicator` is the sink's reply to the last
+    /// token; what follows that is in the queue. Fails with the sink's error, or with `Memory`, and after any error the
+    /// tokenizer has failed. Fails with `Failed` if a call failed before, and with `AfterEnd` after `end`.
     pub fn feed(
         &mut self,
         input: &mut BufferQueue,
     ) -> Result<TokenizerResult<Sink::Handle>, BuildFault>
-        // After a fault, and after the end, nothing is handed on and nothing changes.
+        // After an error, and after the end, nothing is passed and nothing changes.
         ensures failed { self.old.reader.stage ≡ Stage.Failed
             → (result ≡ Err BuildFault.Failed) × (self.new ≡ self.old) × (input.new ≡ input.old) }
         ensures after_end { self.old.reader.stage ≡ Stage.Ended
@@ -97,12 +96,11 @@ impl<Sink: TokenSink> Tokenizer<Sink> {
         }
     }
 
-    /// Hands on what the end makes of the undecided rest, with the line in which that begins, and then the end of
-    /// the file, with the line behind all that was fed, and tells the sink of the end.
+    /// Passes what the end of the input makes of the undecided suffix to the sink, with the line in which that begins, then the
+    /// end-of-file token, with the line after all that was fed, and calls the sink's `end`.
     ///
-    /// An unfinished comment is given, an unfinished tag or doctype is dropped, and any other rest is
-    /// text. A fault of the sink is answered as it is; after any fault the reader has failed. After the end
-    /// both calls answer `AfterEnd`.
+    /// An unfinished comment is emitted, an unfinished tag or doctype is dropped, and any other suffix is text. Fails like
+    /// `feed`. After the end both calls fail with `AfterEnd`.
     pub fn end(&mut self) -> Result<(), BuildFault>
         ensures failed { self.old.reader.stage ≡ Stage.Failed → (result ≡ Err BuildFault.Failed) × (self.new ≡ self.old) }
         ensures after_end { self.old.reader.stage ≡ Stage.Ended → (result ≡ Err BuildFault.AfterEnd) × (self.new ≡ self.old) }

@@ -1,4 +1,4 @@
-//! The tokens that comments, doctypes and tags are.
+//! The tokens of comments, doctypes and tags.
 ghost use Rattle.std.specs.Prelude.{◌≡◌, IfOk};
 ghost use Rattle.h5_token.specs.TokenText.{token_text};
 ghost use Rattle.h5_markup.specs.Ending.{place_after};
@@ -29,7 +29,7 @@ fn is_between(place: Inside) -> bool
     }
 }
 
-// Whether a tag ends in a `/` that belongs to no value.
+// Returns true if a tag ends in a `/` that isn't part of a value.
 fn is_self_closing(text: &str, place: Inside) -> bool
     requires { place_after Inside.TagName text.now ≡ place }
     ensures { result ≡ s.is_self_closing text.now }
@@ -70,7 +70,7 @@ fn make_end_tag(alloc: Global, names: &mut SharedNames, text: &str) -> Result<To
     }))
 }
 
-// A comment, by what stands between `<!--` and `>`: two dashes end it.
+// Makes a comment of the text between `<!--` and the final `>`, before which two dashes end it.
 fn make_comment(alloc: Global, text: &str) -> Result<Token, AllocError>
     ensures { IfOk result (λ token. token_text token ≡ s.token_of Construct.Comment text.now) }
 {
@@ -80,7 +80,8 @@ fn make_comment(alloc: Global, text: &str) -> Result<Token, AllocError>
     }
 }
 
-/// The token, by what stands between its opening and the `>` that ends it, and where in it the `>` stands.
+/// Makes the token of the text between a construct's opening and the `>` that ends it. `place` must be where in the construct
+/// the `>` is.
 #[inline(always)]
 pub fn make_token(
     alloc: Global,

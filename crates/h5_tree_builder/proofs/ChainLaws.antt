@@ -32,7 +32,7 @@ use Rattle.h5_tree_builder.specs.Chains.{CameTo, Left}
 pub ready_in_mode : (w : World) (m : InsertionMode) → w.mode ≡ m → is_before_root m ≡ false → Sound w → Fits w → HasHtmlRoot w
 ready_in_mode w m e after k h = record { sound = k; lists = h.lists; root = names_root_open (situation_of w) m (names_of w) after (subst (λ x. NamesFit (situation_of w) x (names_of w)) e h.mode) }
 
--- what a mode tells, where it is the world's
+-- what a mode says, if it is the world's
 pub fits_in_mode : (w : World) (m : InsertionMode) → w.mode ≡ m → Fits w → NamesFit (situation_of w) m (names_of w)
 fits_in_mode w m e h = subst (λ x. NamesFit (situation_of w) x (names_of w)) e h.mode
 
@@ -71,7 +71,7 @@ module _ {H : Type 0} (choices : SinkChoices) (node : H → ℕ) (t : TurnText) 
       told true h before = still_told choices node (dispatch choices t w) t w v b c (results.Reprocess m token) f (before h)
       told false h before = f.noted h
 
-  -- what the last turn does to the mark, from before it to behind it, and what is told of the flag then
+  -- what the last turn does to the mark, from before it to after it, and the error for the flag then
   record Ends (q : Bool) (b c d : ℕ) : Type 0 where
     quiet : (dispatch choices t w).quiet ≡ true → c ≡ b
     noted : (dispatch choices t w).quiet ≡ false → 0 < c
@@ -80,7 +80,7 @@ module _ {H : Type 0} (choices : SinkChoices) (node : H → ℕ) (t : TurnText) 
     told : q ≡ false → 0 < d
     rises : c ≤ d
 
-  -- the last turn, where no error is told after it but if the chain isn't quiet
+  -- the last turn, after which an error is reported only if the chain isn't quiet
   last : (a b c d n : ℕ) (answer : TokenSinkResult H) (q : Bool) → settle choices t w ≡ record { world = v; turns = 1; reply = reply node answer; quiet = (dispatch choices t w).quiet && q } → Ends q b c d
       → Left choices t first w a b n → CameTo node (settle choices t first) true v a d (record { turns = n + 1; answer = answer })
   last a b c d n answer q e ends l =
@@ -115,7 +115,7 @@ module _ {H : Type 0} (choices : SinkChoices) (node : H → ℕ) (t : TurnText) 
         rises = rises;
       }) l
 
-  -- where nothing is told of a flag
+  -- if no error for a flag is reported
   unflagged : (b c : ℕ) (result : TurnResult H) → Follows choices node (dispatch choices t w) t w v b c result → Ends true b c c
   unflagged b c result f = record { quiet = f.quiet; noted = f.noted; keeps = still_told choices node (dispatch choices t w) t w v b c result f; kept = λ h. refl; told = λ h. absurd (cc); rises = omega arith }
 

@@ -1,4 +1,4 @@
--- A turn in foreign content that goes by the rule of the mode after all.
+-- A turn in foreign content that is handled by the rule of the mode after all.
 use Rattle.std.proofs.Common.{◌≡◌, ◌<◌, ◌&&◌, ℕ, Bool, List, true, false, refl, Result, Ok, Err, IfOk, ap, sym, subst, ◌∙◌}
 use Rattle.std.specs.declared.alloc.AllocError.{AllocError}
 use Rattle.h5_interface.specs.SinkChoices.{SinkChoices}
@@ -76,7 +76,7 @@ module _ {H : Type 0} (choices : SinkChoices) (node : H → ℕ) (t : TurnText) 
       subst (λ x. Follows choices node x t w u a c result) (sym (dispatch_foreign choices t w h ∙ ap (λ x. row_of choices x t w) is))
       (after_changes quiet changes b before (subst (λ (x : World). Follows choices node (rule x.mode t x) t x u b c result) e f))
 
--- what holds of an answer holds of another, where one follows from the other
+-- what holds for an answer holds for another, where one follows from the other
 if_ok : {A E : Type 0} (result : Result A E) (P Q : A → Type 0) → ((a : A) → P a → Q a) → IfOk result P → IfOk result Q
 if_ok (Ok a) P Q f p = f a p
 if_ok (Err e) P Q f p = tt

@@ -1,4 +1,4 @@
--- A fragment's builder that took nothing yet: all stands, and the root fits the insertion mode that is reset to.
+-- A fragment's builder that took nothing yet: the world is sound, and the root fits the insertion mode that is reset to.
 use Rattle.std.proofs.Common.{◌≡◌, ℕ, Bool, ◌&&◌, if◌then◌else◌, cond, false, List, [], ◌∷◌, codes, Option, None, Some, option_map, refl, ap, sym, subst, ◌∙◌}
 use Rattle.std.specs.Prelude.{MatchOption}
 use Rattle.h5_names.specs.AttributeText.{is_same_text}
@@ -42,7 +42,7 @@ use Rattle.h5_tree_builder.specs.Fragment.{context_modes, context_world, fragmen
 use Rattle.h5_tree_builder.specs.Held.{IsKept}
 use Rattle.h5_plain.proofs.StartLaws.{lists_none, stands_none}
 
--- the form that is handed in is an element
+-- the given form is an element
 pub form_is_there : {H : Type 0} (node : H → ℕ) (f : Forest) (o : Option H) → MatchOption o (Unit {0}) (λ h. IsElement f (node h)) → (n : ℕ) → option_map node o ≡ Some n → IsElement f n
 form_is_there node f None k n e = absurd (cc)
 form_is_there node f (Some h) k n e = let same : node h ≡ n = cc in subst (IsElement f) same k

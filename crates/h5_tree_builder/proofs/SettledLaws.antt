@@ -1,4 +1,4 @@
--- What was settled, told of another world or in other words.
+-- `Settles` of an equal world, and in other words.
 use Rattle.std.proofs.Common.{◌≡◌, Bool, Result, IfOk, subst}
 use Rattle.std.specs.declared.alloc.AllocError.{AllocError}
 use Rattle.h5_interface.specs.declared.sink.TreeSink.{Ghosts}

@@ -115,7 +115,7 @@ module _ (choices : SinkChoices) (s : SplitStatus) (b : ℕ) (t : List ℕ) wher
   whole_in_body : ((w : World) → rule InBody T w ≡ in_body_text (b ∷ t) w) → Meets InBody
   whole_in_body f = by_body_meets InBody f (λ w. refl)
 
-  -- kept back, where texts of a table are
+  -- buffered, if texts of a table are
   kept_meets : Meets InTableText
   kept_meets w h e = ends InTableText w (row (AppendPendingText (b ∷ t) ∷ []) IsDone) h e refl refl
 
@@ -126,7 +126,7 @@ module _ (choices : SinkChoices) (s : SplitStatus) (b : ℕ) (t : List ℕ) wher
   text_quiet : (w : World) → is_foreign_text choices w ≡ false → w.mode ≡ Text → (settle choices T w).quiet ≡ true
   text_quiet w h e = ap (λ (x : Settled). x.quiet) (settle-text-row choices T w Text (row (AppendText (b ∷ t) ∷ []) IsDone) refl (same_question w ∙ h) e refl)
 
-  -- in a table, a row group and a row: kept back in two turns, or fostered in one
+  -- in a table, a row group and a row: buffered in two turns, or fostered in one
   table_meets : (m : InsertionMode) → ((w : World) → rule m T w ≡ in_table_text_or_null T w) → ((w : World) → text_in m choices (b ∷ t) w ≡ text_in_table choices (b ∷ t) w) → Meets m
   unfolding in_table_text_or_null text_in_table text_in_body
   table_meets m f is w h e = at (keeps_text w) (f w) (is w)
@@ -145,7 +145,7 @@ module _ (choices : SinkChoices) (s : SplitStatus) (b : ℕ) (t : List ℕ) wher
   others_meet : (m : InsertionMode) (f : List ℕ → World → World) → all_blanks (b ∷ t) ≡ [] → ((w : World) → rule m T w ≡ ignored) → ((w : World) → text_in m choices (b ∷ t) w ≡ if_any f (all_blanks (b ∷ t)) w) → Meets m
   others_meet m f none g is w h e = ends m w ignored h e (g w) refl ∙ sym (is w ∙ ap (λ x. if_any f x w) none)
 
-  -- in the body, a caption and a cell no error is told
+  -- in the body, a caption and a cell no error is reported
   by_body_quiet : (m : InsertionMode) → ((w : World) → rule m T w ≡ in_body_text (b ∷ t) w) → (w : World) → is_foreign_text choices w ≡ false → w.mode ≡ m → (settle choices T w).quiet ≡ true
   by_body_quiet m f w h e = ap (λ (x : Settled). x.quiet) (settle-text-row choices T w m (in_body_text (b ∷ t) w) refl (same_question w ∙ h) e (f w))
 

@@ -24,13 +24,13 @@ use Rattle.h5_plain.specs.Plain.{Flow, IsPlain, PlainDocument, document_tokens, 
 use Rattle.h5_plain.specs.Rebuilding.{DocumentStands, HoldsDocument}
 use Rattle.h5_tree_builder.specs.Chains.{is_free}
 
--- the view, the turns of the token that came last, and the sink's error mark
+-- the view, the turns of the last token, and the sink's mark of errors
 pub record Building : Type 0 where
   pub view : View
   pub turns : ℕ
   pub errors : ℕ
 
--- a builder that took nothing yet
+-- a new builder
 abbrev pub first_world : Seen → TreeBuilderOpts → World
 first_world seen opts = record {
   forest = seen.forest;
@@ -58,7 +58,7 @@ first_building seen opts = record {
   errors = seen.errors;
 }
 
--- at the end each open element is popped, from the current node on, and the sink is told
+-- at the end each open element is popped, from the current node on, and the sink is notified
 abbrev pub pop_each : SinkChoices → List ℕ → World → World
 pop_each choices [] w = w
 pop_each choices (n ∷ s) w = pop_each choices s (pop choices w)
@@ -69,7 +69,7 @@ all_popped choices w = pop_each choices w.stack w
 abbrev pub ended_view : SinkChoices → View → View
 ended_view choices v = record v { world = all_popped choices v.world; ended = true }
 
--- whether an element is open, and the adjusted current node isn't in the HTML namespace
+-- an element is open, and the adjusted current node isn't in the HTML namespace
 abbrev pub is_foreign_node : Forest → Option ℕ → Bool
 is_foreign_node f None = false
 is_foreign_node f (Some n) = not (is_same_text (name_in f n).ns html_namespace)
@@ -77,7 +77,7 @@ is_foreign_node f (Some n) = not (is_same_text (name_in f n).ns html_namespace)
 abbrev pub is_foreign_in : World → Bool
 is_foreign_in w = is_foreign_node w.forest (adjusted_current_node w)
 
--- what taking a token did: an answer, want of memory, or a refusal
+-- the token was taken, with this reply
 pub record Answered (choices : SinkChoices) (t : TokenText) (old new : Building) (answer : Reply) : Type 0 where
   pub view : new.view ≡ after_token choices t old.view
   pub reply : answer ≡ reply_to choices t old.view
@@ -89,12 +89,12 @@ pub record Answered (choices : SinkChoices) (t : TokenText) (old new : Building)
   pub unended : old.view.ended ≡ false
   pub comes : refuses_in old.view.world.mode t ≡ false
 
--- the refusal that is due, and nothing has changed
+-- the token was refused for the right reason, and nothing has changed
 pub record Refused (t : TokenText) (old new : Building) (fault : BuildFault) : Type 0 where
   pub due : refusal old.view t ≡ Some fault
   pub same : new ≡ old
 
--- every later token is refused then
+-- an allocation failed; every later token is refused
 pub record OutOfMemory (t : TokenText) (old new : Building) : Type 0 where
   pub working : old.view.failed ≡ false
   pub unended : old.view.ended ≡ false
@@ -111,7 +111,7 @@ Takes choices node t old new (Err AfterEnd) = Refused t old new AfterEnd
 Takes choices node t old new (Err NotInText) = Refused t old new NotInText
 Takes choices node t old new (Err Failed) = Refused t old new Failed
 
--- a refusal changes nothing at all, in the sink neither
+-- a refusal changes nothing, neither in the builder nor in the sink
 abbrev pub IsKeptWhole : {A B : Type 0} → A → A → Result B BuildFault → Type 0
 IsKeptWhole old new (Err AfterEnd) = new ≡ old
 IsKeptWhole old new (Err NotInText) = new ≡ old
@@ -125,8 +125,8 @@ pub record Replied (choices : SinkChoices) (t : TokenText) (old new : Building) 
   pub turns : CountsTurns (told_of choices t old.view).turns old.turns new.turns
   pub quiet : is_quiet choices t old.view ≡ true → new.errors ≡ old.errors
 
--- what taking a list did: the run of the whole list, one reply for each token, and the turns of the last that was taken;
--- and however its texts are cut, the run of the list with its neighbouring texts joined, each piece of a text with the text's reply
+-- one call for a list: the run of the whole list, one reply for each token, and the turns of the last token that was
+-- taken. It is also the run of the list with its neighbouring texts joined, each text of a run with the run's reply
 pub record RanAll (choices : SinkChoices) (ts : List TokenText) (old new : Building) (answers : List Reply) : Type 0 where
   pub view : new.view ≡ after_all choices ts old.view
   pub told : answers ≡ replies choices ts old.view
@@ -135,16 +135,16 @@ pub record RanAll (choices : SinkChoices) (ts : List TokenText) (old new : Build
   pub joined : new.view ≡ after_all choices (join ts) old.view
   pub spread : answers ≡ spread ts (replies choices (join ts) old.view)
 
--- a plain document was rebuilt: it stands in the forest, in no quirks, the answers were those to a plain document's
--- tokens, and no parse error was told, if no blank text stands in a table
+-- a plain document was rebuilt: the forest has it, in no-quirks mode; the replies are those to a plain document's
+-- tokens; and no parse error was reported if no whitespace text is in a table
 pub record Rebuilt (ts : List TokenText) (d : PlainDocument) (old new : Building) (answers : List Reply) : Type 0 where
   pub stands : DocumentStands new.view.world.forest d
   pub quirks : new.view.world.seen_quirks ≡ NoQuirks
   pub told : answers ≡ map plain_reply ts
   pub quiet : IsPlain false (Flow false nothing_open) d.blocks → new.errors ≡ old.errors
 
--- so it is where the tokens of a plain document, however its texts are cut, come to a builder that took
--- nothing yet, with the default options, over a sink that holds its document alone
+-- a new builder with the default options, over a sink with its document alone, rebuilds a plain document from its
+-- tokens, with their texts split in any way
 abbrev pub RebuildsPlain : List TokenText → (old new : Building) → List Reply → Type 0
 RebuildsPlain ts old new answers =
     (d : PlainDocument) (seen : Seen) → HoldsDocument seen.forest → old ≡ first_building seen default_options → join ts ≡ document_tokens d → Rebuilt ts d old new answers

@@ -1,4 +1,4 @@
--- A fragment's builder that took nothing yet (HTML standard, section 13.4, "Parsing HTML fragments").
+-- A new builder of a fragment (HTML standard, section 13.4, "Parsing HTML fragments").
 use Rattle.std.specs.Prelude.{ℕ, Bool, false, ◌&&◌, if◌then◌else◌, List, [], ◌∷◌, Option, Some, codes}
 use Rattle.h5_names.specs.AttributeText.{is_same_text}
 use Rattle.h5_names.specs.declared.qualified.QualName.{QualName}
@@ -16,7 +16,7 @@ use Rattle.h5_rules.specs.fitting.Reset.{reset_mode}
 use Rattle.h5_rules.specs.World.{World, name_in}
 use Rattle.h5_tree_builder.specs.Builder.{Building, first_world}
 
--- where the context is a template, "in template" is its template insertion mode
+-- the template insertion modes: "in template" if the context is a template
 abbrev pub context_modes : QualName → List InsertionMode
 context_modes name = if is_html_named (codes "template") name then InTemplate ∷ [] else []
 
@@ -25,7 +25,7 @@ abbrev pub context_world : Seen → (context : ℕ) → Option ℕ → TreeBuild
 context_world seen context form opts =
     record (first_world seen opts) { template_modes = context_modes (name_in seen.forest context); form = form; context = Some context }
 
--- then the root is made, the document's last child, and the insertion mode is reset
+-- the root is created, as the document's last child, and the insertion mode is reset
 abbrev pub rooted_world : SinkChoices → Seen → (context : ℕ) → Option ℕ → TreeBuilderOpts → World
 rooted_world choices seen context form opts = create_root choices [] (context_world seen context form opts)
 
@@ -40,7 +40,7 @@ first_fragment choices seen context form opts = record {
   errors = seen.errors;
 }
 
--- how the text of a fragment is read, by the local name of its context
+-- the tokenizer's state at the start of a fragment, by the local name of its context
 unfoldable pub rawtext_context_names : List (List ℕ)
 rawtext_context_names = codes "style" ∷ codes "xmp" ∷ codes "iframe" ∷ codes "noembed" ∷ codes "noframes" ∷ []
 
@@ -55,7 +55,7 @@ state_of_local scripting l =
     else (if is_same_text l (codes "noscript") && scripting then RawData Rawtext
     else (if is_same_text l (codes "plaintext") then Plaintext else Data))))
 
--- an element of another namespace is read as data
+-- for an element of another namespace it is the data state
 abbrev pub state_in_context : Bool → QualName → State
 state_in_context scripting name = if is_same_text name.ns html_namespace then state_of_local scripting name.local else Data
 

@@ -1,5 +1,4 @@
--- What a tree builder holds: its sink, its state, whether it has ended or failed, and the turns of the token
--- that came last.
+-- The fields of a tree builder: its sink, its state, that it has ended or failed, and the turns of the last token.
 use Rattle.std.specs.Prelude.{◌≡◌, ℕ, Bool, true, false, []}
 use Rattle.h5_interface.specs.Seen.{Seen}
 use Rattle.h5_interface.specs.declared.sink.TreeSink.{Ghosts}
@@ -16,7 +15,7 @@ pub record Held (S H : Type 0) : Type 0 where
   pub failed : Bool
   pub turns : ℕ
 
--- what holds at every moment, also after want of memory; where none was refused, the list of active formatting elements
+-- what holds at every moment, also after a failed allocation; if none failed, the list of active formatting elements
 -- agrees with the open elements, also after the end
 pub record IsKept {S H O : Type 0} (law : Ghosts S H O) (h : Held S H) : Type 0 where
   pub sound : IsSound law h.sink h.state
@@ -24,7 +23,7 @@ pub record IsKept {S H O : Type 0} (law : Ghosts S H O) (h : Held S H) : Type 0 
   pub lists : h.failed ≡ false → HasLists (world_of law h.sink h.state)
   pub closed : h.ended ≡ true → (world_of law h.sink h.state).stack ≡ []
 
--- what that means
+-- the fields as contracts see them
 abbrev pub building : {S H : Type 0} → (S → Seen) → (H → ℕ) → Held S H → Building
 building sees node h = record {
   view = record { world = world sees node h.sink h.state; ended = h.ended; failed = h.failed };

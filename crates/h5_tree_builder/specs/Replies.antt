@@ -1,4 +1,4 @@
--- Replies to a list of tokens, without where they lie in memory.
+-- Replies to a list of tokens, wherever they are in memory.
 use Rattle.std.specs.Prelude.{ℕ, List, map}
 use Rattle.h5_token.specs.Reply.{Reply as ReplyText, Refuses, reply}
 use Rattle.h5_token.specs.TokenText.{TokenText, token_text}
@@ -13,7 +13,7 @@ reply_text node (Refused fault) = Refuses fault
 abbrev pub reply_texts : {H : Type 0} → (H → ℕ) → List (Reply H) → List ReplyText
 reply_texts node = map (reply_text node)
 
--- the tokens of a list of tokens with their lines
+-- the tokens of a list of tokens and lines
 abbrev pub token_of : Token × ℕ → TokenText
 token_of pair = token_text pair.0
 

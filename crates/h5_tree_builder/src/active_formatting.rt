@@ -10,8 +10,8 @@ use h5_state::Listed;
 use h5_tables::FormatEntry;
 use h5_token::Tag;
 
-/// The active formatting elements from the newest to the last marker, each with its place in the list, counted
-/// from the oldest entry, and with the tag for which it was made. After them nothing comes any more.
+/// An iterator over the active formatting elements from the newest to the last marker, each with its place in the list,
+/// counted from the oldest entry, and with the tag for which it was created. After that it returns only `None`.
 #[derive(Drop)]
 pub struct ActiveFormattingIter<'a, Handle> {
     pub(crate) entries: &'a [FormatEntry<Listed<Handle>>],
@@ -39,7 +39,7 @@ impl<'a, Handle> Iterator for ActiveFormattingIter<'a, Handle> {
 }
 
 impl<Handle: Drop, Sink: TreeSink<Handle = Handle> + Drop> TreeBuilder<Handle, Sink> {
-    /// The active formatting elements from the newest to the last marker.
+    /// Returns the active formatting elements from the newest to the last marker.
     #[tactic(auto, unfolding(h5_state::specs::View::world))]
     pub fn active_formatting_end_to_marker(&self) -> ActiveFormattingIter<'_, Handle>
         ensures entries { map (given_entry Sink.node) (still_given result.entries.now) ≡ after_marker (building Sink.sees Sink.node self.now).view.world.formatting }

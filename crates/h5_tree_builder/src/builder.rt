@@ -21,18 +21,16 @@ use std::marker::Model;
 
 /// A tree builder over a sink (HTML standard, section 13.2.6, "Tree construction").
 ///
-/// Contracts see it as the world that builder and sink are together, whether it has ended or failed, and
-/// the turns that the last token took. At every moment, also after want of memory, the sink's forest is a
-/// forest, the open elements are its elements, they are distinct, and none is an ancestor, through
-/// children or contents, of one nearer the root.
+/// Contracts see it as the world that builder and sink are together, its flags `ended` and `failed`, and the turns of
+/// the last token. At every moment, also after a failed allocation, the sink's forest is a forest, the open elements
+/// are distinct elements of it, and none is an ancestor, through children or contents, of one nearer to the root.
 ///
-/// Unless memory was refused, the list of active formatting elements agrees with the stack of open
-/// elements: no element is listed twice, listed elements that are open stand in the list in the stack's
-/// order, and in each stretch between two markers no open element's entry is newer than that of one that
-/// isn't open, and at most three entries are alike.
+/// Unless an allocation failed, the list of active formatting elements agrees with the stack of open elements. No
+/// element is listed twice; listed elements that are open are in the stack's order; and between two markers no open
+/// element's entry is newer than that of one that isn't open, and at most three entries are alike.
 #[derive(Drop)]
 pub struct TreeBuilder<Handle: Drop, Sink: TreeSink<Handle = Handle> + Drop> {
-    /// The sink. It is the builder's as long as tokens come: nobody else changes it.
+    /// The sink. While tokens come, no one else may change it.
     pub sink: Sink,
     pub(super) state: State<Handle>,
     pub(super) ended: bool,
@@ -55,7 +53,7 @@ impl<Handle: Drop, Sink: TreeSink<Handle = Handle> + Drop> Model for TreeBuilder
 }
 
 impl<Handle: Drop, Sink: TreeSink<Handle = Handle> + Drop> TreeBuilder<Handle, Sink> {
-    /// A builder of a document, that took no token yet. It takes no memory, and the sink stays as it is.
+    /// Returns a builder of a document. Doesn't allocate, and doesn't change the sink.
     pub fn new(alloc: Global, sink: Sink, opts: TreeBuilderOpts) -> TreeBuilder<Handle, Sink>
         ensures first { building Sink.sees Sink.node result ≡ first_building (Sink.sees sink) opts }
         ensures sink { result.sink ≡ sink }
@@ -72,12 +70,11 @@ impl<Handle: Drop, Sink: TreeSink<Handle = Handle> + Drop> TreeBuilder<Handle, S
         }
     }
 
-    /// A builder of a fragment in this context, that took no token yet (HTML standard, section 13.4, "Parsing HTML
-    /// fragments"). The form, where there is one, is the form element. The root is made: an `html` without
-    /// attributes, the document's last child and the one open element; and the insertion mode is reset by the
-    /// context.
-    ///
-    /// Where memory is refused it answers `Memory`, and the sink is let go.
+    /// Returns a builder of a fragment in this context (HTML standard, section 13.4, "Parsing HTML fragments"). It
+    /// creates the root, an `html` without attributes, as the document's last child and the only open element, and
+    /// resets the insertion mode by the context. `form_elem`, if given, becomes the form element. Fails with `Memory`
+    /// if an allocation fails; the sink is then dropped. `context_elem` and `form_elem` must be elements of the sink's
+    /// forest.
     pub fn new_for_fragment(
         alloc: Global,
         sink: Sink,
@@ -105,17 +102,14 @@ impl<Handle: Drop, Sink: TreeSink<Handle = Handle> + Drop> TreeBuilder<Handle, S
         })
     }
 
-    /// Takes a token that began in this line.
+    /// Takes a token that began in this line, and returns the reply. Fails with `Failed` if an allocation failed
+    /// before, with `AfterEnd` after `end`, and with `NotInText` for a start tag, a comment or a null in the mode
+    /// "text"; then nothing changes, neither in the builder nor in the sink. Fails with `Memory` if an allocation
+    /// fails; `turns` is then that of the previous token.
     ///
-    /// After each token that was taken, the list of active formatting elements agrees with the stack of
-    /// open elements: no element is listed twice, listed elements that are open stand in the list in the
-    /// stack's order, and in each stretch between two markers no open element's entry is newer than that of
-    /// one that isn't open, and at most three entries are alike. The open elements fit the insertion mode:
-    /// in a row a `tr` is open, in a cell a `td` or a `th`, and what else each mode tells of them.
-    ///
-    /// After want of memory it answers `Failed`, after the end `AfterEnd`, and to a start tag, a comment or a
-    /// null in the mode "text" `NotInText`; and then nothing has changed, in the sink neither. Where memory is
-    /// refused now it answers `Memory`, and the turns stay those of the token before.
+    /// After each token that was taken, the list of active formatting elements agrees with the stack of open elements,
+    /// and the open elements fit the insertion mode: for example, a `tr` is open in a row, and a `td` or `th` in a
+    /// cell.
     #[inline(always)]
     pub fn process_token(
         &mut self,
@@ -146,9 +140,8 @@ impl<Handle: Drop, Sink: TreeSink<Handle = Handle> + Drop> TreeBuilder<Handle, S
         Ok(taken.answer)
     }
 
-    /// Takes note that no token comes any more: all open elements are popped, from the current node on,
-    /// and the sink is told of each. Then none is open; the list of active formatting elements stays. Where
-    /// it was called before, nothing changes.
+    /// Ends the document: pops all open elements, from the current node on, and notifies the sink of each. The list of
+    /// active formatting elements stays. A second call changes nothing.
     pub fn end(&mut self)
         ensures view { (building Sink.sees Sink.node self.new).view ≡ ended_view Sink.choices (building Sink.sees Sink.node self.old).view }
         ensures none { (building Sink.sees Sink.node self.new).view.world.stack ≡ [] }
@@ -162,7 +155,7 @@ impl<Handle: Drop, Sink: TreeSink<Handle = Handle> + Drop> TreeBuilder<Handle, S
         self.ended = true;
     }
 
-    // Notes that memory was refused: every later token is refused.
+    // Marks the builder as failed after a failed allocation; every later token is refused.
     pub(crate) fn fail(&mut self) -> BuildFault
         ensures memory { result ≡ BuildFault.Memory }
         ensures failed { (building Sink.sees Sink.node self.new).view.failed ≡ true }

@@ -26,7 +26,7 @@ use h5_rules_tables::{
     step_in_table_body, step_in_table_text,
 };
 use h5_state::{
-    State, Turn, current_mode, set_mode, take_again, take_answer, tell_error, unexpected,
+    State, Turn, current_mode, report_error, set_mode, take_again, take_answer, unexpected,
 };
 use h5_tables::{InsertionMode, ProcessResult, Token, TreeError};
 use h5_token::{TagKind, TokenSinkResult};
@@ -63,7 +63,7 @@ fn step_by_mode<S: TreeSink>(sink: &mut S, state: &mut State<S::Handle>, token: 
     }
 }
 
-// One turn in foreign content: by its rules, or by the rule of the mode after all.
+// One turn in foreign content: by its rules, or by the rule of the mode if they leave the token to it.
 #[inline(never)]
 fn step_in_foreign<S: TreeSink>(sink: &mut S, state: &mut State<S::Handle>, token: Token) -> Turn
     requires ready { IsReady S.TreeSink sink.old state.old }
@@ -91,7 +91,7 @@ fn step<S: TreeSink>(sink: &mut S, state: &mut State<S::Handle>, token: Token) -
     }
 }
 
-// Whether a token is a start tag with the self-closing flag.
+// The token is a start tag with the self-closing flag.
 fn is_self_closing(token: &Token) -> bool
     ensures { result ≡ is_closing_turn (turn_text token.now) }
 {
@@ -101,7 +101,7 @@ fn is_self_closing(token: &Token) -> bool
     }
 }
 
-// A self-closing flag that nobody acknowledged is a parse error.
+// Reports a parse error for a self-closing flag that wasn't acknowledged.
 fn error_if_self_closing<S: TreeSink>(sink: &mut S, state: &State<S::Handle>, self_closing: bool)
     requires { IsSound S.TreeSink sink.old state.now }
     ensures told { TellsErrors S.TreeSink sink.old sink.new state.now }
@@ -109,12 +109,12 @@ fn error_if_self_closing<S: TreeSink>(sink: &mut S, state: &State<S::Handle>, se
     ensures noted { self_closing ≡ true → 0 < errors_of S.TreeSink sink.new }
 {
     if self_closing {
-        tell_error(sink, state, TreeError::SelfClosingTagWithContent);
+        report_error(sink, state, TreeError::SelfClosingTagWithContent);
     }
 }
 
-/// The chain of a token: turn after turn, as long as they end in "again". It gives how many turns there were and
-/// what is answered, or an `AllocError` where memory is refused; what was built so far is sound then.
+/// Runs the chain of a token: turn after turn, as long as they end in "again". Returns the number of turns and the
+/// reply. Fails with `AllocError` if an allocation fails; the state is then sound.
 #[inline(always)]
 pub fn process_to_completion<S: TreeSink>(
     sink: &mut S,

@@ -8,7 +8,7 @@ ghost use Rattle.h5_tree_builder.specs.Chains.{IsReady, Settles};
 
 use super::turns_taken::Taken;
 use h5_interface::TreeSink;
-use h5_state::{State, current_mode, set_mode, set_quirks_mode, tell_error, tell_message};
+use h5_state::{State, current_mode, report_error, set_mode, set_quirks_mode, tell_message};
 use h5_tables::{InsertionMode, TreeError, doctype_error_and_quirks};
 use h5_token::{Doctype, TokenSinkResult};
 use std::alloc::{AllocError, Global};
@@ -22,7 +22,7 @@ fn text_or_empty(alloc: Global, text: Option<String>) -> String
     }
 }
 
-// The doctype goes into the document, unless doctypes are dropped.
+// Appends the doctype to the document, unless doctypes are dropped.
 #[tactic(auto, unfolding(h5_state::specs::View::world, h5_rules::specs::Run::with_doctype, h5_rules::specs::Changes::insert_doctype))]
 fn append_doctype<S: TreeSink>(
     sink: &mut S,
@@ -50,8 +50,7 @@ fn append_doctype<S: TreeSink>(
     )
 }
 
-// What is said of a bad doctype where exact messages are asked for. Nothing, where they aren't or memory is
-// refused.
+// The exact message for a bad doctype. `None` if exact messages aren't enabled, or if an allocation fails.
 fn exact_bad<H>(state: &State<H>, doctype: &Doctype) -> Option<String> {
     if !state.opts.exact_errors {
         return None;
@@ -65,11 +64,12 @@ fn tell_bad<S: TreeSink>(sink: &mut S, state: &State<S::Handle>, doctype: &Docty
 {
     match exact_bad(state, doctype) {
         Some(message) => tell_message(sink, state, message.as_str()),
-        None => tell_error(sink, state, TreeError::BadDoctype),
+        None => report_error(sink, state, TreeError::BadDoctype),
     }
 }
 
-// The same of a doctype that comes too late.
+// The exact message for a doctype that comes too late. `None` if exact messages aren't enabled, or if an allocation
+// fails.
 fn exact_late<H>(state: &State<H>) -> Option<String> {
     if !state.opts.exact_errors {
         return None;
@@ -84,11 +84,11 @@ fn tell_late<S: TreeSink>(sink: &mut S, state: &State<S::Handle>)
 {
     match exact_late(state) {
         Some(message) => tell_message(sink, state, message.as_str()),
-        None => tell_error(sink, state, TreeError::LateDoctype),
+        None => report_error(sink, state, TreeError::LateDoctype),
     }
 }
 
-// A doctype at the start goes into the document and chooses the quirks mode.
+// Handles a doctype at the start: it is appended to the document and chooses the quirks mode.
 #[tactic(auto, unfolding(h5_rules::specs::Run::judged))]
 fn judge_doctype<S: TreeSink>(
     sink: &mut S,
@@ -111,8 +111,8 @@ fn judge_doctype<S: TreeSink>(
     Ok(())
 }
 
-/// A doctype: at the start it is judged, elsewhere it is an error and nothing more. It takes no turn. It answers an
-/// `AllocError` where memory is refused.
+/// Handles a doctype: at the start as above; in any other mode it is a parse error, and changes nothing. It takes no
+/// turn. Fails with `AllocError` if an allocation fails.
 pub fn take_doctype<S: TreeSink>(
     sink: &mut S,
     state: &mut State<S::Handle>,

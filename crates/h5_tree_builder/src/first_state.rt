@@ -1,4 +1,4 @@
-//! The state of a builder that took nothing yet (HTML standard, section 13.2.4, "Parse state").
+//! The state of a new builder (HTML standard, section 13.2.4, "Parse state").
 ghost use Rattle.std.specs.Prelude.{◌≡◌, []};
 ghost use Rattle.h5_state.specs.Stamps.{AreStamped};
 ghost use Rattle.h5_state.specs.Steps.{world_of};
@@ -11,7 +11,7 @@ use h5_tables::{InsertionMode, Token, TreeBuilderOpts};
 use h5_token::TokenSinkResult;
 use std::alloc::Global;
 
-// Nothing is open, in the mode "initial".
+// A state without open elements, in the mode "initial".
 #[tactic(auto, unfolding(h5_state::specs::View::world))]
 pub fn first_state<S: TreeSink>(sink: &S, alloc: Global, opts: TreeBuilderOpts) -> State<S::Handle>
     ensures kept { IsKept result.open_elems [] }

@@ -8,7 +8,7 @@ use h5_insertion::adjusted_current_node;
 use h5_interface::TreeSink;
 use h5_state::State;
 
-// Whether an element is open, and the adjusted current node isn't in the HTML namespace.
+// Returns true if an element is open, and the adjusted current node isn't in the HTML namespace.
 #[tactic(auto, unfolding(h5_state::specs::View::world, h5_tables::specs::TagSets::html_namespace))]
 pub fn is_current_foreign<S: TreeSink>(sink: &S, state: &State<S::Handle>) -> bool
     requires { IsSound S.TreeSink sink.now state.now }

@@ -1,5 +1,5 @@
-//! The state of a builder of a fragment that took nothing yet, and how its text is read (HTML standard, section 13.4,
-//! "Parsing HTML fragments").
+//! The state of a new builder of a fragment, and the tokenizer's state for it (HTML standard, section 13.4, "Parsing
+//! HTML fragments").
 ghost use Rattle.std.specs.Prelude.{◌≡◌, IfOk, MatchOption, option_map, reverse};
 ghost use Rattle.h5_names.specs.KnownNames.{name_text};
 ghost use Rattle.h5_interface.specs.Forest.{IsElement, IsForest};
@@ -25,7 +25,7 @@ fn context_modes(alloc: Global, name: &QualName) -> Result<Vec<InsertionMode>, A
     Ok(modes)
 }
 
-// Nothing is open, in this context; where it is a template, "in template" is its template insertion mode.
+// A state without open elements, in this context; if that is a template, "in template" is the template insertion mode.
 #[tactic(auto, unfolding(h5_state::specs::View::world))]
 fn context_state<S: TreeSink>(
     sink: &S,
@@ -48,8 +48,8 @@ fn context_state<S: TreeSink>(
     Ok(state)
 }
 
-/// The state of a builder of a fragment: the root is made, the document's last child, and is the one open element, and
-/// the insertion mode is reset.
+/// Returns the state of a builder of a fragment: the root is created, as the document's last child and the only open
+/// element, and the insertion mode is reset. Fails with `AllocError` if an allocation fails.
 pub fn fragment_state<S: TreeSink>(
     sink: &mut S,
     alloc: Global,
@@ -71,7 +71,7 @@ pub fn fragment_state<S: TreeSink>(
     Ok(state)
 }
 
-// How text is read in an element that HTML knows by this name.
+// The tokenizer's state for an element of this known name.
 #[tactic(auto, unfolding(crate::specs::Fragment::state_of_local, crate::specs::Fragment::rcdata_context_names, crate::specs::Fragment::rawtext_context_names, h5_names::specs::KnownNames::name_text))]
 fn state_of_known(known: KnownName, scripting: bool) -> ReaderState
     ensures { result ≡ state_of_local scripting (name_text known) }
@@ -96,7 +96,7 @@ fn state_of_known(known: KnownName, scripting: bool) -> ReaderState
     }
 }
 
-// How text is read in an HTML element of this name.
+// The tokenizer's state for an HTML element of this name.
 #[tactic(auto, using(crate::proofs::FragmentLaws::state_by_known))]
 fn state_of_local(name: &LocalName, scripting: bool) -> ReaderState
     ensures { result ≡ state_of_local scripting name.now }
@@ -104,7 +104,7 @@ fn state_of_local(name: &LocalName, scripting: bool) -> ReaderState
     state_of_known(name.known(), scripting)
 }
 
-/// How the text of a fragment is read, by the name of its context.
+/// Returns the tokenizer's state at the start of a fragment, by the name of its context.
 #[tactic(auto, unfolding(h5_tables::specs::TagSets::html_namespace))]
 pub fn state_in_context(name: &QualName, scripting: bool) -> ReaderState
     ensures { result ≡ state_in_context scripting name.now }

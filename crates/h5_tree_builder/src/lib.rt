@@ -1,13 +1,14 @@
 //! The tree builder (HTML standard, section 13.2.6, "Tree construction").
 //!
-//! `builder` has the builder over a sink, and `token_sink` how it takes the tokens of a reader. `process_token` takes a
-//! token by its kind, and `process_all` a list of tokens. `dispatch` has the turns of a token, and `text` the runs of a text;
-//! `doctype` takes doctypes, `refusal` tells which tokens don't come in a text, and `end` has the end. `first_state` and `fragment` have where a
-//! builder of a document or of a fragment begins (section 13.4), and `queries` what a builder is asked.
+//! `builder` has the builder over a sink, and `token_sink` makes it a token sink. `process_token` takes a token by its
+//! kind, `process_all` a list of tokens. `dispatch` has the turns of a token, and `text` the runs of a text; `doctype`
+//! handles doctypes, `refusal` has the tokens that a text refuses, and `end` has the end. `first_state` and `fragment`
+//! make the first state of a builder of a document or of a fragment (section 13.4), and `queries` has the builder's
+//! queries.
 //!
-//! It stands on `h5_state`, on the crates of rules, whose steps it takes, and on the laws in `h5_plain`. The parser
-//! in `h5_driver` stands on it. Begin with `specs/Held.antt` and `specs/Builder.antt` (what contracts see of a
-//! builder), then `src/builder.rt` and `src/dispatch.rt`.
+//! The crate depends on `h5_state`, on the crates of rules, whose steps it calls, and on the laws in `h5_plain`. Begin
+//! with `specs/Held.antt` and `specs/Builder.antt` (what contracts see of a builder), then read `src/builder.rt` and
+//! `src/dispatch.rt`.
 #![tactic(auto)]
 
 mod active_formatting;

@@ -1,14 +1,14 @@
-//! Small things about open elements.
+//! Helpers for open elements.
 ghost use Rattle.std.specs.Prelude.{◌≡◌, ◌≢◌, [], Some, slice_get};
 
-/// Whether an element that is made is pushed onto the stack of open elements.
+/// A new element is pushed onto the stack of open elements, or not.
 #[derive(Clone, Copy, PartialEq, Eq, Debug)]
 pub enum PushFlag {
     Push,
     NoPush,
 }
 
-/// The root: of open elements, with the oldest first, the first.
+/// Returns the root: the first of the open elements, with the oldest first. There must be one.
 pub fn html_elem<Handle>(open_elems: &[Handle]) -> &Handle
     requires { open_elems.now ≢ [] }
     ensures { Some result.now ≡ slice_get open_elems.now 0 }

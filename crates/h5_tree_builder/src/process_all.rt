@@ -1,4 +1,4 @@
-//! A list of tokens.
+//! Takes a list of tokens.
 ghost use Rattle.std.specs.Prelude.{◌≡◌, true, false, IfOk, OnErr, Err, Result};
 ghost use Rattle.h5_token.specs.TokenText.{token_text};
 ghost use Rattle.h5_rules.specs.Sound.{Fits, HasLists, Sound};
@@ -12,7 +12,7 @@ use h5_interface::TreeSink;
 use h5_token::{BuildFault, Token};
 
 impl<Handle: Drop, Sink: TreeSink<Handle = Handle> + Drop> TreeBuilder<Handle, Sink> {
-    // What is answered to a token, with a refusal as an answer.
+    // The reply to a token; a refusal is also a reply.
     fn reply(&mut self, token: Token, line_number: u64) -> Result<Reply<Handle>, BuildFault>
         ensures done { IfOk result (λ r. Replied Sink.choices (token_text token) (building Sink.sees Sink.node self.old) (building Sink.sees Sink.node self.new) (reply_text Sink.node r)) }
         ensures memory { OnErr result (result ≡ Err BuildFault.Memory) }
@@ -29,20 +29,16 @@ impl<Handle: Drop, Sink: TreeSink<Handle = Handle> + Drop> TreeBuilder<Handle, S
         }
     }
 
-    /// Takes the tokens of a list in turn, each with the line in which it began. It gives one reply for
-    /// each: an answer, or the refusal of a token after the end, or of one that does not come in a text.
+    /// Takes a list of tokens, each with the line in which it began, and returns one reply for each: an answer, or the
+    /// refusal of a token after the end, or of one that doesn't come in a text. Fails with `Failed` if an allocation
+    /// failed before; then nothing changes. Fails with `Memory` if an allocation fails; the builder has then failed.
     ///
-    /// However a run of text is cut into tokens, forest, quirks mode and the replies to all that is no text
-    /// are the same, and each piece of the run has the run's reply.
+    /// How a run of text is split into tokens doesn't matter: forest, quirks mode and the replies to all tokens that
+    /// aren't texts are the same, and each text of the run has the run's reply.
     ///
-    /// The tokens of a plain document rebuild exactly that document, in a new builder with the default
-    /// options over a sink that holds its document alone: in no quirks, without a parse error, and with no
-    /// answer but `Continue`, and `RawData` to the start tag of the title. A plain document has a head, which is empty
-    /// or holds a title, and a body of `div`, `search`, `p`, headings, lists, tables with row groups, rows and cells, texts,
-    /// `br`, `b`, `i`, `em`, `code` and `a`.
-    ///
-    /// It answers `Failed` after want of memory, and then nothing has changed. Where memory is refused now
-    /// it answers `Memory`, and the tokens before that have been taken.
+    /// A new builder with the default options, over a sink with its document alone, builds a plain document
+    /// (`h5_plain`) exactly from its tokens, in no-quirks mode. The reply to the start tag of the title is `RawData`,
+    /// all others are `Continue`. No parse error is reported if no whitespace text is in a table.
     pub fn process_all(
         &mut self,
         tokens: Vec<(Token, u64)>,

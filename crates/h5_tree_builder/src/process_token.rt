@@ -1,4 +1,4 @@
-//! Taking a token, by its kind (HTML standard, section 13.2.6, "Tree construction").
+//! Takes a token, by its kind (HTML standard, section 13.2.6, "Tree construction").
 ghost use Rattle.std.specs.Prelude.{◌≡◌, true, IsOk};
 ghost use Rattle.h5_token.specs.TokenText.{token_text};
 ghost use Rattle.h5_rules.specs.Run.{is_counted, step, taken};
@@ -15,7 +15,7 @@ use h5_tables::Token;
 use h5_token::{Token as Input, TokenSinkResult};
 use std::alloc::AllocError;
 
-// The newline flag, which is taken.
+// Resets the newline flag, and returns its value.
 #[tactic(auto, unfolding(h5_state::specs::View::world, h5_rules::specs::World::names_of))]
 #[inline(always)]
 fn take_lf<S: TreeSink>(sink: &S, state: &mut State<S::Handle>) -> bool
@@ -28,7 +28,7 @@ fn take_lf<S: TreeSink>(sink: &S, state: &mut State<S::Handle>) -> bool
     ignore_lf
 }
 
-// The sink is told of the line of a token that didn't begin in the first.
+// Reports the line of a token to the sink, unless it is the first.
 #[tactic(auto, unfolding(h5_state::specs::View::world, h5_rules::specs::World::names_of))]
 #[inline(always)]
 pub fn note_line<S: TreeSink>(sink: &mut S, state: &State<S::Handle>, line_number: u64)
@@ -41,8 +41,8 @@ pub fn note_line<S: TreeSink>(sink: &mut S, state: &State<S::Handle>, line_numbe
     }
 }
 
-/// A token that isn't refused. It gives how many turns it took and what is answered, or an `AllocError` where
-/// memory is refused; what was built so far is sound then.
+/// Takes a token that isn't refused. Returns the number of its turns and the reply. Fails with `AllocError` if an
+/// allocation fails; the state is then sound.
 #[inline(always)]
 pub fn take_token<S: TreeSink>(
     sink: &mut S,

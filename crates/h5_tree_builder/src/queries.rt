@@ -1,4 +1,4 @@
-//! What a tree builder is asked.
+//! Queries of a tree builder.
 ghost use Rattle.std.specs.Prelude.{◌≡◌, ◌<◌, is_some, true};
 ghost use Rattle.h5_tree_builder.specs.Builder.{is_foreign_in};
 ghost use Rattle.h5_tree_builder.specs.Fragment.{state_by_context};
@@ -11,15 +11,15 @@ use h5_interface::TreeSink;
 use h5_token::states::State;
 
 impl<Handle: Drop, Sink: TreeSink<Handle = Handle> + Drop> TreeBuilder<Handle, Sink> {
-    /// How many turns the token took that was taken last: the rules that were applied one after the other.
-    /// A doctype, a parse error and a text that is or becomes empty take none.
+    /// Returns the number of turns of the last token that was taken, which is the number of rules that were applied. A
+    /// doctype, a parse error and a text that is or becomes empty take none.
     pub fn turns(&self) -> u64
         ensures { result ≡ self.now.turns }
     {
         self.turns
     }
 
-    /// Whether what is built is a fragment, with a context (HTML standard, section 13.4).
+    /// Returns true if a fragment is built, in a context (HTML standard, section 13.4).
     #[tactic(auto, unfolding(h5_state::specs::View::world))]
     pub fn is_fragment(&self) -> bool
         ensures { result ≡ is_some (building Sink.sees Sink.node self.now).view.world.context }
@@ -27,9 +27,10 @@ impl<Handle: Drop, Sink: TreeSink<Handle = Handle> + Drop> TreeBuilder<Handle, S
         self.state.context_elem.is_some()
     }
 
-    /// How a reader of the fragment is to begin, by the name of its context (HTML standard, section 13.4): the text
-    /// of a `title` or a `textarea`, of a `style` and its like, of a `script`, of a `noscript` where scripting is on
-    /// and of `plaintext` is read as in them; any other as data. It takes no memory.
+    /// Returns the state in which a tokenizer of the fragment must begin, by the name of its context (HTML standard,
+    /// section 13.4): RCDATA for `title` and `textarea`, raw text for `style` and similar, script data for `script`,
+    /// raw text for `noscript` if scripting is allowed, and PLAINTEXT for `plaintext`; otherwise data. Doesn't
+    /// allocate. The builder must be one of a fragment.
     #[tactic(auto, unfolding(h5_state::specs::View::world))]
     pub fn tokenizer_state_for_context_elem(&self, context_allows_scripting: bool) -> State
         requires { is_some (building Sink.sees Sink.node self.now).view.world.context ≡ true }
@@ -43,8 +44,8 @@ impl<Handle: Drop, Sink: TreeSink<Handle = Handle> + Drop> TreeBuilder<Handle, S
         }
     }
 
-    /// Whether an element is open and the current one isn't in the HTML namespace: then a reader takes
-    /// `<![CDATA[` for the start of a text (HTML standard, section 13.2.5.42, "Markup declaration open
+    /// Returns true if an element is open and the adjusted current node isn't in the HTML namespace. A tokenizer then
+    /// reads `<![CDATA[` as the start of a CDATA section (HTML standard, section 13.2.5.42, "Markup declaration open
     /// state").
     pub fn adjusted_current_node_present_but_not_in_html_namespace(&self) -> bool
         ensures { result ≡ is_foreign_in (building Sink.sees Sink.node self.now).view.world }
@@ -52,7 +53,7 @@ impl<Handle: Drop, Sink: TreeSink<Handle = Handle> + Drop> TreeBuilder<Handle, S
         is_current_foreign(&self.sink, &self.state)
     }
 
-    /// The sink, as it is now.
+    /// Returns the sink in its current state.
     pub fn into_sink(self) -> Sink
         ensures { result ≡ self.sink }
     {
@@ -60,9 +61,9 @@ impl<Handle: Drop, Sink: TreeSink<Handle = Handle> + Drop> TreeBuilder<Handle, S
         sink
     }
 
-    /// Tells the sink of an error that isn't the builder's. Forest and quirks mode stay.
+    /// Reports a parse error to the sink that isn't the builder's. Changes neither forest nor quirks mode.
     #[tactic(auto, unfolding(h5_state::specs::View::world, h5_rules::specs::World::names_of))]
-    pub fn tell_error(&mut self, message: &str)
+    pub fn report_error(&mut self, message: &str)
         ensures noted { 0 < (building Sink.sees Sink.node self.new).errors }
         ensures view { (building Sink.sees Sink.node self.new).view ≡ (building Sink.sees Sink.node self.old).view }
         ensures turns { self.new.turns ≡ self.old.turns }

@@ -1,5 +1,5 @@
-//! Tokens that don't come in a text (HTML standard, section 13.2.6.4.8): its reader gives no tags but the end tag, no
-//! comments and no nulls.
+//! The tokens that a text refuses (HTML standard, section 13.2.6.4.8): a tokenizer emits no tags there except the end
+//! tag, no comments and no nulls.
 ghost use Rattle.std.specs.Prelude.{◌≡◌};
 ghost use Rattle.h5_token.specs.TokenText.{token_text};
 ghost use Rattle.h5_rules.specs.Run.{is_refused_in_text, refuses_in};
@@ -17,7 +17,7 @@ fn is_refused_in_text(token: &Token) -> bool
     }
 }
 
-/// Whether a token is refused in a mode: in a text a start tag, a comment and a null are.
+/// Returns true if a token is refused in a mode: in "text" a start tag, a comment and a null are.
 #[inline(always)]
 pub fn refuses_in(mode: InsertionMode, token: &Token) -> bool
     ensures { result ≡ refuses_in mode (token_text token.now) }

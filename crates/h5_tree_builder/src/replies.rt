@@ -1,11 +1,11 @@
 //! Replies to the tokens of a list.
 use h5_token::{BuildFault, TokenSinkResult};
 
-/// What was answered to a token of a list.
+/// The reply to a token of a list.
 #[derive(Debug, Drop)]
 pub enum Reply<Handle> {
-    /// It was taken.
+    /// The token was taken.
     Answer(TokenSinkResult<Handle>),
-    /// It was refused, and nothing changed.
+    /// The token was refused, and nothing changed.
     Refused(BuildFault),
 }

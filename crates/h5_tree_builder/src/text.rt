@@ -1,5 +1,5 @@
-//! A text, run by run (HTML standard, section 13.2.6.1: characters are taken one by one, and a run of them
-//! that a rule takes alike is taken at once).
+//! Takes a text, run by run (HTML standard, section 13.2.6.1: the standard takes characters one by one; a run of
+//! characters that a rule handles in the same way is taken at once).
 ghost use Rattle.std.specs.Prelude.{◌≡◌, ◌≢◌, ◌<◌, [], length, take, true, IfOk, IsOk, OnOk, string_bytes};
 ghost use Rattle.std.specs.Str.{IsCharBoundary};
 ghost use Rattle.h5_rules.specs.insertion.Foreign.{is_foreign_text};
@@ -19,7 +19,7 @@ use h5_tables::{SplitStatus, Token};
 use h5_token::TokenSinkResult;
 use std::alloc::AllocError;
 
-// The first run of a text: whole in foreign content, where a text isn't split.
+// The first run of a text; in foreign content, the whole text.
 fn next_run<S: TreeSink>(sink: &S, state: &State<S::Handle>, text: &str) -> (SplitStatus, usize)
     requires sound { IsSound S.TreeSink sink.now state.now }
     requires text { text.now ≢ [] }
@@ -35,7 +35,7 @@ fn next_run<S: TreeSink>(sink: &S, state: &State<S::Handle>, text: &str) -> (Spl
     }
 }
 
-// A run of a text.
+// Takes a run of a text.
 #[inline(always)]
 fn process_run<S: TreeSink>(
     sink: &mut S,
@@ -55,7 +55,7 @@ fn process_run<S: TreeSink>(
     Ok(taken.turns)
 }
 
-// A text, cut into its runs.
+// Takes a text, split into its runs.
 #[tactic(auto, using(crate::proofs::TextLaws::run_then_rest, crate::proofs::TextLaws::mode_stays))]
 fn process_runs<S: TreeSink>(
     sink: &mut S,
@@ -80,7 +80,7 @@ fn process_runs<S: TreeSink>(
     Ok(turns)
 }
 
-// A text: its runs in turn, and where it is one run it is moved. It gives the turns of all of them.
+// Takes a text, run by run; if it is a single run, it is moved. Returns the turns of all runs.
 #[inline(always)]
 fn process_text<S: TreeSink>(
     sink: &mut S,
@@ -106,7 +106,7 @@ fn process_text<S: TreeSink>(
     }
 }
 
-// A text without its first newline, where that is to be dropped.
+// A text without its first newline, if that is to be dropped.
 #[inline(always)]
 fn drop_lf(ignore_lf: bool, text: String) -> String
     ensures { string_bytes result ≡ without_lf ignore_lf (string_bytes text) }
@@ -118,8 +118,8 @@ fn drop_lf(ignore_lf: bool, text: String) -> String
     text
 }
 
-/// A text that comes as a token: it loses one newline where one is to be dropped. It gives the turns of all its
-/// runs, or an `AllocError` where memory is refused.
+/// Takes a text that comes as a token; if a newline is to be dropped, the text loses a leading one. Returns the turns
+/// of all its runs. Fails with `AllocError` if an allocation fails.
 #[inline(always)]
 pub fn take_text<S: TreeSink>(
     sink: &mut S,

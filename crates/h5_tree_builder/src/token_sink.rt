@@ -1,4 +1,4 @@
-//! A tree builder takes the tokens of a reader.
+//! A tree builder is a token sink.
 use super::builder::TreeBuilder;
 use h5_interface::TreeSink;
 use h5_token::{BuildFault, Token, TokenSink, TokenSinkResult};
@@ -18,7 +18,7 @@ impl<Handle: Drop, Sink: TreeSink<Handle = Handle> + Drop> TokenSink for TreeBui
 
     ghost reply_to = { λ v t. reply_of Sink.choices t v };
 
-    // The lines that are told don't change what it means.
+    // The lines of tokens don't change what a builder means.
     ghost after = { λ v t line. after_token Sink.choices t v };
 
     ghost ended = { λ v. ended_view Sink.choices v };

@@ -1,7 +1,7 @@
-//! What taking a token came to.
+//! The result of taking a token.
 use h5_token::TokenSinkResult;
 
-/// How many turns a token took, and what is answered to it.
+/// The number of a token's turns, and the reply to it.
 #[derive(Drop)]
 pub struct Taken<Handle> {
     pub turns: u64,

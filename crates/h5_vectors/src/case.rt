@@ -1,22 +1,22 @@
-//! A case: what is read, and what is wanted of it.
+//! A case: an input, and the expected results.
 use super::settings::Settings;
 use std::fmt;
 
-/// What is read.
+/// The input of a case.
 #[derive(Drop)]
 pub enum Input {
     Text(String),
-    /// A text in pieces.
+    /// A text in chunks.
     Pieces(Vec<String>),
     /// Bytes in chunks.
     Chunks(Vec<Vec<u8>>),
     /// Lines of tokens.
     Tokens(String),
-    /// Lines of a token each, of which every list of three is taken.
+    /// Lines of one token each; every list of three of them is run.
     ListsOfThree(String),
 }
 
-/// A part of what is made.
+/// A part of the result.
 #[derive(Clone, Copy, Debug, PartialEq, Eq)]
 pub enum Part {
     Document,
@@ -31,22 +31,22 @@ pub enum Part {
     Replies,
     Turns,
     Pops,
-    /// The replies that there were in any list of three.
+    /// The replies that occur for any list of three.
     AnyReplies,
 }
 
 impl Part {
-    /// Whether it is told of a tree, whatever made that.
+    /// Returns true if the part belongs to the tree, so that it doesn't depend on how the tree was made.
     pub fn is_of_tree(self) -> bool {
         matches!(self, Part::Document | Part::Html | Part::Quirks)
     }
 
-    /// Whether it is told of the answers to tokens.
+    /// Returns true if the part exists only for tokens.
     pub fn is_of_tokens(self) -> bool {
         matches!(self, Part::Replies | Part::Turns | Part::Pops)
     }
 
-    /// Whether it is the same however texts are cut.
+    /// Returns true if the part doesn't depend on how texts are split.
     pub fn is_of_any_cut(self) -> bool {
         !matches!(self, Part::Errors | Part::Messages | Part::Turns)
     }
@@ -72,14 +72,14 @@ impl fmt::Display for Part {
     }
 }
 
-/// What is wanted of a part.
+/// The expected text of a part.
 #[derive(Drop)]
 pub struct Expected {
     pub part: Part,
     pub text: String,
 }
 
-/// A case, with the number of its first line and what it is about.
+/// A case, with the number of its first line and its subject.
 pub struct Case {
     pub line: u64,
     pub about: String,

@@ -5,7 +5,7 @@ use super::sections::{count_lines, sections_of};
 use anyhow::{Result, bail};
 use std::alloc::Global;
 
-// Takes the sections of lines, the first of which stands in the line of this number.
+// Adds the sections of lines to a draft; `first` is the number of the first line.
 fn take_sections(alloc: Global, draft: &mut Draft, first: u64, lines: &str) -> Result<()> {
     for section in sections_of(alloc, first, lines)? {
         draft.take(section)?;
@@ -13,7 +13,7 @@ fn take_sections(alloc: Global, draft: &mut Draft, first: u64, lines: &str) -> R
     Ok(())
 }
 
-// The case of these lines, which stand below the line `#about` of this number.
+// The case of these lines; `line` is the number of the line `#about` above them.
 fn case_of(alloc: Global, line: u64, lines: &str) -> Result<Case> {
     let Some((about, below)) = lines.split_once("\n#") else {
         bail!("line {line}: the case has no section");
@@ -23,7 +23,7 @@ fn case_of(alloc: Global, line: u64, lines: &str) -> Result<Case> {
     draft.finish()
 }
 
-// Puts the cases of lines to others. The first line stands below the first of a file.
+// Appends the cases of lines, the first of which is the second line of a file.
 fn put_cases(alloc: Global, cases: &mut Vec<Case>, lines: &str) -> Result<()> {
     let mut line: u64 = 1;
     for lines in lines.split("\n\n#about\n") {
@@ -33,8 +33,8 @@ fn put_cases(alloc: Global, cases: &mut Vec<Case>, lines: &str) -> Result<()> {
     Ok(())
 }
 
-/// The cases of a file: each from a line `#about` to the empty line before the next one, or to the end. An error says which line
-/// isn't as it should be.
+/// Parses the cases of a file: each is from a line `#about` to the empty line before the next one, or to the end. An error names the
+/// invalid line.
 pub fn cases_of(alloc: Global, text: &str) -> Result<Vec<Case>> {
     let Some(behind) = text.strip_prefix("#about\n") else {
         bail!("line 1: no case begins");

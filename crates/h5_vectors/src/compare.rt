@@ -1,4 +1,4 @@
-//! Comparing what a case makes with what is wanted of it.
+//! Compares the results of a case with the expected ones.
 use super::case::{Case, Expected, Part};
 use super::made::Made;
 use super::refusals::{Ending, refused_cuts_of, run_refused};
@@ -6,16 +6,16 @@ use super::run::{Cut, cuts_of, places_of, run};
 use anyhow::Result;
 use std::io;
 
-/// How many runs of a case are refused at the most.
+/// The greatest number of runs of a case in which a call fails.
 const MOST_REFUSED: usize = 1_000;
 
-/// Which parts are looked at.
+/// The parts that are compared.
 #[derive(Clone, Copy)]
 enum Scope {
     All,
-    /// Those that are the same however texts are cut.
+    /// The parts that don't depend on how texts are split.
     AnyCut,
-    /// Those that are told of a tree, whatever made that.
+    /// The parts that belong to the tree.
     Tree,
 }
 
@@ -29,14 +29,14 @@ impl Scope {
     }
 }
 
-// Whether each line of a text is one of another.
+// Returns true if each of these lines is a line of a text.
 fn holds_lines(text: &str, lines: &str) -> bool {
     lines
         .lines()
         .all(|line| text.lines().any(|other| other == line))
 }
 
-// Whether a part is as wanted. Of turns, those are wanted that are named; and any replies come in any order.
+// Returns true if a part is as expected. Of turns, only the given lines are compared; any replies are compared in any order.
 fn is_met(expected: &Expected, got: &str) -> bool {
     let wanted = expected.text.as_str();
     match expected.part {
@@ -46,7 +46,6 @@ fn is_met(expected: &Expected, got: &str) -> bool {
     }
 }
 
-// Prints what differs.
 fn print_difference(
     rt: &impl Print,
     place: &str,
@@ -58,7 +57,7 @@ fn print_difference(
     println!(rt; "{place}\n{part}, read {cut}; wanted:\n{text}\ngot:\n{got}\n")
 }
 
-// Whether a part is as wanted. If it isn't, it is printed.
+// Returns true if a part is as expected, and prints it if not.
 fn is_part_wanted(
     rt: &(impl Print + AllocGlobal),
     place: &str,
@@ -74,7 +73,7 @@ fn is_part_wanted(
     Ok(false)
 }
 
-// Whether the parts in this scope are as wanted. What isn't is printed.
+// Returns true if the parts in this scope are as expected, and prints those that aren't.
 fn is_wanted(
     rt: &(impl Print + AllocGlobal),
     place: &str,
@@ -92,7 +91,7 @@ fn is_wanted(
     Ok(agrees)
 }
 
-// Whether what a case at this place makes is as wanted, in this cut. What isn't is printed.
+// Returns true if a case's results with this split are as expected, and prints those that aren't.
 fn agrees_in(rt: &(impl Print + AllocGlobal), place: &str, case: &Case, cut: Cut) -> Result<bool> {
     let made = run(rt.alloc(), case, cut)?;
     let scope = match cut {
@@ -102,7 +101,7 @@ fn agrees_in(rt: &(impl Print + AllocGlobal), place: &str, case: &Case, cut: Cut
     is_wanted(rt, place, case, cut, &made, scope)
 }
 
-// Whether it is so in two pieces, wherever its text is cut.
+// Returns true if they are for any split of the text in two.
 fn agrees_in_two(rt: &(impl Print + AllocGlobal), place: &str, case: &Case) -> Result<bool> {
     let mut agrees = true;
     for bytes in 0..places_of(&case.input) {
@@ -111,7 +110,7 @@ fn agrees_in_two(rt: &(impl Print + AllocGlobal), place: &str, case: &Case) -> R
     Ok(agrees)
 }
 
-// Whether it is so in the other cuts.
+// Returns true if they are for all other splits.
 fn agrees_in_each(rt: &(impl Print + AllocGlobal), place: &str, case: &Case) -> Result<bool> {
     let mut agrees = true;
     for cut in cuts_of(&case.input) {
@@ -120,7 +119,8 @@ fn agrees_in_each(rt: &(impl Print + AllocGlobal), place: &str, case: &Case) -> 
     Ok(agrees)
 }
 
-// Whether a run of which a call was refused ended as it has to: nothing where that isn't the last run. What isn't so is printed.
+// Judges a run in which a call of the sink may fail: returns nothing if one failed as it should, since more runs follow, and else whether
+// the run is right. Prints what is wrong.
 fn judge(
     rt: &(impl Print + AllocGlobal),
     place: &str,
@@ -140,8 +140,8 @@ fn judge(
     }
 }
 
-// Whether each call of the sink is refused in turn, in this cut, and answered as it has to be, until a run meets no refusal, and
-// that one makes the tree. What isn't is printed.
+// Lets each call of the sink fail in turn, with this split, until no call fails in a run. Returns true if all calls returned what they
+// should and the last run makes the tree. Prints what is wrong.
 fn agrees_refused_in(
     rt: &(impl Print + AllocGlobal),
     place: &str,
@@ -157,7 +157,7 @@ fn agrees_refused_in(
     Ok(false)
 }
 
-// Whether it is so in each cut, where calls are refused.
+// Returns true if that holds for each split with which calls are to fail.
 fn agrees_refused(rt: &(impl Print + AllocGlobal), place: &str, case: &Case) -> Result<bool> {
     let mut agrees = true;
     if case.settings.refuses_each {
@@ -168,7 +168,7 @@ fn agrees_refused(rt: &(impl Print + AllocGlobal), place: &str, case: &Case) -> 
     Ok(agrees)
 }
 
-// Whether what a case at this place makes is as wanted, in every cut. What isn't is printed.
+// Returns true if the results of a case are as expected for all splits, and prints those that aren't.
 fn agrees_at(rt: &(impl Print + AllocGlobal), place: &str, case: &Case) -> Result<bool> {
     let mut agrees = agrees_in_each(rt, place, case)?;
     agrees &= agrees_in_two(rt, place, case)?;
@@ -176,7 +176,7 @@ fn agrees_at(rt: &(impl Print + AllocGlobal), place: &str, case: &Case) -> Resul
     Ok(agrees)
 }
 
-/// Whether what a case of this file makes is as wanted, in every cut. What isn't is printed.
+/// Returns true if the results of a case of this file are as expected for all splits, and prints those that aren't.
 pub fn agrees(rt: &(impl Print + AllocGlobal), file: &str, case: &Case) -> Result<bool> {
     let Case { line, about, .. } = case;
     let place = format!(in rt.alloc(); "{file}:{line}: {about}")?;

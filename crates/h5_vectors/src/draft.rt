@@ -1,4 +1,4 @@
-//! A case whose sections are being read.
+//! A case while its sections are read.
 use super::case::{Case, Expected, Input, Part};
 use super::inputs::input_of;
 use super::repeats::{Repeat, expand, repeats_of};
@@ -7,7 +7,7 @@ use super::settings::{Context, Maker, Settings};
 use anyhow::{Result, bail, ensure};
 use std::alloc::{AllocError, Global};
 
-/// What the sections of a case said so far.
+/// The contents of a case's sections so far.
 pub struct Draft {
     line: u64,
     about: String,
@@ -32,13 +32,13 @@ impl Drop for Draft {
     }
 }
 
-// The HTML of a page whose body holds this.
+// The HTML of a page with this body.
 fn page_of(alloc: Global, body: &str) -> Result<String, AllocError> {
     format!(in alloc; "<html><head></head><body>{body}</body></html>")
 }
 
 impl Draft {
-    /// The draft of a case of this first line, which is about this.
+    /// The draft of a case with this first line and this subject.
     pub fn new(alloc: Global, line: u64, about: &str) -> Result<Draft> {
         ensure!(
             !about.is_empty() && !about.contains('\n'),
@@ -79,12 +79,12 @@ impl Draft {
         Ok(())
     }
 
-    // Whether it was said what is wanted of a part.
+    // Returns true if a part has an expected text.
     fn expects(&self, part: Part) -> bool {
         self.expected.iter().any(|expected| expected.part == part)
     }
 
-    // Checks that it wasn't said before what is wanted of a part.
+    // Checks that a part has no expected text yet.
     fn check_new(&self, line: u64, part: Part) -> Result<()> {
         ensure!(!self.expects(part), "line {line}: a second {part}");
         Ok(())
@@ -96,19 +96,19 @@ impl Draft {
         Ok(())
     }
 
-    // Takes what the body of the page is to hold.
+    // Adds the expected content of the page's body.
     fn expect_body(&mut self, line: u64, body: &str) -> Result<()> {
         let page = page_of(self.alloc, body)?;
         self.expect(line, Part::Html, page)
     }
 
-    // Takes an input of this form.
+    // Adds an input of this form.
     fn take_input(&mut self, form: Form, line: u64, text: String) -> Result<()> {
         let input = input_of(self.alloc, form, line, text)?;
         self.set_input(line, input)
     }
 
-    // Sets what a section says by its heading alone.
+    // Sets the switch of a section that has only a heading.
     fn set_switch(&mut self, switch: Switch) {
         match switch {
             Switch::ScriptOff => self.settings.tree_builder.scripting_enabled = false,
@@ -116,7 +116,7 @@ impl Draft {
         }
     }
 
-    // Takes the next section, of which nothing is kept as it stands.
+    // Adds a section whose lines aren't stored unchanged.
     fn take_lines(&mut self, lines: Lines, line: u64, text: &str) -> Result<()> {
         match lines {
             Lines::Repeat => self.set_repeats(line, text),
@@ -125,7 +125,7 @@ impl Draft {
         }
     }
 
-    // Takes the next section, whose words stand for nothing any more.
+    // Adds a section in which words have been replaced by their texts.
     fn take_expanded(&mut self, heading: Heading, line: u64, text: String) -> Result<()> {
         match heading {
             Heading::Input(form) => self.take_input(form, line, text),
@@ -139,7 +139,7 @@ impl Draft {
         }
     }
 
-    /// Takes the next section. An error says where it can't stand there.
+    /// Adds the next section. An error says where it isn't allowed.
     pub fn take(&mut self, section: Section) -> Result<()> {
         let Section {
             heading,
@@ -150,12 +150,12 @@ impl Draft {
         self.take_expanded(heading, line, text)
     }
 
-    // Whether a tree is wanted.
+    // Returns true if a tree is expected.
     fn expects_tree(&self) -> bool {
         self.expects(Part::Document) || self.expects(Part::Html)
     }
 
-    // Tokens that nothing is said of the answers to are all to be answered by "go on".
+    // If no replies to tokens are given, all are expected to be "continue".
     fn expect_replies(&mut self) -> Result<()> {
         if self.expects(Part::Replies) {
             return Ok(());
@@ -164,7 +164,7 @@ impl Draft {
         self.expect(self.line, Part::Replies, text)
     }
 
-    // Checks that no call of the sink is refused.
+    // Checks that calls of the sink don't have to fail.
     fn check_unrefused(&self) -> Result<()> {
         let line = self.line;
         ensure!(
@@ -174,7 +174,7 @@ impl Draft {
         Ok(())
     }
 
-    // Checks what is wanted of an input that is no lists of tokens.
+    // Checks the expected parts of an input other than lists of tokens.
     fn check_tree(&self) -> Result<()> {
         let line = self.line;
         ensure!(self.expects_tree(), "line {line}: no tree is wanted");
@@ -185,7 +185,7 @@ impl Draft {
         Ok(())
     }
 
-    // Checks what is wanted of a text.
+    // Checks the expected parts of a text.
     fn check_text(&self) -> Result<()> {
         let line = self.line;
         self.check_tree()?;
@@ -200,7 +200,7 @@ impl Draft {
         Ok(())
     }
 
-    // Checks what is wanted of lists of three tokens.
+    // Checks the expected parts of lists of three tokens.
     fn check_lists(&self) -> Result<()> {
         let line = self.line;
         self.check_unrefused()?;
@@ -215,7 +215,7 @@ impl Draft {
         Ok(())
     }
 
-    // Completes and checks what is wanted.
+    // Completes and checks the expected parts.
     fn check(&mut self) -> Result<()> {
         match &self.input {
             Some(Input::Tokens(_)) => {
@@ -232,7 +232,6 @@ impl Draft {
         }
     }
 
-    // Takes the input out.
     fn take_out_input(&mut self) -> Result<Input> {
         let line = self.line;
         match self.input.take() {
@@ -241,13 +240,12 @@ impl Draft {
         }
     }
 
-    // Completes and checks what is wanted, and takes the input out.
+    // Completes and checks the expected parts, and takes the input out.
     fn checked_input(&mut self) -> Result<Input> {
         self.check()?;
         self.take_out_input()
     }
 
-    // The case of this input.
     fn with_input(self, input: Input) -> Case {
         let Draft {
             line,
@@ -267,7 +265,7 @@ impl Draft {
         }
     }
 
-    /// The case. An error says what it lacks.
+    /// Returns the case. An error says what is missing.
     pub fn finish(self) -> Result<Case> {
         let mut draft = self;
         let input = draft.checked_input()?;

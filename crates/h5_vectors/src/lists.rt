@@ -1,4 +1,4 @@
-//! Every list of three tokens, of those that lines say.
+//! Every list of three tokens from some lines.
 use super::made::Made;
 use super::parsers::{Builder, new_builder};
 use super::settings::Settings;
@@ -9,7 +9,7 @@ use h5_tests_sinks::is_forest;
 use h5_token::{BuildFault, Token};
 use std::alloc::{AllocError, Global};
 
-/// How lists are taken, and the lines of replies that came, each once.
+/// The settings of the runs, and the lines of replies, each once.
 struct Lists<'a> {
     settings: &'a Settings,
     lines: &'a str,
@@ -28,7 +28,7 @@ impl<'a> Drop for Lists<'a> {
     }
 }
 
-// Prints a refusal, and a line if it changed the printed tree, which was this one before.
+// Appends the line of an error, and another line if the printed tree changed; `before` is the tree before.
 fn put_refusal(
     alloc: Global,
     lines: &mut String,
@@ -45,7 +45,7 @@ fn put_refusal(
     Ok(())
 }
 
-// Takes the token of this number, and prints the line of the reply, where it has one. The printed tree was this one before.
+// Processes the token with this number, and appends the line of the reply, if it has one; `before` is the printed tree before.
 fn put_answer(
     alloc: Global,
     lines: &mut String,
@@ -61,8 +61,7 @@ fn put_answer(
     }
 }
 
-// The same, with what is broken: below the line of the reply a line says that a refusal changed the printed tree, or that nodes are
-// no forest.
+// As `put_answer`, but also appends lines for what is broken: if an error changed the printed tree, or if the nodes aren't a forest.
 fn put_reply(
     alloc: Global,
     lines: &mut String,
@@ -78,14 +77,13 @@ fn put_reply(
     Ok(())
 }
 
-// Takes the token of this number, and gives the line of the reply, where it has one, and below it what is broken.
+// Processes the token with this number. Returns the line of the reply, if it has one, and the lines for what is broken.
 fn reply_to(alloc: Global, builder: &mut Builder, number: u64, token: Token) -> Result<String> {
     let mut lines = String::new(alloc);
     put_reply(alloc, &mut lines, builder, number, token)?;
     Ok(lines)
 }
 
-// The token of a line.
 fn token_of(alloc: Global, line: &str) -> Result<Token> {
     match parse(alloc, line)?.pop() {
         Some(Item::Token(token, _line)) => Ok(token),
@@ -94,7 +92,7 @@ fn token_of(alloc: Global, line: &str) -> Result<Token> {
 }
 
 impl Lists<'_> {
-    // Notes a reply, if it did not come yet.
+    // Adds a reply, if it hasn't occurred yet.
     fn note_line(&mut self, reply: &str) -> Result<(), AllocError> {
         if self.replies.as_str().lines().any(|line| line == reply) {
             return Ok(());
@@ -103,7 +101,7 @@ impl Lists<'_> {
         self.replies.push('\n')
     }
 
-    // Notes replies that did not come yet.
+    // Adds the replies that haven't occurred yet.
     fn note(&mut self, replies: &str) -> Result<(), AllocError> {
         for reply in replies.lines() {
             self.note_line(reply)?;
@@ -111,7 +109,7 @@ impl Lists<'_> {
         Ok(())
     }
 
-    // Takes the token of a line.
+    // Processes the token of a line.
     fn take_line(&mut self, builder: &mut Builder, number: u64, line: &str) -> Result<()> {
         let token = token_of(self.alloc, line)?;
         let replies = reply_to(self.alloc, builder, number, token)?;
@@ -119,7 +117,7 @@ impl Lists<'_> {
         Ok(())
     }
 
-    // Takes the tokens of a list.
+    // Processes the tokens of a list.
     fn take_lines(&mut self, builder: &mut Builder, list: &[&str]) -> Result<()> {
         let mut number: u64 = 0;
         for line in list {
@@ -129,13 +127,13 @@ impl Lists<'_> {
         Ok(())
     }
 
-    // Takes a list.
+    // Runs a list.
     fn take(&mut self, list: &[&str]) -> Result<()> {
         let mut builder = new_builder(self.alloc, self.settings, usize::MAX)?;
         self.take_lines(&mut builder, list)
     }
 
-    // Takes each list that begins with these two lines.
+    // Runs each list that begins with these two lines.
     fn take_behind_two(&mut self, first: &str, second: &str) -> Result<()> {
         for third in self.lines.split('\n') {
             self.take(&[first, second, third])?;
@@ -143,7 +141,7 @@ impl Lists<'_> {
         Ok(())
     }
 
-    // Takes each list that begins with this line.
+    // Runs each list that begins with this line.
     fn take_behind(&mut self, first: &str) -> Result<()> {
         for second in self.lines.split('\n') {
             self.take_behind_two(first, second)?;
@@ -151,7 +149,7 @@ impl Lists<'_> {
         Ok(())
     }
 
-    // Takes every list.
+    // Runs every list.
     fn take_all(&mut self) -> Result<()> {
         for first in self.lines.split('\n') {
             self.take_behind(first)?;
@@ -159,7 +157,6 @@ impl Lists<'_> {
         Ok(())
     }
 
-    // The lines of replies.
     fn into_replies(self) -> String {
         let Lists {
             settings: _settings,
@@ -171,7 +168,7 @@ impl Lists<'_> {
     }
 }
 
-// The replies that came in any list of three lines, each once.
+// The replies that occur for any list of three lines, each once.
 fn replies_to(alloc: Global, settings: &Settings, lines: &str) -> Result<String> {
     let mut lists = Lists {
         settings,
@@ -183,7 +180,7 @@ fn replies_to(alloc: Global, settings: &Settings, lines: &str) -> Result<String>
     Ok(lists.into_replies())
 }
 
-/// What every list of three lines makes, each with a builder of its own: the replies that came, each once, and no tree.
+/// Runs every list of three lines, each with a new tree builder. Returns the replies that occurred, each once, and no tree.
 pub fn run_lists(alloc: Global, settings: &Settings, lines: &str) -> Result<Made> {
     let replies = replies_to(alloc, settings, lines)?;
     let arena = Arena::new(alloc)?;

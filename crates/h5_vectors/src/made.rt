@@ -1,4 +1,4 @@
-//! What a run made.
+//! The results of a run.
 use super::case::Part;
 use super::trees::{count_started, document_of, loose_of, messages_of};
 use anyhow::Result;
@@ -8,16 +8,16 @@ use h5_tests_sinks::html_of;
 use h5_token::states::State;
 use std::alloc::{AllocError, Global};
 
-/// What a run made.
+/// The results of a run.
 pub struct Made {
     arena: Arena,
-    /// How the text of a fragment is read.
+    /// The initial tokenizer state of a fragment.
     state: Option<State>,
     /// Lines of replies.
     replies: String,
     /// Lines of turns.
     turns: String,
-    /// How many elements the sink was told of at the end.
+    /// The number of elements that the sink was informed of at the end.
     pops: usize,
 }
 
@@ -33,7 +33,7 @@ impl Drop for Made {
     }
 }
 
-// How a text is read, where that is told.
+// A tokenizer state as a text, or the empty text.
 fn text_of_state(alloc: Global, state: Option<State>) -> Result<String, AllocError> {
     match state {
         Some(state) => format!(in alloc; "{state:?}"),
@@ -41,36 +41,34 @@ fn text_of_state(alloc: Global, state: Option<State>) -> Result<String, AllocErr
     }
 }
 
-// A quirks mode, as a text.
 fn text_of_mode(alloc: Global, mode: QuirksMode) -> Result<String, AllocError> {
     format!(in alloc; "{mode:?}")
 }
 
-// The HTML of an arena.
 fn html_text(alloc: Global, arena: &Arena) -> Result<String> {
     let html = html_of(alloc, arena)?;
     Ok(String::from_utf8(html)?)
 }
 
-// Lines, without the last line end.
+// Lines without the last newline.
 fn without_end(alloc: Global, lines: &str) -> Result<String, AllocError> {
     String::from_str(alloc, lines.strip_suffix("\n").unwrap_or(lines))
 }
 
-// The lines of what parse errors say, without the last line end.
+// The messages of parse errors on lines, without the last newline.
 fn messages_without_end(alloc: Global, arena: &Arena) -> Result<String, AllocError> {
     let lines = messages_of(alloc, arena)?;
     without_end(alloc, lines.as_str())
 }
 
-// The lines of the elements that have no parent, without the last line end.
+// The elements without a parent on lines, without the last newline.
 fn loose_without_end(alloc: Global, arena: &Arena) -> Result<String, AllocError> {
     let lines = loose_of(alloc, arena)?;
     without_end(alloc, lines.as_str())
 }
 
 impl Made {
-    /// A tree, by a text. A fragment tells how that is read.
+    /// The results of a text: a tree and, for a fragment, the initial tokenizer state.
     pub fn by_text(alloc: Global, arena: Arena, state: Option<State>) -> Made {
         Made {
             arena,
@@ -81,7 +79,8 @@ impl Made {
         }
     }
 
-    /// A tree, by tokens, with the lines of replies and of turns, and how many elements the sink was told of at the end.
+    /// The results of tokens: a tree, the lines of replies and of turns, and the number of elements that the sink was informed of at the
+    /// end.
     pub fn by_tokens(
         arena: Arena,
         state: Option<State>,
@@ -98,7 +97,7 @@ impl Made {
         }
     }
 
-    // What stands before each line of a printed tree that is looked at: all of a document, what the root of a fragment holds.
+    // The indent of the printed lines that are compared: all lines of a document, and those below the root of a fragment.
     fn indent(&self) -> &'static str {
         match self.state {
             Some(_) => "  ",
@@ -106,7 +105,7 @@ impl Made {
         }
     }
 
-    // The number that a part is.
+    // The value of a part that is a number.
     fn number(&self, part: Part) -> usize {
         match part {
             Part::Errors => self.arena.errors().len(),
@@ -116,7 +115,7 @@ impl Made {
         }
     }
 
-    // A part that is told of the run, as its section would say it.
+    // A part of the run, as its section gives it.
     fn part_of_run(&self, alloc: Global, part: Part) -> Result<String, AllocError> {
         match part {
             Part::State => text_of_state(alloc, self.state),
@@ -128,7 +127,7 @@ impl Made {
         }
     }
 
-    /// A part, as its section would say it.
+    /// A part, as its section gives it.
     pub fn part(&self, alloc: Global, part: Part) -> Result<String> {
         match part {
             Part::Document => Ok(document_of(alloc, &self.arena, self.indent())?),

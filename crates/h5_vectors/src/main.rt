@@ -1,11 +1,10 @@
-//! Runs the cases that stand in files, `h5_vectors FILE..`: each as it stands, with every text in single characters and
-//! in single bytes, a whole text in two pieces, at each of its places, and tokens as a list; and where a case says so,
-//! with each call of the sink refused in turn. What differs is printed, and then how many cases there are and how many
-//! differ. `data/README.md` has the layout.
+//! Runs the cases of files, `h5_vectors FILE..`: each with its input whole, with every text in single characters and in single bytes, a
+//! whole text in two chunks, split at each of its indices, and tokens as a list; and, if a case says so, with each call of the sink failing
+//! in turn. Prints what differs, and then the number of cases and of those that differ. `data/README.md` describes the files.
 //!
-//! `cases`, `sections`, `repeats`, `inputs` and `draft` read a file to cases, `settings` has how a case is parsed.
-//! `parsers`, `texts`, `tokens`, `lists` and `run` run it, `refusals` with calls that are refused; `trees` and `made` have
-//! what was made, and `compare` judges it. Begin with `src/case.rt`, then `src/compare.rt`.
+//! `cases`, `sections`, `repeats`, `inputs` and `draft` parse the cases of a file, and `settings` has the options of a case. `parsers`,
+//! `texts`, `tokens`, `lists` and `run` run a case, `refusals` with calls that fail; `trees` and `made` have the results, and `compare`
+//! compares them. Begin with `src/case.rt`; then read `src/compare.rt`.
 #![tactic(auto)]
 
 mod case;
@@ -32,14 +31,13 @@ use compare::agrees;
 use std::process::ExitCode;
 use std::{env, fs};
 
-// How many cases there were, and how many differed.
+// The number of cases, and of those that differ.
 #[derive(Drop)]
 struct Tally {
     cases: u64,
     differing: u64,
 }
 
-// Runs cases of a file.
 fn run_cases(rt: &HostRuntime, file: &str, cases: &[Case], tally: &mut Tally) -> Result<()> {
     for case in cases {
         tally.cases = tally.cases.saturating_add(1);
@@ -50,13 +48,11 @@ fn run_cases(rt: &HostRuntime, file: &str, cases: &[Case], tally: &mut Tally) ->
     Ok(())
 }
 
-// Runs the cases of a file of this text.
 fn run_text(rt: &HostRuntime, file: &str, text: &str, tally: &mut Tally) -> Result<()> {
     let cases = cases_of(rt.alloc(), text)?;
     run_cases(rt, file, cases.as_slice(), tally)
 }
 
-// Runs the cases of a file.
 fn run_file(rt: &HostRuntime, file: &str, tally: &mut Tally) -> Result<()> {
     let text = fs::read_to_string(rt, file)?;
     run_text(rt, file, text.as_str(), tally)
@@ -67,7 +63,7 @@ fn run_named(rt: &HostRuntime, file: &str, tally: &mut Tally) -> Result<()> {
     run_file(rt, file, tally).context(format_args!("{file}"))
 }
 
-// Runs the cases of all files that are named.
+// Runs the cases of all files given as arguments.
 fn run_files(rt: &HostRuntime) -> Result<Tally> {
     let mut tally = Tally {
         cases: 0,
@@ -79,7 +75,7 @@ fn run_files(rt: &HostRuntime) -> Result<Tally> {
     Ok(tally)
 }
 
-// Runs them, and prints how many there were: whether none differs.
+// Runs all cases, and prints their number. Returns true if none differs.
 fn run_and_count(rt: &HostRuntime) -> Result<bool> {
     let tally = run_files(rt)?;
     let (cases, differing) = (tally.cases, tally.differing);

@@ -1,4 +1,4 @@
-//! Builders and parsers over an arena, of which one call can be refused.
+//! Tree builders and parsers over an arena, one call of which can fail.
 use super::settings::{Context, Maker, Settings};
 use h5_arena::{Arena, NodeId};
 use h5_driver::{ParseOpts, Parser, parse_document, parse_fragment, parse_fragment_for_element};
@@ -11,19 +11,19 @@ use h5_token::states::State;
 use h5_tree_builder::TreeBuilder;
 use std::alloc::{AllocError, Global};
 
-/// An arena of whose calls one can be refused, and of which the calls of `pop` are counted.
+/// An arena, one call of which can fail, and which counts the calls of `pop`.
 pub type Sink = Starved<Arena>;
 
 pub type Builder = TreeBuilder<NodeId, Sink>;
 
 pub type TextParser = Parser<Sink>;
 
-// An empty sink, of whose calls that may find no memory the one after so many others is refused.
+// An empty sink. Of its calls that may allocate, the one after `before` others fails.
 fn new_sink(alloc: Global, before: usize) -> Result<Sink, AllocError> {
     Ok(Starved::new(Arena::new(alloc)?, before))
 }
 
-// The name of a context: HTML's, or behind `svg ` or `math ` one of SVG or MathML.
+// The name of a context: an HTML name or, after `svg ` or `math `, one of SVG or MathML.
 fn context_name(alloc: Global, name: &str) -> Result<QualName, AllocError> {
     let (ns, local) = match name.split_once(' ') {
         Some(("svg", local)) => (namespaces::SVG, local),
@@ -34,7 +34,7 @@ fn context_name(alloc: Global, name: &str) -> Result<QualName, AllocError> {
     Ok(QualName::new(None, ns, LocalName::new(alloc, local)?))
 }
 
-// A builder of a fragment in a new element of this name.
+// A fragment tree builder with a new element of this name as context.
 fn builder_in<S: TreeSink + Drop>(
     alloc: Global,
     sink: S,
@@ -47,7 +47,7 @@ fn builder_in<S: TreeSink + Drop>(
     TreeBuilder::new_for_fragment(alloc, sink, element, None, opts)
 }
 
-// A parser of a fragment in a new element of this name, which it is handed.
+// A fragment parser with a new element of this name as context, which the caller makes.
 fn parser_in<S: TreeSink + Drop>(
     alloc: Global,
     sink: S,
@@ -61,7 +61,7 @@ fn parser_in<S: TreeSink + Drop>(
     parse_fragment_for_element(alloc, sink, opts, element, scripting, None)
 }
 
-/// A builder with these settings, over a new sink, of whose calls that may find no memory the one after so many others is refused.
+/// A tree builder with these settings, over a new sink. Of the sink's calls that may allocate, the one after `before` others fails.
 pub fn new_builder(
     alloc: Global,
     settings: &Settings,
@@ -77,7 +77,7 @@ pub fn new_builder(
     }
 }
 
-// A parser of a fragment in this context.
+// A fragment parser with this context.
 fn new_fragment_parser(
     alloc: Global,
     context: &Context,
@@ -94,7 +94,7 @@ fn new_fragment_parser(
     }
 }
 
-/// A parser with these settings, over such a sink.
+/// A parser with these settings, over a new sink. Of the sink's calls that may allocate, the one after `before` others fails.
 pub fn new_parser(
     alloc: Global,
     settings: &Settings,
@@ -109,7 +109,7 @@ pub fn new_parser(
     }
 }
 
-/// How the text of a fragment is read in the context of its builder. A builder of a document tells nothing.
+/// The initial tokenizer state of a fragment, by the context of its tree builder. `None` for a document.
 pub fn state_in(builder: &Builder, settings: &Settings) -> Option<State> {
     if builder.is_fragment() {
         Some(builder.tokenizer_state_for_context_elem(settings.scripting()))

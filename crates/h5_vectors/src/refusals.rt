@@ -1,4 +1,4 @@
-//! Runs of a case in which a call of the sink is refused memory.
+//! Runs of a case in which a call of the sink fails with `AllocError`.
 use super::case::{Case, Input};
 use super::made::Made;
 use super::parsers::{Builder, Sink, TextParser, new_builder, new_parser, state_in};
@@ -13,18 +13,18 @@ use h5_token::states::State;
 use h5_token::{BuildFault, Token};
 use std::alloc::Global;
 
-/// How a run ends.
+/// The outcome of a run.
 #[derive(Drop)]
 pub enum Ending {
-    /// A call was refused, and each answer was as it has to be.
+    /// A call failed, and each call returned what it should.
     Refused,
-    /// No call was refused, and this was made.
+    /// No call failed; the results.
     Whole(Made),
-    /// An answer was not as it has to be.
+    /// A call returned something else than it should.
     Wrong,
 }
 
-/// In which cuts an input comes whose calls are refused.
+/// The splits with which calls of the sink are to fail.
 pub fn refused_cuts_of(input: &Input) -> &'static [Cut] {
     match input {
         Input::Text(_) | Input::Pieces(_) => &[Cut::Characters],
@@ -33,8 +33,8 @@ pub fn refused_cuts_of(input: &Input) -> &'static [Cut] {
     }
 }
 
-// Whether an answer is as it has to be: `Memory` where a call was refused, and `Failed` from then on, though the sink would serve. And
-// what stands in the sink is a forest.
+// Returns true if a call returned what it should: `Memory` if a call of the sink failed in it, and `Failed` from then on, although the sink
+// would succeed. The nodes of the sink must be a forest.
 fn is_right(was_refused: bool, sink: &Sink, answer: Result<(), BuildFault>) -> bool {
     let expected = match (was_refused, sink.was_refused()) {
         (true, _) => Err(BuildFault::Failed),
@@ -44,7 +44,7 @@ fn is_right(was_refused: bool, sink: &Sink, answer: Result<(), BuildFault>) -> b
     answer == expected && is_forest(sink.below())
 }
 
-// An answer without its value.
+// A result without its value.
 fn bare<T: Drop>(answer: Result<T, BuildFault>) -> Result<(), BuildFault> {
     match answer {
         Ok(_value) => Ok(()),
@@ -52,7 +52,7 @@ fn bare<T: Drop>(answer: Result<T, BuildFault>) -> Result<(), BuildFault> {
     }
 }
 
-// How a run ends whose builder or parser could not be made.
+// The outcome if the tree builder or the parser could not be made.
 fn unmade(fault: BuildFault) -> Ending {
     match fault {
         BuildFault::Memory => Ending::Refused,
@@ -60,14 +60,14 @@ fn unmade(fault: BuildFault) -> Ending {
     }
 }
 
-// Takes a token: whether the answer is as it has to be.
+// Processes a token. Returns true if the call returned what it should.
 fn take_token(builder: &mut Builder, token: Token, line: u64) -> bool {
     let was_refused = builder.sink.was_refused();
     let answer = bare(builder.process_token(token, line));
     is_right(was_refused, &builder.sink, answer)
 }
 
-// Takes tokens one by one.
+// Processes tokens one by one.
 fn take_each(builder: &mut Builder, tokens: Vec<(Token, u64)>) -> bool {
     let mut are_right = true;
     for (token, line) in tokens {
@@ -76,14 +76,14 @@ fn take_each(builder: &mut Builder, tokens: Vec<(Token, u64)>) -> bool {
     are_right
 }
 
-// Takes tokens as a list.
+// Processes tokens as a list.
 fn take_list(builder: &mut Builder, tokens: Vec<(Token, u64)>) -> bool {
     let was_refused = builder.sink.was_refused();
     let answer = bare(builder.process_all(tokens));
     is_right(was_refused, &builder.sink, answer)
 }
 
-// Whether a second end tells the sink nothing.
+// Returns true if a second end changes nothing in the sink.
 fn ends_once(builder: &mut Builder) -> bool {
     builder.end();
     let pops = builder.sink.pops();
@@ -91,7 +91,7 @@ fn ends_once(builder: &mut Builder) -> bool {
     builder.sink.pops() == pops
 }
 
-// Takes tokens in a cut, then an empty list, and then the end.
+// Processes tokens with this split, then an empty list, and then the end.
 fn take_all(alloc: Global, builder: &mut Builder, tokens: Vec<(Token, u64)>, cut: Cut) -> bool {
     let are_right = match cut {
         Cut::List => take_list(builder, tokens),
@@ -100,7 +100,6 @@ fn take_all(alloc: Global, builder: &mut Builder, tokens: Vec<(Token, u64)>, cut
     are_right && take_list(builder, Vec::new(alloc)) && ends_once(builder)
 }
 
-// The token of an item, with its line.
 fn token_of(item: Item) -> Result<(Token, u64)> {
     match item {
         Item::Token(token, line) => Ok((token, line)),
@@ -108,7 +107,7 @@ fn token_of(item: Item) -> Result<(Token, u64)> {
     }
 }
 
-// Puts the tokens of lines to others.
+// Appends the tokens of lines.
 fn put_tokens(alloc: Global, tokens: &mut Vec<(Token, u64)>, lines: &str) -> Result<()> {
     for item in parse(alloc, lines)? {
         tokens.push(token_of(item)?)?;
@@ -116,21 +115,20 @@ fn put_tokens(alloc: Global, tokens: &mut Vec<(Token, u64)>, lines: &str) -> Res
     Ok(())
 }
 
-// The tokens of lines.
 fn tokens_of(alloc: Global, lines: &str) -> Result<Vec<(Token, u64)>> {
     let mut tokens = Vec::new(alloc);
     put_tokens(alloc, &mut tokens, lines)?;
     Ok(tokens)
 }
 
-// What a builder made that took all.
+// The results of a tree builder that processed everything.
 fn made_by(alloc: Global, builder: Builder, settings: &Settings) -> Made {
     let state = state_in(&builder, settings);
     let arena = builder.into_sink().finish();
     Made::by_text(alloc, arena, state)
 }
 
-// How a run ends that has to be looked at no further: one of whose answers some were wrong, or else calls were refused.
+// The outcome of a run that has no results: wrong, or with a call that failed.
 fn cut_short(are_right: bool) -> Ending {
     if are_right {
         Ending::Refused
@@ -139,7 +137,7 @@ fn cut_short(are_right: bool) -> Ending {
     }
 }
 
-// How a run ends whose builder took all.
+// The outcome of a tree builder that processed everything.
 fn ended(alloc: Global, builder: Builder, are_right: bool, settings: &Settings) -> Ending {
     if are_right && !builder.sink.was_refused() {
         Ending::Whole(made_by(alloc, builder, settings))
@@ -148,7 +146,7 @@ fn ended(alloc: Global, builder: Builder, are_right: bool, settings: &Settings) 
     }
 }
 
-// How a run ends in which a builder takes tokens in this cut.
+// The outcome of tokens that a tree builder processes with this split.
 fn run_builder(
     alloc: Global,
     builder: Builder,
@@ -161,7 +159,7 @@ fn run_builder(
     ended(alloc, builder, are_right, settings)
 }
 
-// How a run ends in which tokens come in this cut.
+// The outcome of tokens with this split.
 fn run_tokens(
     alloc: Global,
     settings: &Settings,
@@ -176,7 +174,7 @@ fn run_tokens(
     }
 }
 
-// Takes a text in single characters: whether each answer is as it has to be.
+// Processes a text in single characters. Returns true if each call returned what it should.
 fn process_characters(parser: &mut TextParser, text: &str) -> bool {
     let mut are_right = true;
     let mut buffer = [0; 4];
@@ -188,7 +186,7 @@ fn process_characters(parser: &mut TextParser, text: &str) -> bool {
     are_right
 }
 
-// How a run ends whose parser made a tree at the end.
+// The outcome of a parser that returned a tree at the end.
 fn whole(alloc: Global, arena: Arena, was_refused: bool, state: Option<State>) -> Ending {
     if was_refused {
         Ending::Wrong
@@ -197,7 +195,7 @@ fn whole(alloc: Global, arena: Arena, was_refused: bool, state: Option<State>) -
     }
 }
 
-// How a run ends whose parser answered this at the end.
+// The outcome of a parser that returned this error at the end.
 fn stopped(fault: BuildFault, was_refused: bool) -> Ending {
     match (fault, was_refused) {
         (BuildFault::Failed, true) | (BuildFault::Memory, false) => Ending::Refused,
@@ -205,7 +203,7 @@ fn stopped(fault: BuildFault, was_refused: bool) -> Ending {
     }
 }
 
-// How a run ends whose parser took all, and told how a fragment is read.
+// The outcome of a parser that processed everything.
 fn finished(alloc: Global, parser: TextParser, state: Option<State>) -> Ending {
     let was_refused = parser.tokenizer.sink.sink.was_refused();
     match parser.finish() {
@@ -214,7 +212,7 @@ fn finished(alloc: Global, parser: TextParser, state: Option<State>) -> Ending {
     }
 }
 
-// How a run ends in which a parser takes a text in single characters.
+// The outcome of a text that a parser processes in single characters.
 fn run_parser(alloc: Global, parser: TextParser, settings: &Settings, text: &str) -> Ending {
     let mut parser = parser;
     let state = state_in(&parser.tokenizer.sink, settings);
@@ -225,7 +223,7 @@ fn run_parser(alloc: Global, parser: TextParser, settings: &Settings, text: &str
     }
 }
 
-// How a run ends in which a text comes in single characters.
+// The outcome of a text in single characters.
 fn run_text(alloc: Global, settings: &Settings, text: &str, before: usize) -> Ending {
     match new_parser(alloc, settings, before) {
         Ok(parser) => run_parser(alloc, parser, settings, text),
@@ -233,7 +231,7 @@ fn run_text(alloc: Global, settings: &Settings, text: &str, before: usize) -> En
     }
 }
 
-// The same of a text that is given in pieces.
+// The outcome of a text in chunks.
 fn run_pieces(
     alloc: Global,
     settings: &Settings,
@@ -244,7 +242,7 @@ fn run_pieces(
     Ok(run_text(alloc, settings, text.as_str(), before))
 }
 
-/// How a run of a case ends, in this cut, in which the call of the sink behind so many others that may find no memory is refused.
+/// The outcome of a case with this split, in which the sink's call that may allocate after `before` others fails.
 pub fn run_refused(alloc: Global, case: &Case, cut: Cut, before: usize) -> Result<Ending> {
     let settings = &case.settings;
     match &case.input {

@@ -12,20 +12,20 @@ use h5_token::BuildFault;
 use std::alloc::Global;
 use std::fmt;
 
-/// How an input comes.
+/// The way in which an input is given: how it is split.
 #[derive(Clone, Copy)]
 pub enum Cut {
-    /// As it stands: tokens one by one.
+    /// Whole; tokens are given one by one.
     Whole,
-    /// What is given in pieces or in chunks, in these.
+    /// An input in chunks: in these.
     Pieces,
-    /// A text that is given in pieces, in these, each a text of its own.
+    /// A text in chunks: in these, each an owned text.
     OwnPieces,
     /// Texts in single characters.
     Characters,
     /// A text in single bytes.
     Bytes,
-    /// A text in two pieces, the first of which has so many bytes, or a few more where a character would be cut.
+    /// A text in two chunks, the first of which has this number of bytes, or a few more so that no character is split.
     After(usize),
     /// Tokens as a list.
     List,
@@ -45,7 +45,7 @@ impl fmt::Display for Cut {
     }
 }
 
-/// In which cuts an input comes, but for those in two pieces.
+/// The splits of an input, except those in two.
 pub fn cuts_of(input: &Input) -> &'static [Cut] {
     match input {
         Input::Text(_) => &[Cut::Whole, Cut::Characters, Cut::Bytes],
@@ -62,7 +62,7 @@ pub fn cuts_of(input: &Input) -> &'static [Cut] {
     }
 }
 
-/// How many places a text has at which it is cut in two, too.
+/// The number of indices at which a text is also split in two.
 pub fn places_of(input: &Input) -> usize {
     match input {
         Input::Text(text) => text.len(),
@@ -70,7 +70,7 @@ pub fn places_of(input: &Input) -> usize {
     }
 }
 
-// The tree of a text, which comes in this cut, or in these pieces.
+// The tree of a text with this split, or in these chunks.
 fn parse_text(
     parser: TextParser,
     text: &str,
@@ -87,7 +87,7 @@ fn parse_text(
     }
 }
 
-// What a text makes, which comes in this cut, or in these pieces.
+// The results of a text with this split, or in these chunks.
 fn run_text(
     alloc: Global,
     settings: &Settings,
@@ -101,13 +101,13 @@ fn run_text(
     Ok(Made::by_text(alloc, arena, state))
 }
 
-// What a text makes that is given in pieces.
+// The results of a text in chunks.
 fn run_pieces(alloc: Global, settings: &Settings, pieces: &[String], cut: Cut) -> Result<Made> {
     let text: String = pieces.concat(alloc)?;
     run_text(alloc, settings, text.as_str(), pieces, cut)
 }
 
-// The tree of bytes, which come in this cut, or in these chunks.
+// The tree of bytes with this split, or in these chunks.
 fn parse_in(
     parser: TextParser,
     bytes: &[u8],
@@ -121,7 +121,7 @@ fn parse_in(
     }
 }
 
-// What bytes make, which come in this cut, or in these chunks.
+// The results of bytes with this split, or in these chunks.
 fn run_bytes(
     alloc: Global,
     settings: &Settings,
@@ -135,13 +135,13 @@ fn run_bytes(
     Ok(Made::by_text(alloc, arena, state))
 }
 
-// What bytes make that are given in chunks.
+// The results of bytes in chunks.
 fn run_chunks(alloc: Global, settings: &Settings, chunks: &[Vec<u8>], cut: Cut) -> Result<Made> {
     let bytes: Vec<u8> = chunks.concat(alloc)?;
     run_bytes(alloc, settings, bytes.as_slice(), chunks, cut)
 }
 
-/// What the input of a case makes, which comes in this cut.
+/// Runs a case with this split, and returns its results.
 pub fn run(alloc: Global, case: &Case, cut: Cut) -> Result<Made> {
     let settings = &case.settings;
     match &case.input {

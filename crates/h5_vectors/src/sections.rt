@@ -4,7 +4,7 @@ use super::settings::Maker;
 use anyhow::{Result, bail};
 use std::alloc::Global;
 
-/// In which form an input is said.
+/// The form of an input.
 #[derive(Clone, Copy)]
 pub enum Form {
     Text,
@@ -14,35 +14,35 @@ pub enum Form {
     ListsOfThree,
 }
 
-/// What a section says by its heading alone.
+/// A section that has only a heading.
 #[derive(Clone, Copy)]
 pub enum Switch {
     ScriptOff,
     RefuseEach,
 }
 
-/// What a section says in lines that aren't kept as they stand.
+/// A section whose lines aren't stored unchanged.
 #[derive(Clone, Copy)]
 pub enum Lines {
-    /// What words stand for in the sections below.
+    /// The words that are replaced in the sections below.
     Repeat,
     Options,
-    /// What the body of a page holds, with nothing else in the page.
+    /// The expected content of the body of a page that has nothing else.
     Body,
 }
 
-/// What a section says.
+/// The heading of a section.
 #[derive(Clone, Copy)]
 pub enum Heading {
     Input(Form),
     Context(Maker),
     Switch(Switch),
     Lines(Lines),
-    /// What is wanted of a part.
+    /// The expected text of a part.
     Part(Part),
 }
 
-/// A section: its heading, the number of the line where that stands, and the lines below.
+/// A section: its heading, the number of the heading's line, and the lines below.
 #[derive(Drop)]
 pub struct Section {
     pub heading: Heading,
@@ -70,7 +70,7 @@ fn part_named(word: &str) -> Option<Part> {
     }
 }
 
-// The heading of this word, which stands behind a `#`.
+// The heading of this word, which follows a `#`.
 fn heading_named(word: &str) -> Option<Heading> {
     match word {
         "repeat" => Some(Heading::Lines(Lines::Repeat)),
@@ -89,12 +89,12 @@ fn heading_named(word: &str) -> Option<Heading> {
     }
 }
 
-/// How many lines a text has; the last one is a line also where it is empty.
+/// The number of lines of a text, counting an empty last one.
 pub fn count_lines(text: &str) -> u64 {
     text.split('\n').count() as u64
 }
 
-// The section of these lines, whose first line has lost its `#` and stands at this place.
+// The section of these lines; `line` is the number of the first one, without its `#`.
 fn section_of(alloc: Global, line: u64, lines: &str) -> Result<Section> {
     let (word, below) = lines.split_once('\n').unwrap_or((lines, ""));
     let Some(heading) = heading_named(word) else {
@@ -107,7 +107,7 @@ fn section_of(alloc: Global, line: u64, lines: &str) -> Result<Section> {
     })
 }
 
-// Puts the sections of lines, whose first line stands at this place, to others.
+// Appends the sections of lines; `first` is the number of the first line.
 fn put_sections(alloc: Global, sections: &mut Vec<Section>, first: u64, lines: &str) -> Result<()> {
     let mut line = first;
     for lines in lines.split("\n#") {
@@ -117,8 +117,8 @@ fn put_sections(alloc: Global, sections: &mut Vec<Section>, first: u64, lines: &
     Ok(())
 }
 
-/// The sections of lines, each from a line that begins with `#` to the next one. The first of these lines has lost its `#` and
-/// stands at this place. An error says which line begins no section.
+/// Parses the sections of lines, each from a line that begins with `#` to the next one; `first` is the number of the first line, without
+/// its `#`. An error names the line that doesn't begin a section.
 pub fn sections_of(alloc: Global, first: u64, lines: &str) -> Result<Vec<Section>> {
     let mut sections = Vec::new(alloc);
     put_sections(alloc, &mut sections, first, lines)?;

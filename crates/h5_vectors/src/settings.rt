@@ -1,33 +1,33 @@
-//! How a text is parsed, or tokens are taken.
+//! The settings of a parser or a tree builder.
 use anyhow::{Result, bail};
 use h5_driver::ParseOpts;
 use h5_interface::QuirksMode;
 use h5_tables::TreeBuilderOpts;
 use h5_tokenizer::TokenizerOpts;
 
-/// Who makes the element that is a context.
+/// The one who makes the context element.
 #[derive(Clone, Copy)]
 pub enum Maker {
-    /// The parser, which is told its name.
+    /// The parser makes it, from its name.
     Parser,
-    /// The caller, who hands it to the parser.
+    /// The caller makes it, and passes it to the parser.
     Caller,
 }
 
 /// The context of a fragment.
 #[derive(Drop)]
 pub struct Context {
-    /// Its name, behind `svg ` or `math ` where it is such an element.
+    /// Its name, after `svg ` or `math ` for such an element.
     pub name: String,
     pub maker: Maker,
 }
 
-/// The context of a fragment, where there is one, and options.
+/// The context of a fragment, if there is one, and options.
 pub struct Settings {
     pub context: Option<Context>,
     pub discard_bom: bool,
     pub tree_builder: TreeBuilderOpts,
-    /// Whether each call of the sink that may find no memory is refused in turn, too.
+    /// True if each call of the sink that may allocate also fails in turn.
     pub refuses_each: bool,
 }
 
@@ -53,7 +53,7 @@ impl Settings {
         }
     }
 
-    // Sets the option of this name.
+    // Sets the option with this name.
     fn set_option(&mut self, line: u64, word: &str) -> Result<()> {
         match word {
             "exact_errors" => self.tree_builder.exact_errors = true,
@@ -67,7 +67,7 @@ impl Settings {
         Ok(())
     }
 
-    /// Sets the options of these names, which stand below the line of this number.
+    /// Sets the options with these names; `line` is the number of the line above.
     pub fn set_options(&mut self, line: u64, words: &str) -> Result<()> {
         for word in words.split_ascii_whitespace() {
             self.set_option(line, word)?;
@@ -75,12 +75,12 @@ impl Settings {
         Ok(())
     }
 
-    /// Whether scripts run, also in a context.
+    /// Returns true if scripting is enabled, also for a context element.
     pub fn scripting(&self) -> bool {
         self.tree_builder.scripting_enabled
     }
 
-    /// The options, as a parser takes them.
+    /// The options as a parser takes them.
     pub fn parse_opts(&self) -> ParseOpts {
         ParseOpts {
             tokenizer: TokenizerOpts {

@@ -1,4 +1,4 @@
-//! A builder that takes tokens, and what it answered.
+//! A tree builder that processes tokens, and its replies.
 use super::made::Made;
 use super::parsers::{Builder, new_builder, state_in};
 use super::run::Cut;
@@ -15,17 +15,17 @@ use std::alloc::{AllocError, Global};
 use std::fmt::Write;
 use std::mem;
 
-/// A builder, how many tokens came, and the lines of replies and of turns.
+/// A tree builder, the number of tokens so far, and the lines of replies and of turns.
 struct Taker {
     builder: Builder,
-    /// How the text of a fragment is read.
+    /// The initial tokenizer state of a fragment.
     state: Option<State>,
     number: u64,
-    /// Tokens that are taken as a list, once all of it is there.
+    /// Tokens that are processed as a list when it is complete.
     waiting: Vec<(Token, u64)>,
     replies: String,
     turns: String,
-    /// How many elements the sink was told of at the end.
+    /// The number of elements that the sink was informed of at the end.
     pops: usize,
     alloc: Global,
 }
@@ -45,12 +45,11 @@ impl Drop for Taker {
     }
 }
 
-// A list of one token.
 fn one_token(alloc: Global, token: Token, line: u64) -> Result<Vec<(Token, u64)>, AllocError> {
     Ok(vec![in alloc; (token, line)]?)
 }
 
-// Puts the characters of a text to tokens, each a text.
+// Appends the characters of a text, each as a text.
 fn put_characters(
     alloc: Global,
     tokens: &mut Vec<(Token, u64)>,
@@ -64,14 +63,14 @@ fn put_characters(
     Ok(())
 }
 
-// The characters of a text, each a text.
+// The characters of a text, each as a text.
 fn characters_in(alloc: Global, text: &str, line: u64) -> Result<Vec<(Token, u64)>, AllocError> {
     let mut tokens = Vec::new(alloc);
     put_characters(alloc, &mut tokens, text, line)?;
     Ok(tokens)
 }
 
-// The characters of a text, each a text; of an empty one itself.
+// The characters of a text, each as a text; an empty text is unchanged.
 fn characters_of_text(
     alloc: Global,
     text: String,
@@ -84,7 +83,7 @@ fn characters_of_text(
     }
 }
 
-// A token, or for a text its characters.
+// A token; for a text, its characters.
 fn characters_of(alloc: Global, token: Token, line: u64) -> Result<Vec<(Token, u64)>, AllocError> {
     match token {
         Token::CharacterTokens(text) => characters_of_text(alloc, text, line),
@@ -93,7 +92,7 @@ fn characters_of(alloc: Global, token: Token, line: u64) -> Result<Vec<(Token, u
 }
 
 impl Taker {
-    // A builder with these settings, which took nothing yet.
+    // A new tree builder with these settings.
     fn new(alloc: Global, settings: &Settings) -> Result<Taker> {
         let builder = new_builder(alloc, settings, usize::MAX)?;
         Ok(Taker {
@@ -108,7 +107,7 @@ impl Taker {
         })
     }
 
-    // The line of a reply to the last token, where it has one.
+    // The line of a reply to the last token, if it has one.
     fn line_of(&self, reply: &Reply<NodeId>) -> Result<String> {
         let mut line = String::new(self.alloc);
         match reply {
@@ -119,14 +118,14 @@ impl Taker {
         Ok(line)
     }
 
-    // Notes the reply to a token.
+    // Adds the reply to a token.
     fn note(&mut self, reply: &Reply<NodeId>) -> Result<()> {
         let line = self.line_of(reply)?;
         self.replies.push_str(line.as_str())?;
         Ok(())
     }
 
-    // Notes the reply to a character of a token, if it is another one than the last.
+    // Adds the reply to a character of a token, if it differs from the last one.
     fn note_other(&mut self, last: &mut String, reply: &Reply<NodeId>) -> Result<()> {
         let line = self.line_of(reply)?;
         if line.as_str() != last.as_str() {
@@ -136,7 +135,7 @@ impl Taker {
         Ok(())
     }
 
-    // Notes replies to the characters of one token, each other one once.
+    // Adds the replies to the characters of one token, each different one once.
     fn note_each(&mut self, replies: &[Reply<NodeId>]) -> Result<()> {
         let mut last = String::new(self.alloc);
         for reply in replies {
@@ -145,7 +144,6 @@ impl Taker {
         Ok(())
     }
 
-    // The reply to a token.
     fn reply_to(&mut self, token: Token, line: u64) -> Reply<NodeId> {
         match self.builder.process_token(token, line) {
             Ok(answer) => Reply::Answer(answer),
@@ -153,13 +151,13 @@ impl Taker {
         }
     }
 
-    // Notes how many turns the last token took.
+    // Adds the number of turns of the last token.
     fn note_turns(&mut self) -> Result<(), AllocError> {
         let (number, turns) = (self.number, self.builder.turns());
         writeln!(self.turns, "{number} {turns}")
     }
 
-    // Takes a token whole.
+    // Processes a token whole.
     fn take_whole(&mut self, token: Token, line: u64) -> Result<()> {
         self.number = self.number.saturating_add(1);
         let reply = self.reply_to(token, line);
@@ -167,7 +165,7 @@ impl Taker {
         Ok(self.note_turns()?)
     }
 
-    // Takes a token, a text by its characters.
+    // Processes a token; for a text, its characters.
     fn take_characters(&mut self, token: Token, line: u64) -> Result<()> {
         self.number = self.number.saturating_add(1);
         let tokens = characters_of(self.alloc, token, line)?;
@@ -175,7 +173,7 @@ impl Taker {
         self.note_each(replies.as_slice())
     }
 
-    // Notes replies to as many tokens.
+    // Adds the replies to a list of tokens.
     fn note_all(&mut self, replies: &[Reply<NodeId>]) -> Result<()> {
         for reply in replies {
             self.number = self.number.saturating_add(1);
@@ -184,14 +182,14 @@ impl Taker {
         Ok(())
     }
 
-    // Takes the tokens that wait, as a list.
+    // Processes the waiting tokens, as a list.
     fn take_waiting(&mut self) -> Result<()> {
         let tokens = mem::replace(&mut self.waiting, Vec::new(self.alloc));
         let replies = self.builder.process_all(tokens)?;
         self.note_all(replies.as_slice())
     }
 
-    // Takes a token, or has it wait where all up to an end come as a list.
+    // Processes a token, or adds it to the waiting ones if tokens are given as a list.
     fn take_token(&mut self, token: Token, line: u64, cut: Cut) -> Result<()> {
         match cut {
             Cut::List => Ok(self.waiting.push((token, line))?),
@@ -200,7 +198,7 @@ impl Taker {
         }
     }
 
-    // Takes what waits, where tokens come as a list.
+    // Processes the waiting tokens if tokens are given as a list.
     fn take_list(&mut self, cut: Cut) -> Result<()> {
         match cut {
             Cut::List => self.take_waiting(),
@@ -208,14 +206,14 @@ impl Taker {
         }
     }
 
-    // Takes an end.
+    // Processes an end.
     fn take_end(&mut self, cut: Cut) -> Result<()> {
         self.take_list(cut)?;
         self.end();
         Ok(())
     }
 
-    // Takes an item.
+    // Processes an item.
     fn take_item(&mut self, item: Item, cut: Cut) -> Result<()> {
         match item {
             Item::Token(token, line) => self.take_token(token, line, cut),
@@ -223,7 +221,7 @@ impl Taker {
         }
     }
 
-    // Takes the items of lines.
+    // Processes the items of lines.
     fn take_items(&mut self, lines: &str, cut: Cut) -> Result<()> {
         for item in parse(self.alloc, lines)? {
             self.take_item(item, cut)?;
@@ -231,7 +229,7 @@ impl Taker {
         self.take_list(cut)
     }
 
-    // Tells the builder of the end.
+    // Ends the tree builder.
     fn end(&mut self) {
         let before = self.builder.sink.pops();
         self.builder.end();
@@ -239,7 +237,7 @@ impl Taker {
         self.pops = self.pops.saturating_add(told);
     }
 
-    // What was made.
+    // The results.
     fn into_made(self) -> Made {
         let Taker {
             builder,
@@ -255,7 +253,7 @@ impl Taker {
         Made::by_tokens(arena, state, replies, turns, pops)
     }
 
-    // Tells the builder of the end, and gives what was made.
+    // Ends the tree builder, and returns the results.
     fn finish(self) -> Made {
         let mut taker = self;
         taker.end();
@@ -263,7 +261,7 @@ impl Taker {
     }
 }
 
-/// What the tokens of lines make, which come in this cut: whole, each text by its characters, or all up to an end as a list.
+/// The results of the tokens of lines with this split: whole, each text by its characters, or all up to an end as a list.
 pub fn run_tokens(alloc: Global, settings: &Settings, lines: &str, cut: Cut) -> Result<Made> {
     let mut taker = Taker::new(alloc, settings)?;
     taker.take_items(lines, cut)?;

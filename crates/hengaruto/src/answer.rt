@@ -9,7 +9,7 @@ use h5_listing::{
 use h5_page::{TextOpts, text_with};
 use h5_print::{print_quirks, write_tree};
 use html_tree_builder::arena::NodeRef;
-use html_tree_builder::clean::{AllowList, TextPolicy, clean_tree};
+use html_tree_builder::clean::{AllowList, DefaultPolicy, clean_tree};
 use html_tree_builder::encodings::{Encoding, EncodingOpts};
 use html_tree_builder::serialize::{SerializeFault, serialize};
 use html_tree_builder::{Arena, QuirksMode, SerializeOpts};
@@ -136,7 +136,7 @@ fn cleaned(
 ) -> Result<Vec<u8>, SerializeFault> {
     match policy {
         Some(policy) => clean_tree(alloc, top, policy, Vec::new(alloc)),
-        None => clean_tree(alloc, top, &TextPolicy, Vec::new(alloc)),
+        None => clean_tree(alloc, top, &DefaultPolicy, Vec::new(alloc)),
     }
 }
 

@@ -3,7 +3,7 @@ use super::fault::Fault;
 use h5_listing::{Form, Item, print_items};
 use h5_page::text_of;
 use html_tree_builder::arena::NodeRef;
-use html_tree_builder::select::{Selector, SelectorFault};
+use html_tree_builder::select::{Selector, SelectorError};
 use html_tree_builder::{Arena, NodeId};
 use std::alloc::{AllocError, Global};
 use std::io::Write;
@@ -119,13 +119,13 @@ pub fn put_selected<W: Write>(
 }
 
 /// Reports why a text isn't a selector, and returns the exit status. An error of standard error is ignored.
-pub fn tell_selector(rt: &HostRuntime, text: &str, fault: &SelectorFault) -> u8 {
+pub fn tell_selector(rt: &HostRuntime, text: &str, fault: &SelectorError) -> u8 {
     match fault {
-        SelectorFault::Memory => {
+        SelectorError::Memory => {
             let _told = writeln!(rt.stderr(), "hengaruto: out of memory");
             1
         }
-        SelectorFault::Invalid { at, problem } => {
+        SelectorError::Invalid { at, problem } => {
             let _told = writeln!(
                 rt.stderr(),
                 "hengaruto: invalid selector '{text}': at offset {at}: {problem}"

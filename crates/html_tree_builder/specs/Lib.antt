@@ -1,4 +1,4 @@
--- What contracts cite of the crates below, handed on, so that a caller names this crate alone.
+-- What contracts cite from the crates below, re-exported, so that a caller depends on this crate alone.
 pub use Rattle.h5_names.specs.AttributeText
 pub use Rattle.h5_names.specs.KnownNames
 pub use Rattle.h5_names.specs.Urls
@@ -31,6 +31,8 @@ pub use Rattle.h5_selectors.specs.Selected
 pub use Rattle.h5_selectors.specs.Ways
 pub use Rattle.h5_plain.specs.Plain
 pub use Rattle.h5_plain.specs.Rebuilding
+pub use Rattle.h5_plain.specs.Staying
+pub use Rattle.h5_round_trip.specs.Inside
 pub use Rattle.h5_round_trip.specs.Readable
 pub use Rattle.h5_round_trip.specs.Written
 pub use Rattle.h5_rules.specs.Run
@@ -54,7 +56,7 @@ pub use Rattle.h5_clean.specs.Pass
 pub use Rattle.h5_clean.specs.Places
 pub use Rattle.h5_clean.specs.Policies
 pub use Rattle.h5_clean.specs.Source
-pub use Rattle.h5_clean.specs.TextPolicy
+pub use Rattle.h5_clean.specs.DefaultPolicy
 pub use Rattle.h5_clean.specs.Texts
 pub mod SerializeFaults
 pub mod Types

@@ -1,4 +1,4 @@
-//! The laws over whole runs, each the contract of a function that does nothing.
+//! The laws of whole runs. Each is the contract of a function that does nothing.
 ghost use Rattle.std.specs.Prelude.{◌≡◌, ℕ, false, None, List};
 ghost use Rattle.h5_interface.specs.Forest.{Forest, IsForest};
 ghost use Rattle.h5_interface.specs.Seen.{Seen};
@@ -37,11 +37,12 @@ pub use h5_states::laws::{
     cuts_tell_the_same_errors, tellings_join, told_pieces_join, what_tells_errors_reads,
 };
 
-/// What is written of a plain document comes back, whichever reader reads it, if no `pre` of it begins with a newline: a reader drops
-/// one there, and a serializer writes it once. Where one that can be read stands in a forest, and what a serializer writes of it
-/// comes in pieces, whatever they are, to a parser of documents with the default options, over a sink that holds its document
-/// alone, that takes the pieces by `process` and then `finish`, that document stands in what the sink tells, in no quirks; and what
-/// is written of that tree is the same text.
+/// If a forest holds a readable plain document in which no `pre` begins with a newline, and a serializer that writes the
+/// document's children without creating missing parents writes a text, and a new parser of documents with default options, over
+/// any tokenizer and over a sink that holds only its document, takes this text in any chunks by `process`, and `finish`
+/// follows, then the sink shows that document, in no-quirks mode, and the serializer writes the same text of its tree.
+///
+/// The condition on `pre` is needed because a parser drops a newline at the start of a `pre`, and a serializer writes only one.
 pub fn written_documents_come_back<R: Reader>()
     ensures { (f : Forest) (d : PlainDocument) (opts : SerializeOpts) (pieces : List (List ℕ)) (first last : Parsing R) (seen told : Seen) →
         IsForest f → DocumentStands f d → KeepsNewlines d → IsReadableDocument d

@@ -1,15 +1,16 @@
-//! The tree builder, driver and serializer of html5ever, proved: every module under its name there, and at the root the names that
-//! most callers need.
+//! A proved port of html5ever's tree builder, driver and serializer. Modules that html5ever has are under its names, and the
+//! names that most callers need are at the root.
 //!
 //! ```text
 //! text or bytes -> Parser -> a sink of trees (Arena) -> serialize::serialize -> text
 //! ```
 //!
-//! The parser at the root is over the standard reader: all of HTML, as the WHATWG standard's section 13.2.5 has it. The parser
-//! over the plain reader, which reads one exact subset, stands in `driver` under the same names, and the plain reader itself
-//! in `tokenizer`; the standard reader stands in `standard`.
+//! The parser at the root uses the standard tokenizer, which reads all of HTML (WHATWG HTML standard, section 13.2.5). The
+//! standard tokenizer itself is in `standard`. The plain tokenizer, which reads one exact subset, is in `tokenizer`, and the
+//! parser over it is in `driver`, with the same names.
 //!
-//! What contracts cite is handed on in `specs/Lib.antt`, so a caller with a contract names this crate alone.
+//! `specs/Lib.antt` re-exports what contracts cite, so a caller with contracts depends on this crate alone. Begin with `Parser`
+//! in `h5_driver`.
 #![tactic(auto)]
 
 pub mod encoding;

@@ -1,4 +1,4 @@
--- A builder that works takes what isn't refused in a text where it is in one, and works at the place behind it.
+-- A builder that works takes, in the mode "text", what this mode doesn't refuse, and works at the next place.
 use Rattle.std.proofs.Common.{◌≡◌, ℕ, true, false, List, sym, subst}
 use Rattle.h5_token.specs.Reply.{Continues, Indicates, Reply, RunsScript, TurnsPlain, TurnsRaw}
 use Rattle.h5_token.specs.TokenText.{CommentIs, Characters, DoctypeIs, EndOfFile, NullCharacter, ParseErrorIs, TagIs, TokenText}
@@ -17,15 +17,15 @@ use Rattle.h5_driver.specs.PlainReader.{IsRawMode}
 use Rattle.h5_driver.specs.Working.{IsWorking}
 use Rattle.h5_driver.proofs.TakenLaws.{text_no_text, token_taken, was_text}
 
--- it works where the reader is at this place
+-- it works if the tokenizer is at this place
 abbrev pub IsWorkingAt : ReaderPlace → View → Type 0
 IsWorkingAt p v = IsWorking (λ (q : ReaderPlace). IsRawMode q.mode) p v
 
--- only the reader's state counts
+-- only the tokenizer's state matters
 pub works_at : (p q : ReaderPlace) (v : View) → q.mode ≡ p.mode → IsWorkingAt p v → IsWorkingAt q v
 works_at p q v e w = record { ready = w.ready; text = λ i. subst IsRawMode (sym e) (w.text i) }
 
--- the reader is in raw text where the builder is in a text
+-- the tokenizer is in raw text if the builder's mode is "text"
 start_raw : (p : ReaderPlace) (name : List ℕ) (r : Reply) (m : InsertionMode) → Leads r m → m ≡ Text → IsRawMode (after_tag p StartTag name r).mode
 start_raw p name Continues m h e = absurd (text_no_text m h e)
 start_raw p name (RunsScript node) m h e = absurd (text_no_text m h e)

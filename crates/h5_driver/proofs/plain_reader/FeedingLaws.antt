@@ -1,4 +1,4 @@
--- What the plain reader's calls do over a builder that works.
+-- What the plain tokenizer's calls do over a builder that works.
 use Rattle.std.proofs.Common.{◌≡◌, ◌≢◌, ◌++◌, ◌<◌, ℕ, true, false, List, [], length, Option, Some, None, Result, Ok, Err, OnErr, OnOk, inl, inr, refl, ap, sym, subst, ◌∙◌, append-nil}
 use Rattle.h5_token.specs.Reply.{Reply}
 use Rattle.h5_token.specs.TokenText.{TokenText, Characters}
@@ -61,7 +61,7 @@ fault_is_memory choices node p m xs new n queue AfterEnd w h = absurd (never_ref
 fault_is_memory choices node p m xs new n queue NotInText w h = absurd (never_refused choices p m xs NotInText new n w h)
 fault_is_memory choices node p m xs new n queue Failed w h = absurd (never_refused choices p m xs Failed new n w h)
 
--- the end of a builder that works: a fault is want of memory
+-- the end of a builder that works: an error is a failed allocation
 closes_memory : (choices : SinkChoices) (p : ReaderPlace) (m n : View) (o : Option TokenText) (line last : ℕ) (f : BuildFault) → IsWorkingAt p m → ((t : TokenText) → o ≡ Some t → refuses_in m.world.mode t ≡ false)
     → ClosesWith (replies choices) (after choices) (ended choices) m (handed o) line last n (Err f) → f ≡ Memory
 closes_memory choices p m n None line last f w c h = finishes_memory choices m n last f w.ready h

@@ -1,4 +1,4 @@
--- What a reader of raw text hands on: nothing that is refused in a text, and it turns to no other state by itself.
+-- What a tokenizer emits of raw text: nothing that the mode "text" refuses, and it doesn't change the state itself.
 use Rattle.std.proofs.Common.{◌≡◌, ℕ, Bool, false, List, [], ◌∷◌, Option, Some, None, codes, refl, subst}
 use Rattle.h5_token.specs.TokenText.{TokenText}
 use Rattle.h5_token.specs.declared.states.RawKind.{RawKind}
@@ -16,7 +16,7 @@ use Rattle.h5_tokenizer.specs.declared.front.Mode.{Mode}
 use Rattle.h5_tokenizer.specs.declared.front.Mode.TheVariants.{RawData}
 use Rattle.h5_driver.specs.PlainReader.{IsRawMode}
 
--- nothing begins but an end tag, or what stands for a piece of text
+-- nothing begins except an end tag, or something that a text replaces
 abbrev IsRawOpening : Match Opening → Type 0
 IsRawOpening (Found (Begins RawEndTag) rest) = Unit {0}
 IsRawOpening (Found (Begins construct) rest) = ⊥
@@ -51,7 +51,7 @@ end_tag_raw (c ∷ cs) xs = then_raw (literal (codes "</") xs) _ (λ u rest. say
 opening_raw : (kind : RawKind) (last : List ℕ) (foreign : Bool) (xs : List ℕ) → IsRawOpening (opening (RawData kind) last foreign xs)
 opening_raw kind last foreign xs = or_raw (raw_end_tag last xs) _ (end_tag_raw last xs) (stands_raw (escape (reads_references kind) xs))
 
--- so a whole token at the front is no start tag, comment or null
+-- so a whole token at the start isn't a start tag, comment or null
 abbrev IsRawPiece : Match Piece → Type 0
 IsRawPiece (Found (Whole token) rest) = is_refused_in_text token ≡ false
 IsRawPiece (Found (Switch mode) rest) = ⊥
@@ -91,7 +91,7 @@ pub raw_stays : (mode : Mode) (last : List ℕ) (foreign : Bool) (xs rest : List
 raw_stays (RawData kind) last foreign xs rest next e r = subst IsRawPiece e (front_raw kind last foreign xs)
 raw_stays _ last foreign xs rest next e r = r
 
--- and at the end an undecided rest is a text, or nothing
+-- and at the end an undecided suffix is a text, or nothing
 abbrev IsRawRest : Option TokenText → Type 0
 IsRawRest None = Unit {0}
 IsRawRest (Some token) = is_refused_in_text token ≡ false

@@ -1,4 +1,4 @@
--- In raw text the end leaves a text at most.
+-- In raw text the end leaves at most a text.
 use Rattle.std.proofs.Common.{◌≡◌, ◌++◌, ℕ, Bool, true, false, List, [], Option, Some, None, codes, cond, refl}
 use Rattle.h5_states.specs.declared.kinds.TextKind.{TextKind}
 use Rattle.h5_states.specs.declared.kinds.TextKind.TheVariants.{CdataSection}

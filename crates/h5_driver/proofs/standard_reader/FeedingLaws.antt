@@ -1,4 +1,4 @@
--- What the standard reader's calls do over a builder that works.
+-- What the standard tokenizer's calls do over a builder that works.
 use Rattle.std.proofs.Common.{◌≡◌, ◌≢◌, ◌++◌, ◌<◌, ℕ, Bool, true, false, List, [], ◌∷◌, Option, Some, None, Result, Ok, Err, OnErr, OnOk, inl, inr, refl, ap, sym, subst, ◌∙◌, IsUtf8}
 use Rattle.std.proofs.lemmas.Bool.{false≢true}
 use Rattle.h5_token.specs.Reply.{Reply, RunsScript}
@@ -41,14 +41,14 @@ use Rattle.h5_driver.proofs.standard_reader.WorkLaws.{IsWorkingAt, read_works}
 abbrev ReadingsAt : SinkChoices → ReaderPlace → View → List ℕ → List TokenText → ReaderPlace → View → List ℕ → Type 0
 ReadingsAt choices p v xs ts q w ys = whole.Readings references (replies choices) (after choices) foreign p v xs ts q w ys
 
--- one reading, where what was fed is a text
+-- one reading, if what was fed is a text
 still : (at_start : Bool) (xs : List ℕ) → still_at_start at_start xs ≡ true → IsUtf8 xs → (at_start ≡ true) × (xs ≡ [])
 still true xs e u = (refl, none_whole xs u e)
 still false xs e u = absurd (false≢true e)
 
 module _ (choices : SinkChoices) (r s : ReaderText) (m n : View) (xs ys : List ℕ) (ts : List TokenText) (reply : Reply)
     (read : Read references (replies choices) (after choices) foreign r.place m (ahead r xs) ts reply s.place n ys) (taken : refuses reply ≡ false) (start : s.at_start ≡ still_at_start r.at_start xs) (utf8 : IsUtf8 xs) where
-  -- where it is known that no byte order mark comes
+  -- it is known that no byte order mark comes
   read_begun : still_at_start r.at_start xs ≡ false → Advances (Readings choices) r m xs s n ys
   read_begun e = record {
     tokens = ts;
@@ -58,7 +58,7 @@ module _ (choices : SinkChoices) (r s : ReaderText) (m n : View) (xs ys : List �
         (more_reading no_reading (read_goes_on references (replies choices) (after choices) foreign more read) taken));
   }
 
-  -- where one may still come nothing was fed
+  -- if one may still come, nothing was fed
   read_nothing : still_at_start r.at_start xs ≡ true → Advances (Readings choices) r m xs s n ys
   read_nothing e =
       let at = still r.at_start xs e utf8 in
@@ -81,7 +81,7 @@ module _ (choices : SinkChoices) (r s : ReaderText) (m n : View) (xs ys : List �
   pub read_advances : Advances (Readings choices) r m xs s n ys
   read_advances = by_start (still_at_start r.at_start xs) refl
 
-  -- and there is less to do where it stopped
+  -- and there is less to do after it stopped
   less_begun : still_at_start r.at_start xs ≡ false → goes_on reply ≡ false → weight s.place (ahead s ys) < weight r.place (ahead r xs)
   less_begun e stops = subst (λ b. weight s.place (behind_mark b ys) < weight r.place (ahead r xs)) (sym (start ∙ e)) (stopped_is_less (replies choices) (after choices) foreign read stops)
 
@@ -159,9 +159,9 @@ module _ {H : Type 0} (choices : SinkChoices) (node : H → ℕ) (r : ReaderText
     memory = ap Err (fault_is_memory choices node r v xs s w ys f at_first h);
   }
 
--- ---- the end of a builder that works: a fault is want of memory
+-- ---- the end of a builder that works: an error is a failed allocation
 
--- a token at the end, which is none in raw text
+-- a token at the end; raw text has none
 token_closes : (choices : SinkChoices) (m n : View) (o : Option TokenText) (line last : ℕ) (f : BuildFault) → IsReady m → (m.world.mode ≡ Text → o ≡ None)
     → ClosesWith (replies choices) (after choices) (ended choices) m (told.handed o) line last n (Err f) → f ≡ Memory
 token_closes choices m n None line last f r raw h = finishes_memory choices m n last f r h

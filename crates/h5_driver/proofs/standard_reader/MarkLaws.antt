@@ -1,4 +1,4 @@
--- The byte order mark, where a text comes in pieces of whole characters.
+-- The byte order mark, if a text comes in chunks of whole characters.
 use Rattle.std.proofs.Common.{◌≡◌, ◌==◌, ℕ, Bool, true, false, List, [], ◌∷◌, ◌++◌, refl, ap, sym, subst, ◌∙◌, IsUtf8}
 use Rattle.std.proofs.lemmas.Bool.{false≢true}
 use Rattle.std.proofs.lemmas.Map.Views.{exact_unsigned_eq}
@@ -8,7 +8,7 @@ use Rattle.h5_markup.specs.Matching.{Found, Grows, Match, No, Open, literal}
 use Rattle.h5_markup.proofs.Growth.{literal_stable}
 use Rattle.h5_standard.specs.Mark.{behind, behind_mark, is_open, mark, still_at_start}
 
--- what was decided of it stays so, whatever follows
+-- what was decided about it doesn't depend on what follows
 grown : (xs more : List ℕ) (m n : Match (Unit {0})) → Grows m more n → is_open m ≡ false → behind (xs ++ more) n ≡ behind xs m ++ more
 grown xs more Open n g e = absurd (false≢true (sym e))
 grown xs more No n g e = ap (behind (xs ++ more)) g
@@ -18,7 +18,7 @@ pub decided : (at_start : Bool) (xs more : List ℕ) → still_at_start at_start
 decided false xs more e = refl
 decided true xs more e = grown xs more (mark xs) (mark (xs ++ more)) ((literal_stable (0xef ∷ 0xbb ∷ 0xbf ∷ [])).grows xs more) e
 
--- no text is a part of it but the empty one
+-- no text is a proper prefix of it except the empty one
 not_whole : (xs : List ℕ) → is_utf8 xs ≡ false → ¬ (IsUtf8 xs)
 not_whole xs e u = false≢true (sym e ∙ is_utf8-from_IsUtf8 xs u)
 
@@ -30,7 +30,7 @@ two : ¬ (IsUtf8 (0xef ∷ 0xbb ∷ []))
 unfolding is_utf8 chars
 two = not_whole (0xef ∷ 0xbb ∷ []) refl
 
--- a byte of it, where what stands there may be a part of it
+-- one byte of it, if a prefix of it is there
 first_of : (p x : ℕ) (ps xs : List ℕ) (b : Bool) → (x == p) ≡ b → is_open (literal (p ∷ ps) (x ∷ xs)) ≡ true → (x ≡ p) × (is_open (literal ps xs) ≡ true)
 first_of p x ps xs true e o = (exact_unsigned_eq x p e, rw e at o)
 first_of p x ps xs false e o = absurd (false≢true (rw e at o))

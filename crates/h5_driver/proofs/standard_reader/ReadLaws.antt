@@ -1,4 +1,4 @@
--- A reading of nothing, and how much is left to do behind an answer that stops reading.
+-- A reading of nothing, and how much is left to do after a reply that stops reading.
 use Rattle.std.proofs.Common.{◌≡◌, ◌≢◌, ◌<◌, ◌≤◌, ℕ, Bool, true, false, List, [], ◌∷◌, refl, sym, ◌∙◌, arith}
 use Rattle.std.proofs.lemmas.Bool.{false≢true}
 use Rattle.h5_token.specs.Reply.{Reply}
@@ -19,7 +19,7 @@ passes_is_less (drops {p} {x} {xs} d rest) h = omega (arith, passes_is_no_more r
 passes_is_less (goes {p} {x} {xs} text state d e rest) h = omega (arith, passes_is_no_more rest, consumed_is_less p (behind x state p) x xs)
 passes_is_less (again {p} {x} {xs} text state d e rest) h = omega (arith, passes_is_no_more rest, reconsumed_is_less p x xs text state e)
 
--- of nothing there is nothing to pass
+-- in an empty input there is nothing to pass
 record PassesNothing (p : ReaderPlace) (text : List ℕ) (q : ReaderPlace) (ys : List ℕ) : Type 0 where
   emitted : text ≡ []
   place : p ≡ q

@@ -1,4 +1,4 @@
--- A builder that works takes what the standard reader hands on, and works at the place behind it.
+-- A builder that works takes what the standard tokenizer emits, and works at the next place.
 use Rattle.std.proofs.Common.{◌≡◌, ℕ, true, false, List, [], ◌∷◌, refl}
 use Rattle.std.proofs.lemmas.Bool.{false≢true}
 use Rattle.h5_token.specs.Reply.{Continues, Indicates, Reply, RunsScript, TurnsPlain, TurnsRaw}
@@ -20,7 +20,7 @@ use Rattle.h5_states.proofs.RawLaws.{chosen_raw, step_raw}
 use Rattle.h5_driver.specs.Working.{IsWorking, after, foreign, replies}
 use Rattle.h5_driver.proofs.TakenLaws.{comes, text_no_text, token_taken, was_text}
 
--- it works where the reader is at this place
+-- it works if the tokenizer is at this place
 abbrev pub IsWorkingAt : ReaderPlace → View → Type 0
 IsWorkingAt p v = IsWorking (λ (q : ReaderPlace). IsRaw q.state) p v
 
@@ -28,7 +28,7 @@ end_comes : (tag : TagText) (k : TagKind) → tag.kind ≡ k → is_end k ≡ tr
 end_comes tag StartTag e h = absurd (false≢true h)
 end_comes tag EndTag e h = rw e refl
 
--- what comes in a raw element isn't refused in a text
+-- the mode "text" doesn't refuse what comes in a raw element
 raw_comes : (t : TokenText) (state : State) → RawBehind (t ∷ []) state → is_refused_in_text t ≡ false
 raw_comes (DoctypeIs doctype) state h = absurd h
 raw_comes (TagIs tag) state h = end_comes tag tag.kind refl h
@@ -38,7 +38,7 @@ raw_comes NullCharacter state h = absurd h
 raw_comes EndOfFile state h = absurd h
 raw_comes (ParseErrorIs message) state h = absurd h
 
--- the reader is in raw text where the builder is in a text
+-- the tokenizer is in raw text if the builder's mode is "text"
 start_raw : (p : ReaderPlace) (name : List ℕ) (r : Reply) (n : InsertionMode) → Leads r n → n ≡ Text → IsRaw (after_tag StartTag name r p).state
 start_raw p name Continues n h e = absurd (text_no_text n h e)
 start_raw p name (RunsScript node) n h e = absurd (text_no_text n h e)

@@ -36,7 +36,7 @@ use Rattle.h5_plain.proofs.cuts.TextForestLaws.{place_same, put_text_twice, text
 use Rattle.h5_rules.proofs.changes.TreeLaws.{tree_reconstruct}
 use Rattle.h5_rules.proofs.BlankLaws.{all_blank-append}
 
--- a text is blank, or has a rest at which its front ends
+-- a text is all whitespace, or has a remainder after its whitespace
 pub data Cut (t u : List ℕ) : Type 0 where
   AllBlank : blanks_of t ≡ t → rest_of t ≡ [] → blanks_of (t ++ u) ≡ t ++ blanks_of u → rest_of (t ++ u) ≡ rest_of u → Cut t u
   HasRest : (b : ℕ) (r : List ℕ) → rest_of t ≡ b ∷ r → blanks_of (t ++ u) ≡ blanks_of t → rest_of (t ++ u) ≡ (b ∷ r) ++ u → Cut t u
@@ -119,7 +119,7 @@ by_mode choices m t w html e = ap (λ c. cond c (foreign_text t w) (text_in w.mo
 pub by_foreign : (choices : SinkChoices) (t : List ℕ) (w : World) → is_foreign_text choices w ≡ true → text_rule choices t w ≡ foreign_text t w
 by_foreign choices t w h = ap (λ c. cond c (foreign_text t w) (text_in w.mode choices t w)) h
 
--- the law of a rule, where something holds: cut, it goes on by the rule of the view that is reached
+-- the law of a rule, if something holds: cut, it goes on by the rule of the view that is reached
 abbrev LawWhere : SinkChoices → (World → Type 0) → (List ℕ → World → World) → Type 0
 LawWhere choices P f = (b : ℕ) (t : List ℕ) (d : ℕ) (u : List ℕ) (w : World) → P w → f ((b ∷ t) ++ d ∷ u) w ≡ text_rule choices (d ∷ u) (f (b ∷ t) w)
 
@@ -137,7 +137,7 @@ holds_at choices m law b t d u w e g = at (is_foreign_text choices w) refl
     at true h = sym (plain_twice (b ∷ t) (d ∷ u) w) ∙ sym (by_foreign choices (d ∷ u) (foreign_text (b ∷ t) w) (foreign_again choices (b ∷ t) w ∙ h))
     at false h = law b t d u w (record { mode = e; fitting = g; html = h })
 
--- a split where something holds that its rule of blanks keeps
+-- a split if something holds that its rule of blanks keeps
 split_cut : (choices : SinkChoices) (P : World → Type 0) (blanks others : List ℕ → World → World) → Blanks blanks → ((b : ℕ) (t : List ℕ) (w : World) → P w → P (blanks (b ∷ t) w)) → LawWhere choices P others → ((t : List ℕ) (w : World) → P w → text_rule choices t w ≡ split blanks others t w)
     → (t : List ℕ) (d : ℕ) (u : List ℕ) (w : World) → P w → Cut t (d ∷ u) → split blanks others (t ++ d ∷ u) w ≡ text_rule choices (d ∷ u) (split blanks others t w)
 split_cut choices P blanks others bs keeps law is t d u w h (AllBlank e f g i) =
@@ -181,7 +181,7 @@ leads_initial choices = record {
   mode = λ t w. elim w.options.iframe_srcdoc as (λ b. (after_row choices (choose b _ _) w).mode ≡ BeforeHtml) [ true ↦ refl | false ↦ refl ];
 }
 
--- "anything else" where something holds, by which the mode is known and leads to another
+-- "anything else" if something holds, by which the mode is known and leads to another
 else_law : (choices : SinkChoices) (P : World → Type 0) (m k : InsertionMode) (r : TurnText → World → Row) → ((w : World) → P w → In choices m w) → ((t u : List ℕ) (w : World) → r (TextTurn NotWhitespace t) w ≡ r (TextTurn NotWhitespace u) w)
     → ((t : List ℕ) (w : World) → P w → (after_row choices (r (TextTurn NotWhitespace t) w) w).mode ≡ k) → ((t : List ℕ) (w : World) → rule m (TextTurn NotWhitespace t) w ≡ r (TextTurn NotWhitespace t) w) → HoldsAt choices k
     → LawWhere choices P (by_else choices r (text_in k choices))
@@ -214,7 +214,7 @@ body_holds choices m after row is = holds_at choices m (stays_holds choices m (t
 in_body_holds : (choices : SinkChoices) → HoldsAt choices InBody
 in_body_holds choices = body_holds choices InBody refl (λ t w. refl) (λ t w. refl)
 
--- a text that is kept back is appended to what is kept back already
+-- a buffered text is appended to what is buffered already
 kept_twice : Blanks text_in_table_text
 unfolding append_pending_text
 kept_twice = record { twice = λ t u w. ap (λ p. let x : World = record w { pending = p } in x) (append_assoc w.pending t u); mode = λ t w. refl }
@@ -373,9 +373,9 @@ holds choices InFrameset = frameset_holds choices InFrameset append_text appends
 holds choices AfterFrameset = frameset_holds choices AfterFrameset append_text appends (appends_in choices AfterFrameset) (λ t w. refl)
 holds choices AfterAfterFrameset = frameset_holds choices AfterAfterFrameset (text_in_body choices) (in_body_twice choices) (bodies_in choices AfterAfterFrameset Whitespace refl (λ t w. refl)) (λ t w. refl)
 
--- The rule on a text and another is the rule on the first, and then the text rule of the view that is reached on the
--- second, where a builder keeps what it keeps. The list of active formatting elements is of their names then: were a
--- `table` listed, it could be made anew where a text of a table is fostered, and what follows would be kept back. And in a
--- fragment an element is open: were none, one that is made anew would leave the context as the adjusted current node.
+-- The rule on two texts joined is the rule on the first, and then the text rule of the view that is reached on the
+-- second, if a builder keeps what it should. The listed elements then have names of formatting elements: if a `table`
+-- were listed, it could get a new element when a text of a table is fostered, and what follows would be buffered. And
+-- in a fragment an element is open: if none were, a new one would leave the context as the adjusted current node.
 pub text_cut : (choices : SinkChoices) (b : ℕ) (t : List ℕ) (d : ℕ) (u : List ℕ) (w : World) → Fitting w → text_rule choices ((b ∷ t) ++ d ∷ u) w ≡ text_rule choices (d ∷ u) (text_rule choices (b ∷ t) w)
 text_cut choices b t d u w g = holds choices w.mode b t d u w refl g

@@ -87,7 +87,7 @@ pub pending_foreign : (choices : SinkChoices) (t : List ℕ) (w : World) → is_
 unfolding is_foreign append_pending_text
 pending_foreign choices t w = refl
 
--- ELEMENTS THAT ARE MADE ANEW are of HTML
+-- NEW ELEMENTS for entries are of HTML
 two_open : (n : QualName) (ns : List QualName) → IsRootOpen ns → 1 < length (roles (n ∷ ns))
 two_open n [] h = absurd h
 two_open n (m ∷ ns) h = omega arith
@@ -197,7 +197,7 @@ module _ (choices : SinkChoices) where
     html = body_html choices (b ∷ t) w i.fitting.sound (in_root after i) i.html;
   }
 
-  -- where something holds besides, that blanks leave
+  -- if something holds besides, that blanks leave
   split_fits_where : (P : World → Type 0) (m k : InsertionMode) (blanks : List ℕ → World → World) (r : TurnText → World → Row) → ((w : World) → P w → In choices m w) → ((b : ℕ) (t : List ℕ) (w : World) → P w → P (blanks (b ∷ t) w))
       → ((t : List ℕ) (w : World) → rule m (TextTurn NotWhitespace t) w ≡ r (TextTurn NotWhitespace t) w)
       → ((t : List ℕ) (w : World) → P w → (after_row choices (r (TextTurn NotWhitespace t) w) w).mode ≡ k) → FitsAt k → (b : ℕ) (t : List ℕ) (w : World) → P w → Fitting (split blanks (by_else choices r (text_in k choices)) (b ∷ t) w)
@@ -256,7 +256,7 @@ module _ (choices : SinkChoices) where
   unfolding text_initial
   initial_fits = fits_at_all Initial (split_fits Initial BeforeHtml dropped initial_else (drops_in Initial) (λ t w. refl) (λ t w i. initial_leads t w) before_html_fits)
 
-  -- in a text, and where text of a table is kept back
+  -- in a text, and while text of a table is buffered
   in_text_fits : FitsAt Text
   in_text_fits = fits_at_all Text (λ b t w i. append_fitting choices (b ∷ t) w (λ e. cc) i.fitting)
 

@@ -17,7 +17,7 @@ use Rattle.h5_plain.proofs.cuts.CutLaws.{text_cut}
 use Rattle.h5_plain.proofs.cuts.FlagLaws.{text_keeps_flag}
 use Rattle.h5_plain.proofs.kept.FittingLaws.{taken_fitting, token_fitting}
 
--- a newline is taken from the front of a text
+-- a newline is dropped from the start of a text
 pub without_lf-append : (i : Bool) (b : ℕ) (t u : List ℕ) → without_lf i ((b ∷ t) ++ u) ≡ without_lf i (b ∷ t) ++ u
 without_lf-append false b t u = refl
 without_lf-append true b t u = elim (b == 10) as (λ v. cond v (t ++ u) ((b ∷ t) ++ u) ≡ cond v t (b ∷ t) ++ u) [ true ↦ refl | false ↦ refl ]
@@ -119,7 +119,7 @@ views_agree choices (NullCharacter ∷ ts) v k = views_agree choices ts (after_t
 views_agree choices (EndOfFile ∷ ts) v k = views_agree choices ts (after_token choices EndOfFile v) (token_fitting choices EndOfFile v k)
 views_agree choices (ParseErrorIs d ∷ ts) v k = views_agree choices ts (after_token choices (ParseErrorIs d) v) (token_fitting choices (ParseErrorIs d) v k)
 
--- replies: a text's reply tells only whether it was refused
+-- replies: a text's reply only depends on its refusal
 abbrev text_reply : Option BuildFault → Reply
 text_reply (Some f) = Refuses f
 text_reply None = Continues

@@ -56,7 +56,7 @@ put_kind : (p : Place) (c n : ℕ) (f : Forest) → kind_of (put p (ChildNode c)
 put_kind (LastChild p) c n f = last_kind p c n f
 put_kind (TableFosterParenting table prev) c n f = beside_kind (parent_of f table) table prev c n f
 
--- what is made is of its name, where that is no template's
+-- a new element has its name, if that isn't a template's
 fresh_name : (choices : SinkChoices) (p : Place) (name : QualName) (attrs : List AttributeText) (duplicates : Bool) (marks : Marking) (f : Forest) → is_html_template name ≡ false
     → name_in (new_element choices p name attrs duplicates marks f) (choices.fresh f) ≡ name
 fresh_name choices p name attrs duplicates marks f h =
@@ -68,7 +68,7 @@ fresh_name choices p name attrs duplicates marks f h =
     ∙ ap (λ b. kind_of (with_contents b choices n (make choices d f)) n) h
     ∙ new_kind f n d)
 
--- names of formatting elements are no parts of tables, and no template's
+-- names of formatting elements aren't parts of tables, nor a template's
 abbrev keeps_role : Role → Bool
 keeps_role TableRole = true
 keeps_role SectionRole = true
@@ -90,7 +90,7 @@ plain_no_template n e = template_test n ∙ ap is_template e
 pub formatting_role : (local : List ℕ) → IsTrue (is_one_of formatting_names local) → role_of (html_name local) ≡ PlainRole
 formatting_role local h = role_made local ∙ formatting_local_plain local h
 
--- so none that is made anew keeps text back
+-- so no new element for an entry buffers text
 keeps_insert : (choices : SinkChoices) (tag : TagText) (w : World) → IsTrue (is_one_of formatting_names tag.name) → keeps_text (insert_for choices tag w) ≡ false
 unfolding names_of insert_element
 keeps_insert choices tag w h =

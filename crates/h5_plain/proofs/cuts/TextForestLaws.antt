@@ -136,7 +136,7 @@ put_text_twice (TableFosterParenting element prev) t u f =
     ap (λ o. with_child_by o element prev (ChildText u) (put (TableFosterParenting element prev) (ChildText t) f)) (by_parent (parent_of f element) element prev element t f)
     ∙ by_twice (parent_of f element) element prev t u f
 
--- g is f, but for the children
+-- g is f, except for the children
 pub record SameButChildren (f g : Forest) : Type 0 where
   pub document : g.document ≡ f.document
   pub kinds : (n : ℕ) → kind_of g n ≡ kind_of f n

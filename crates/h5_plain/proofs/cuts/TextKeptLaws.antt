@@ -1,4 +1,4 @@
--- What appended text, text in the body, text that is kept back, and the row of a text keep, is kept by a text.
+-- What is preserved by appended text, text in the body, buffered text, and the row of a text, is preserved by a text.
 use Rattle.std.proofs.Common.{◌≡◌, ℕ, Bool, true, false, cond, List, [], ◌∷◌, codes, refl}
 use Rattle.h5_interface.specs.SinkChoices.{SinkChoices}
 use Rattle.h5_tables.specs.TurnText.{TextTurn}

@@ -1,4 +1,4 @@
--- By whichever rule a token goes, what holds at every turn holds after it.
+-- What holds at every turn is preserved by each rule that may handle a token.
 use Rattle.std.proofs.Common.{◌≡◌, ◌≢◌, ℕ, Bool, true, false, List, [], ◌∷◌, ◌++◌, None, refl, sym, subst, ◌∙◌}
 use Rattle.h5_names.specs.AttributeText.{AttributeText}
 use Rattle.h5_names.specs.declared.qualified.QualName.{QualName}
@@ -52,7 +52,7 @@ module _ (choices : SinkChoices) (w : World) (k : Standing w) where
   root : IsRootOpen (names_of w)
   root = names_root_open (situation_of w) w.mode (names_of w) (takes_root w.mode k.takes) k.fitting.fits.mode
 
-  -- changes after which all stands, whose names are framed, and whose mode is the same
+  -- changes after which the world is sound, whose names are framed, and whose mode is the same
   framed : (xs : List Change) → NeedsOfAll xs → mode_after choices w w.mode xs ≡ w.mode → KeepsSituation w (apply_all choices xs w) → Frame (roles (names_of w)) (roles (names_of (apply_all choices xs w))) → IsRootOpen (names_of (apply_all choices xs w)) → Fitting (apply_all choices xs w)
   framed xs needs same s f o =
       let v = apply_all choices xs w in
@@ -113,7 +113,7 @@ module _ (choices : SinkChoices) (w : World) (k : Standing w) where
       let sound : Sound u = k.fitting.sound in
       named (SetFramesetOkByText x ∷ AppendText x ∷ []) (tt, (some, tt)) refl (situation_then w u (append_text x u) (situation_frameset w x) (situation_text u x some sound)) (names-append x u some sound)
 
--- after a row all stands, and the open elements fit the mode that it leads to
+-- after a row the world is sound, and the open elements fit the mode that it leads to
 pub record KeptBy (choices : SinkChoices) (r : Row) (w : World) : Type 0 where
   pub sound : Sound (changed_by choices r w)
   pub fits : FitsAfter r.ending (changed_by choices r w)

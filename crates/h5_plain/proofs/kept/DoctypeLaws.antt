@@ -45,7 +45,7 @@ situation-with_doctype choices d w k =
           (append_doctype_rearranges choices w.forest (unwrap_or d.name []) (unwrap_or d.public_id []) (unwrap_or d.system_id []) k.stands.is_forest)
     ]
 
--- the next mode tells what the first one does
+-- the next mode says what the first one does
 still_first : (s : Situation) (ns : List QualName) → NamesFit s Initial ns → NamesFit s BeforeHtml ns
 still_first s ns f = record { fits = record { known = f.fits.known; place = f.fits.place }; named = tt }
 

@@ -1,4 +1,4 @@
--- What a mode tells of open elements stays true, row by row.
+-- What a mode says about open elements stays true, row by row.
 use Rattle.std.proofs.Common.{◌<◌, ◌≡◌, false, length, subst, sym}
 use Rattle.h5_tables.specs.declared.modes.InsertionMode.{InsertionMode}
 use Rattle.h5_rules.specs.Changes.{set_mode}

@@ -40,7 +40,7 @@ after_pushed : (s : Situation) (n : QualName) (ns : List QualName) → role_of n
 after_pushed s n [] e f = absurd (let h = f.fits.place in omega (arith, h))
 after_pushed s n (x ∷ ns) e f = names_after_frameset_pushed s ns n x e f
 
--- formatting elements may be made anew for a blank
+-- a whitespace text may create new formatting elements
 anew_fits : (choices : SinkChoices) (l : List Entry) (w : World) → AllFormatting l → Sound w → FitsAs AfterAfterFrameset w → FitsAs AfterAfterFrameset (insert_anew choices l w)
 anew_fits choices [] w f k h = h
 anew_fits choices (MarkerEntry ∷ l) w f k h = anew_fits choices l w f k h

@@ -1,4 +1,4 @@
--- The modes in which a token may be foreign, and what changes of foreign content keep of what they tell.
+-- The modes in which a token may be foreign, and what changes of foreign content preserve of what these modes say.
 use Rattle.std.proofs.Common.{◌≡◌, ◌<◌, ℕ, Bool, true, false, not, cond, List, [], ◌∷◌, length, map, codes, IsTrue, Option, Some, None, refl, ap, sym, subst, ◌∙◌, arith}
 use Rattle.std.specs.Prelude.{unwrap_or}
 use Rattle.h5_names.specs.AttributeText.{is_same_text}

@@ -1,4 +1,4 @@
--- What holds of each step of foreign content, and so of the rule that a token goes by.
+-- What holds for each step of foreign content, and so for the rule that handles a token.
 use Rattle.std.proofs.Common.{◌≡◌, ◌≢◌, ℕ, Bool, true, false, if◌then◌else◌, List, [], ◌∷◌, refl, ap}
 use Rattle.h5_token.specs.TokenText.{TagText}
 use Rattle.h5_token.specs.declared.tag.TagKind.{TagKind}

@@ -83,7 +83,7 @@ module _ (m : InsertionMode) (goes : goes_by_body m ≡ true) (w : World) where
     leads = ByEdge tt;
   }
 
-  -- a token that is no tag
+  -- a token that isn't a tag
   pub body_other_lawful : closes_templates m ≡ true → (t : TurnText) → is_tag t ≡ false → IsLawfulFor t m w (in_body t w)
   body_other_lawful closes (TagTurn tag) other = absurd (cc)
   body_other_lawful closes (CommentTurn x) other = comment_lawful m w x

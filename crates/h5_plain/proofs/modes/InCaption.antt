@@ -58,7 +58,7 @@ caption_structure name h =
 
 -- THE OPEN ELEMENTS
 
--- implied end tags, and up to and with the caption
+-- implied end tags, and up to and including the caption
 caption_closed : (choices : SinkChoices) (w : World) → IsSteady w → named_in_table_scope (codes "caption") w ≡ true → FitsAs InCaption w → FitsAs InTable (clear_active_formatting_to_marker (pop_until_named (codes "caption") (generate_implied_end_tags choices w)))
 caption_closed choices w steady e h =
     let ended = generate_implied_end_tags choices w in

@@ -37,7 +37,7 @@ use Rattle.h5_rules.proofs.modes.FramesetRowLaws.{frameset_role}
 use Rattle.h5_plain.proofs.modes.SharedRows.{comment_lawful, head_row_lawful, start_html_lawful, text_row_lawful}
 use Rattle.h5_plain.proofs.modes.TablePartLaws.{leaf_fits}
 
--- `noframes` goes by the rules of the head, and is no template
+-- `noframes` is handled by the rules of "in head", and isn't a template
 noframes_content : (l : List ℕ) → named Noframes l ≡ true → is_one_of head_start_names l ≡ true
 unfolding head_start_names
 noframes_content l h = of_named (λ n. is_one_of head_start_names n ≡ true) Noframes l refl h

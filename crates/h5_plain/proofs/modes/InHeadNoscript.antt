@@ -29,7 +29,7 @@ use Rattle.h5_plain.proofs.modes.SharedRows.{comment_lawful, head_row_lawful, st
 use Rattle.h5_plain.proofs.turns.Ranks.{TurnKind}
 use Rattle.h5_plain.proofs.turns.Ranks as edges
 
--- each name that goes by the rules of the head in a `noscript` goes so elsewhere, too
+-- each name that uses the rules of the head in a `noscript` goes so elsewhere, too
 noscript_content : (l : List ℕ) → is_one_of noscript_content_names l ≡ true → is_one_of head_start_names l ≡ true
 unfolding noscript_content_names head_start_names
 noscript_content l h = of_one (λ n. is_one_of head_start_names n ≡ true) noscript_content_names l (refl, (refl, (refl, (refl, (refl, (refl, tt)))))) h

@@ -59,7 +59,7 @@ no_part_in_table : (l : List ℕ) → NonePasses in_table_end l → is_of_table 
 unfolding in_table_end in_table_ignored_ends
 no_part_in_table l n = no_part_where_ruled in_table_end l refl n
 
--- each name that goes by the rules of the head in a table goes so elsewhere, too
+-- each name that uses the rules of the head in a table goes so elsewhere, too
 table_text_content : (l : List ℕ) → is_one_of table_text_names l ≡ true → is_one_of head_start_names l ≡ true
 unfolding table_text_names head_start_names
 table_text_content l h = of_one (λ n. is_one_of head_start_names n ≡ true) table_text_names l (refl, (refl, (refl, tt))) h
@@ -114,7 +114,7 @@ module _ (choices : SinkChoices) (w : World) (steady : IsSteady w) (m : Insertio
 
 -- THE ROWS
 
--- a text in a table is kept back
+-- a text in a table is buffered
 text_edge : (m : InsertionMode) → is_table_mode m ≡ true → edges.Again TextTurns m InTableText
 text_edge InTable h = edges.text_of_table
 text_edge InTableBody h = edges.text_of_section
@@ -193,7 +193,7 @@ module _ (m : InsertionMode) (table : is_table_mode m ≡ true) (w : World) wher
   table_tag_lawful EndTag tag e f =
       subst (λ k. IsLawfulTag EndTag tag m w (by_kind k (by_name in_table_start (of_tag in_table_else) tag w) (by_name in_table_end (of_tag in_table_else) tag w))) (sym e) (table_end_lawful tag e)
 
-  -- and a token that is no tag
+  -- and a token that isn't a tag
   pub table_other_lawful : (t : TurnText) → is_tag t ≡ false → IsLawfulFor t m w (in_table t w)
   table_other_lawful (TagTurn tag) h = absurd (cc)
   table_other_lawful (CommentTurn x) h = comment_lawful m w x

@@ -94,7 +94,7 @@ module _ (choices : SinkChoices) (w : World) (k : IsSteady w) where
       (λ e. by_saved t.mode (set_foster false (append_text text flag))
       ((situation_text flag text some second.ready.sound).saved ∙ (situation_frameset new text).saved ∙ (situation_reconstruct choices on k.sound).saved ∙ t.saved) third.fit)
 
--- what is kept back leads to no text
+-- buffered text doesn't lead to the mode "text"
 pending_rows : (p : List ℕ) (w : World) → AllListable (pending_text p w).changes × NoText (pending_text p w).changes
 unfolding pending_text
 pending_rows [] w = (tt, tt)

@@ -1,4 +1,4 @@
--- Rows that several modes share, or that stand in several, are lawful.
+-- Rows that several modes have or share are lawful.
 use Rattle.std.proofs.Common.{◌∙◌, ◌∷◌, ◌≡◌, List, [], false, refl, sym, true, ℕ}
 use Rattle.h5_token.specs.TokenText.{TagText}
 use Rattle.h5_token.specs.declared.tag.TagKind.TheVariants.{EndTag, StartTag}
@@ -36,7 +36,7 @@ module _ (m : InsertionMode) (w : World) where
   unfolding in_head_end_template
   end_template_lawful tag fits = lawful_if (has_template (names_of w)) _ (λ e. lawful_row _ (tt, (tt, (tt, (tt, (tt, tt))))) (λ choices s. fits choices s e) (tt, tt) tt tt)
 
-  -- where none can be open
+  -- if none can be open
   pub no_template_lawful : (tag : TagText) → (FitsAs m w → has_template (names_of w) ≡ false) → IsLawfulTag EndTag tag m w (in_head_end_template tag w)
   no_template_lawful tag none = end_template_lawful tag (λ choices s e h. absurd (let clash = sym e ∙ none h in cc))
 
@@ -57,7 +57,7 @@ module _ (m : InsertionMode) (w : World) where
     leads = ByEdge tt;
   }
 
-  -- a comment at the current place, behind the root, and in it
+  -- a comment at the current place, after the root, and in it
   pub comment_lawful : (x : List ℕ) → IsLawfulFor (CommentTurn x) m w (row (AppendComment x ∷ []) IsDone)
   comment_lawful x = lawful_row _ (tt, tt) (λ choices s. kept_comment choices w s.sound m x) (tt, tt) tt tt
 

@@ -1,5 +1,5 @@
--- A builder that isn't in "text", and goes back to no "text", is led there by a start tag alone, which turns the reader to
--- raw text; and out of it by an end tag and by the end of the file.
+-- A builder that isn't in "text", and doesn't return to "text", gets there only by a start tag whose reply switches the
+-- tokenizer to raw text, and leaves it by an end tag and by the end of the file.
 use Rattle.std.proofs.Common.{Bool, List, None, Option, Some, [], ap, codes, cond, false, length, refl, subst, suc, sym, true, zero, ℕ, ◌++◌, ◌+◌, ◌∙◌, ◌∷◌, ◌≡◌}
 use Rattle.std.specs.Prelude.{unwrap_or}
 use Rattle.h5_names.specs.AttributeText.{is_same_text}
@@ -186,7 +186,7 @@ within_leads choices (suc n) t w h =
     let r = dispatch choices t w in
     turn_leads choices (λ v. settle_within choices n t v) t r.changes r.ending r.quiet w (dispatch_told choices t w h.0).1 h (λ v k. within_leads choices n t v k)
 
--- and of one that is no start tag: nothing is answered, so they lead to none
+-- and of one that isn't a start tag: there is no reply, so it doesn't lead to a text
 record LeadsOut (s : Settled) : Type 0 where
   no_text : NoTextIn s.world
   reply : s.reply ≡ Continues
@@ -307,9 +307,10 @@ no_text_kept choices = record {
   row = λ m t w e h. let r = rule m (TextTurn NotWhitespace t) w in row_no_text choices r.changes r.ending r.quiet w ((lawful m).told (TextTurn NotWhitespace t) w e).1 ((lawful m).silent (TextTurn NotWhitespace t) w e refl) h;
 }
 
--- ANY TOKEN that isn't refused: what it leads to, by the mode before it, the answer and the mode behind it. A start tag
--- leads into a text only where the reader turns to raw text; an end tag and the end of the file lead out of one; any
--- other token leaves the builder in a text only where it was in one. But for start tags the reader isn't turned
+-- ANY TOKEN that isn't refused: where it leads, by the mode before it, the reply and the mode after it. A start tag
+-- leads into a text only if the reply switches the tokenizer to raw text; an end tag and the end of the file lead out
+-- of one; any other token leaves the builder in a text only if it was in one. Except for start tags, no reply switches
+-- the tokenizer
 abbrev pub TagLeads : TagKind → Reply → InsertionMode → Type 0
 TagLeads StartTag r n = Leads r n
 TagLeads EndTag r n = IsCalm r × (is_text n ≡ false)

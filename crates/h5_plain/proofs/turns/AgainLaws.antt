@@ -1,4 +1,4 @@
--- Which modes a rule leads to, by the kind of the token.
+-- The modes that a rule leads to, by the kind of the token.
 use Rattle.std.proofs.Common.{Bool, List, Some, [], ap, codes, false, if◌then◌else◌, refl, subst, true, ℕ, ◌∙◌, ◌∷◌, ◌≡◌}
 use Rattle.h5_names.specs.declared.known_name.KnownName.TheVariants.{Col, Html, Table, Tr}
 use Rattle.h5_token.specs.declared.tag.TagKind.TheVariants.{EndTag, StartTag}

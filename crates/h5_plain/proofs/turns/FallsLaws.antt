@@ -1,4 +1,4 @@
--- How many turns a token can still take: the rank falls where it takes another.
+-- The number of turns that a token can still take: each other turn has a lower rank.
 use Rattle.std.proofs.Common.{◌≡◌, ◌≢◌, inl, inr, ◌⊎◌, ℕ, ◌+◌, ◌*◌, ◌<◌, ◌≤◌, Bool, true, false, cond, if◌then◌else◌, ◌++◌, List, [], ◌∷◌, length, map, Option, Some, None, codes, refl, ap, sym, subst, ◌∙◌, arith}
 use Rattle.h5_names.specs.declared.qualified.QualName.{QualName}
 use Rattle.h5_token.specs.declared.tag.TagKind.{TagKind}
@@ -82,7 +82,7 @@ unfolding names_of reconstruct_active_formatting_elements
 lighter_reconstruct choices w k =
     lighter_anew choices (closed_front w.stack w.formatting) w (roles (names_of w)) (front_formatting w.stack w.formatting k.formatting) k (lighter_same (roles (names_of w)))
 
--- a text that was kept back is put
+-- buffered text is inserted
 record Put (choices : SinkChoices) (w v : World) : Type 0 where
   lighter : Lighter (roles (names_of w)) (roles (names_of v))
   saved : v.saved_mode ≡ w.saved_mode
@@ -172,7 +172,7 @@ back_to w v m k s t e = ap (λ o. unwrap_or o InTable) (sym (s ∙ t)) ∙ some_
     some_is : (a b : InsertionMode) → Some a ≡ Some b → a ≡ b
     some_is a b e = cc
 
--- a text that was kept back is put, and the mode is the one that was left
+-- buffered text is inserted, and the mode is the one that was left
 falling_pending : (c : TurnKind) (choices : SinkChoices) (w : World) → Sound w → Fits w → w.mode ≡ InTableText → is_text c ≡ false → Falling c choices w (TakePendingText ∷ (pending_text w.pending w).changes) (AgainBy saved_mode)
 unfolding names_of
 falling_pending c choices w s f i h k e =

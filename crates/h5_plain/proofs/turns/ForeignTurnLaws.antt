@@ -1,4 +1,4 @@
--- By whichever rule a token goes: what is listed, what is answered, and where another turn leads.
+-- For each rule that may handle a token: what is listed, the reply, and the mode of another turn.
 use Rattle.std.proofs.Common.{Bool, List, None, Option, Some, [], ap, cond, false, inl, inr, refl, subst, suc, sym, true, ℕ, ◌+◌, ◌<◌, ◌∙◌, ◌∷◌, ◌≡◌, ◌⊎◌}
 use Rattle.h5_names.specs.declared.qualified.QualName.{QualName}
 use Rattle.h5_token.specs.Reply.{Indicates, RunsScript, TurnsPlain, TurnsRaw}
@@ -36,7 +36,7 @@ use Rattle.h5_plain.proofs.turns.Ranks.{EofTurns, StartTableTurns, TextTurns, Tu
 left_mode : (choices : SinkChoices) (w : World) → (leave_foreign_content choices w).mode ≡ w.mode
 left_mode choices w = ap (λ (x : World). x.mode) (tree_leave choices w)
 
--- what is told of texts
+-- the statement about texts
 tells_left : (x : Ending) (ys : List Change) → Tells x ys → Tells x (LeaveForeignContent ∷ ys)
 tells_left IsDone ys h = h
 tells_left IsAcknowledged ys h = h

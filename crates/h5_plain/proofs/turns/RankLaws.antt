@@ -1,4 +1,4 @@
--- The rank falls where a token takes another turn, and is bounded by the number of open elements.
+-- The rank falls when a token takes another turn, and is bounded by the number of open elements.
 use Rattle.std.proofs.Common.{◌≡◌, ◌<◌, true, false, List, arith}
 use Rattle.h5_tables.specs.declared.modes.InsertionMode.{InsertionMode}
 use Rattle.h5_tables.specs.declared.modes.InsertionMode.TheVariants.{Initial, BeforeHtml, BeforeHead, InHead, InHeadNoscript, AfterHead, InBody, AfterBody, AfterAfterBody}

@@ -140,7 +140,7 @@ table_text_falls c s t m old new h i e w n =
     in_text TextTurns h = absurd (cc)
     in_text _ h = refl
 
--- the mode that a reset chooses is no further from the body than the `html` and `head` elements say
+-- the mode that a reset chooses isn't further from the body than the `html` and `head` elements say
 kind_chain : (ms : List InsertionMode) → AllKinds ms → (chain (first_mode ms) ≡ 0) × (is_usual (first_mode ms) ≡ true)
 kind_chain [] k = (refl, refl)
 kind_chain (m ∷ ms) k = at m k.0

@@ -5,7 +5,7 @@ use Rattle.h5_tables.specs.declared.modes.InsertionMode.TheVariants.{Initial, Be
 use Rattle.h5_rules.specs.fitting.Fits.{Situation}
 use Rattle.h5_rules.specs.fitting.Roles.{ColgroupRole, HeadRole, HtmlRole, Role, TableRole, count_roles, has_role, is_template, later_roles}
 
--- the kinds of tokens that the rules of tables, of the body's end and of the file's end tell apart: the end of the
+-- the kinds of tokens that the rules of tables, of the body's end and of the file's end distinguish: the end of the
 -- file; a run of text or a null; an end tag `html`; a start tag `table`; `td` or `th`; `tr`; `col`; `caption`,
 -- `colgroup`, `tbody`, `tfoot` or `thead`; an end tag `table`, `tbody`, `tfoot`, `thead` or `tr`; any other
 pub data TurnKind : Type 0 where

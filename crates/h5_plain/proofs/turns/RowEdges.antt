@@ -1,4 +1,4 @@
--- To which modes a row leads.
+-- The modes that a row leads to.
 use Rattle.std.proofs.Common.{Bool, List, [], codes, false, refl, true, ℕ, ◌++◌, ◌||◌, ◌∷◌, ◌≡◌}
 use Rattle.h5_names.specs.KnownNames.{name_text}
 use Rattle.h5_names.specs.declared.known_name.KnownName.TheVariants.{Col, Table}
@@ -31,8 +31,8 @@ not_named known set l a h = at (named known l) refl
     at false e = refl
     at true e = absurd (let k = of_named (λ n. is_one_of set n ≡ true) known l a e in cc)
 
--- what a row leads to: by an edge, or not: it closes a table, or a column group for a start tag `table`, or takes the
--- text that was kept back, or closes a template, or the element of a text, at the end of the file
+-- where a row leads: by an edge, or not: it closes a table, or a column group for a start tag `table`, or takes the
+-- buffered text, or closes a template, or the element of a text, at the end of the file
 pub data RowLeads (c : TurnKind) (m : InsertionMode) (w : World) (r : Row) : Type 0 where
   ByEdge : Leads c m r.ending → RowLeads c m w r
   ClosesTable : is_table_mode m ≡ true → c ≡ StartTableTurns → named_in_table_scope (codes "table") w ≡ true → r.changes ≡ PopUntilNamed (codes "table") ∷ [] → r.ending ≡ AgainBy reset_mode → RowLeads c m w r

@@ -1,4 +1,4 @@
--- Rows without errors, and that they tell none of a text without errors of the input stream.
+-- Rows without errors report none for a text without errors of the input stream.
 use Rattle.std.proofs.Common.{◌≡◌, ◌≤◌, ℕ, Bool, true, false, List, [], ◌∷◌, ◌++◌, refl, sym, ap, subst, ◌∙◌, append-nil, append_assoc, arith, ⊎_elim, ◌&&◌}
 use Rattle.std.proofs.lemmas.Bool.{cases_lt}
 use Rattle.std.proofs.lemmas.Str.{encode_ascii}
@@ -86,7 +86,7 @@ first_byte c b behind tail e =
 others_same : {x y : ℕ} {xs ys : List ℕ} → x ∷ xs ≡ y ∷ ys → xs ≡ ys
 others_same e = cc
 
--- a byte that is new has no errors, and behind it such a text goes on
+-- a new byte has no errors, and after it such a text goes on
 new_byte : (x : ℕ) (xs ys : List ℕ) → ys ≡ x ∷ xs → IsLeft ys → InputErrors true (x ∷ xs) [] × IsLeft xs
 new_byte x xs ys front (from_inside {x = y} {xs = zs} e left) =
     (inside (subst (λ b. is_inside b ≡ true) (first_same front) e), subst IsLeft (others_same front) left)
@@ -104,10 +104,10 @@ met_byte : (b : Bool) (x : ℕ) (xs : List ℕ) → IsLeft (x ∷ xs) → InputE
 met_byte true x xs left = new_byte x xs (x ∷ xs) refl left
 met_byte false x xs left = (not_new, (new_byte x xs (x ∷ xs) refl left).1)
 
--- ---- what is told
+-- ---- errors that are reported
 
 module _ {M : Type 0} (reply_to : M → TokenText → Reply) (after : M → TokenText → ℕ → M) (foreign : M → Bool) (start : Reached M) where
-  -- Reading came here and told no error, with this text held, which began in this line. What is left has none.
+  -- Reading came here and reported no error, with this text held, which began in this line. The remainder has none.
   pub record ComesQuietly (text : List ℕ) (line : ℕ) (place : ReaderPlace) (meaning : M) (rest : List ℕ) : Type 0 where
     pub spot : Spot
     pub left : IsLeft rest
@@ -119,7 +119,7 @@ module _ {M : Type 0} (reply_to : M → TokenText → Reply) (after : M → Toke
   told_none : (p : ReaderPlace) (x : ℕ) (s : Spot) → [] ≡ row_errors references p x → [] ≡ told_at_byte references p (position p.line s) x []
   told_none p x s e = sym (none_at_byte references p (position p.line s) x (sym e))
 
-  -- rows without errors tell none
+  -- rows without errors report none
   pub quietly_on : {p q : ReaderPlace} {xs text ys : List ℕ} (held : List ℕ) (line : ℕ) (m : M) → PassesQuietly p xs text q ys → ComesQuietly held line p m xs → ComesQuietly (held ++ text) line q m ys
   quietly_on {q = q} {ys = ys} held line m quietly_passed c = subst (λ t. ComesQuietly t line q m ys) (sym (append-nil held)) c
   quietly_on {q = q} {ys = ys} held line m (quietly_goes {p} {x} {xs} {more} text state d e h) c =
@@ -139,7 +139,7 @@ module _ {M : Type 0} (reply_to : M → TokenText → Reply) (after : M → Toke
         reaches = again text state c.reaches (record { goes_on = refl; front = refl; not_dropped = d; outcome = outcome_of e; input = []; input_errors = b.0; errors_are = told_none p x c.spot (errors_of e) });
       }))
 
-  -- nor does a text that is handed on
+  -- nor does a text that is emitted
   pub text_quietly : (x line : ℕ) (text : List ℕ) (p : ReaderPlace) (m : M) (xs : List ℕ) → goes_on (reply_to m (Characters (x ∷ text))) ≡ true → ComesQuietly (x ∷ text) line p m xs
       → ComesQuietly [] p.began p (after m (Characters (x ∷ text)) line) xs
   text_quietly x line text p m xs on c = record { spot = c.spot; left = c.left; reaches = hands_nothing (hands_text c.reaches refl refl) on refl }
@@ -156,7 +156,7 @@ module _ {M : Type 0} (reply_to : M → TokenText → Reply) (after : M → Toke
         reaches = hands_nothing (hands_token token state c.reaches refl (record { goes_on = refl; front = refl; not_dropped = d; outcome = outcome_of e; input = []; input_errors = b.0; errors_are = told_none p x c.spot (errors_of e) })) on refl;
       }
 
--- before all of such a text nothing is told
+-- before all of such a text nothing is reported
 pub begins_quietly : {M : Type 0} (reply_to : M → TokenText → Reply) (after : M → TokenText → ℕ → M) (foreign : M → Bool) (p : ReaderPlace) (s : Spot) (m : M) (xs : List ℕ) → HasNoInputErrors xs
     → ComesQuietly reply_to after foreign (at_first p s m xs) [] p.began p m xs
 begins_quietly reply_to after foreign p s m xs none = record { spot = s; left = from_first none; reaches = begins }

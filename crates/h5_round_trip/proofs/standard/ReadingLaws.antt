@@ -23,7 +23,7 @@ use Rattle.h5_states.specs.Spots.{position}
 use Rattle.h5_states.specs.Telling.{at_first}
 use Rattle.h5_states.specs.WholeTelling.{TellsToEnd, more_telling, no_telling}
 use Rattle.h5_states.specs.declared.position.Spot.{Spot}
-use Rattle.h5_states.specs.declared.position.ToldError.{ToldError}
+use Rattle.h5_states.specs.declared.position.LocatedError.{LocatedError}
 use Rattle.h5_states.proofs.ToldCutLaws.{told_agree}
 use Rattle.h5_standard.specs.Options.{first_place}
 use Rattle.h5_plain.specs.Plain.{ArePlain, ElementThen, End, Nodes, PlainDocument, TextThen, as_written, document_tokens, end_tag, fragment_tokens, has_end_tag, is_start_of_title, plain_doctype, plain_reply, root_of, start_tag, tokens_before}
@@ -64,7 +64,7 @@ plain_goes NullCharacter = refl
 plain_goes EndOfFile = refl
 plain_goes (ParseErrorIs d) = refl
 
--- the place behind a start tag, and behind others
+-- the place after a start tag, and after others
 abbrev pub behind_token : ReaderPlace → ℕ → TokenText → Reply → ReaderPlace
 behind_token p byte t reply = after_token t reply (behind byte (TextState text.Data) p)
 
@@ -184,7 +184,7 @@ ending (ElementThen name attrs inner rest) (Element o p i h) = past_element name
 ending (ElementThen name attrs inner rest) (Title p h) = past_element name attrs inner rest (ending rest h)
 
 module _ {M : Type 0} (reply_to : M → TokenText → Reply) (after : M → TokenText → ℕ → M) (foreign : M → Bool) (ended : M → M) where
-  -- from a place on some of all tokens were read; more of them, and this text, are left. No error was told of what
+  -- from a place on some of all tokens were read; more of them, and this text, are left. No error was reported for what
   -- was read, if no character of the input is one.
   pub record Reached (p : ReaderPlace) (m : M) (xs : List ℕ) (all : List TokenText) (title : Bool) (more : List TokenText) (rest : List ℕ) : Type 0 where
     pub place : ReaderPlace
@@ -344,7 +344,7 @@ module _ {M : Type 0} (reply_to : M → TokenText → Reply) (after : M → Toke
         },
       )
 
-  -- and no error was told, nor is there one at the end
+  -- and no error was reported, nor is there one at the end
   ends_quietly : (p : ReaderPlace) (m : M) (xs : List ℕ) (all : List TokenText) (s : Spot) → HasNoInputErrors xs → Reached p m xs all false (EndOfFile ∷ []) []
       → ReadsWithoutErrors references reply_to after foreign p s m xs
   ends_quietly p m xs all s none r =
@@ -357,7 +357,7 @@ module _ {M : Type 0} (reply_to : M → TokenText → Reply) (after : M → Toke
         none_at_end = ap (λ s. (at_end references s).errors) r.is_in.at;
       }
 
-  -- up to the end nothing was told
+  -- up to the end nothing was reported
   ends_telling_none : (p : ReaderPlace) (m : M) (xs : List ℕ) (all : List TokenText) (s : Spot) → HasNoInputErrors xs → Reached p m xs all false (EndOfFile ∷ []) []
       → TellsToEnd references reply_to after foreign p s m xs []
   ends_telling_none p m xs all s none r =
@@ -401,8 +401,8 @@ module _ {M : Type 0} (reply_to : M → TokenText → Reply) (after : M → Toke
       → ReadsWithoutErrors references reply_to after foreign (first_place default_options) s m (written_of d)
   document_quietly d m s readable answers none = ends_quietly (first_place default_options) m (written_of d) (document_tokens d) s none (document_reached d m readable answers)
 
-  -- however it is read to its end, none is told
-  pub document_tells_none : (alike : M → M → Type 0) → IsBlindToCuts reply_to after foreign ended alike → (d : PlainDocument) (m : M) (s : Spot) (told : List ToldError) → IsReadableDocument d
+  -- however it is read to its end, none is reported
+  pub document_tells_none : (alike : M → M → Type 0) → IsBlindToCuts reply_to after foreign ended alike → (d : PlainDocument) (m : M) (s : Spot) (told : List LocatedError) → IsReadableDocument d
       → Answers reply_to after m (document_tokens d) → HasNoInputErrors (written_of d) → TellsToEnd references reply_to after foreign (first_place default_options) s m (written_of d) told → told ≡ []
   document_tells_none alike blind d m s told readable answers none tells =
       told_agree reply_to after foreign ended alike blind references (first_place default_options) s m m (written_of d) told [] (blind.reflexive m) tells
@@ -496,3 +496,22 @@ module _ {M : Type 0} (reply_to : M → TokenText → Reply) (after : M → Toke
   pub fragment_read : {b : Bool} (ns : Nodes) (m : M) → Shape b ns → CanBeRead ns → AnswersCuts reply_to → Answers reply_to after m (fragment_tokens ns)
       → ReadsCut (first_place default_options) m (written_fragment ns) (fragment_tokens ns)
   fragment_read ns m shape readable cuts answers = nodes_read (as_written ns) m (shape_written shape) (read_written ns readable) cuts answers
+
+  -- in the middle of an input, the text of nodes is read as their tokens, from data to data
+  pub nodes_inside : {b : Bool} (ns : Nodes) (p : ReaderPlace) (m : M) (rest : List ℕ) → Shape b ns → CanBeRead ns → IsSome rest → IsIn p (TextState text.Data) → Answers reply_to after m (tokens_before ns [])
+      → Reached p m (written_before ns rest) (tokens_before ns []) false [] rest
+  nodes_inside ns p m rest shape readable some is answers =
+      let xs = written_before ns rest in
+      let first : Reached p m xs (tokens_before ns []) false (tokens_before ns []) xs = record {
+        place = p;
+        meaning = m;
+        handed = [];
+        reply = Continues;
+        goes = refl;
+        read = nothing_read;
+        is_in = is;
+        answers = answers;
+        whole = refl;
+        quietly = λ s none. begins_quietly reply_to after foreign p s m xs none;
+      } in
+      nodes_taken p m xs (tokens_before ns []) ns [] rest shape readable (room ns rest some) first

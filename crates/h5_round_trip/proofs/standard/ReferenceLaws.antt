@@ -1,4 +1,4 @@
--- The references that a serializer writes are read as what they stand for.
+-- The references that a serializer writes are read as their characters.
 use Rattle.std.proofs.Common.{◌≡◌, ◌++◌, ℕ, List, [], ◌∷◌, Some, codes, refl, subst, append-nil}
 use Rattle.h5_states.specs.declared.kinds.Quote.TheVariants.{Double}
 use Rattle.h5_states.specs.declared.kinds.TextKind.TheVariants.{Data, Rcdata}
@@ -28,7 +28,7 @@ return_of InData = ToData
 return_of InTitle = ToRcdata
 return_of (InValue tag) = ToValue (Quoted Double) tag
 
--- what is emitted of a text there, and where it stands behind it
+-- what is emitted of a text there, and the place after it
 abbrev pub emitted : Where → List ℕ → List ℕ
 emitted (InValue tag) text = []
 emitted w text = text
@@ -117,7 +117,7 @@ quote_ends last (InValue tag) y = refl
 pub quote_is_named : IsNamed (codes "quot;") (34 ∷ [])
 quote_is_named = record { begins = quote_begins; ends = quote_ends }
 
--- so a reference is read, where something follows it
+-- so a reference is read, if something follows it
 pub reference_moves : (p : ReaderPlace) (w : Where) (name text : List ℕ) (y : ℕ) (ys : List ℕ) → IsNamed name text → IsIn p (state_of w)
     → Moves p (38 ∷ (name ++ y ∷ ys)) (emitted w text) (state_of (further w text)) (y ∷ ys)
 reference_moves p w name text y ys named h =

@@ -1,4 +1,4 @@
--- Rows without errors, one after another, that hand on nothing.
+-- Rows without errors, one after another, that emit nothing.
 use Rattle.std.proofs.Common.{◌≡◌, ◌==◌, ℕ, Bool, true, false, List, [], ◌∷◌, ◌++◌, Option, Some, None, if◌then◌else◌, refl, ap, subst, ◌∙◌}
 use Rattle.h5_states.specs.Lines.{normal}
 use Rattle.h5_states.specs.ReferenceTable.{references}
@@ -9,7 +9,7 @@ use Rattle.h5_states.specs.Turn.{Reconsumed, Asks, Outcome, Consumed, Emitted, T
 use Rattle.h5_states.specs.declared.errors.ParseError.{ParseError}
 use Rattle.h5_round_trip.proofs.standard.QuietLaws.{PassesQuietly, quiet, quietly_again, quietly_goes, quietly_more, quietly_passed, row_at}
 
--- a place in a state, where the byte before was no CR
+-- a place in a state, if the byte before wasn't a CR
 pub record IsIn (p : ReaderPlace) (state : State) : Type 0 where
   pub at : p.state ≡ state
   pub after_return : p.after_return ≡ false

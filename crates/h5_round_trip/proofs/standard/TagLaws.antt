@@ -91,7 +91,7 @@ end_opened p name ys t h =
 
 -- ---- attributes
 
--- behind the tag's name, or behind a value
+-- after the tag's name, or after a value
 data Before : Type 0 where
   AfterName : Before
   AfterValue : Before
@@ -120,7 +120,7 @@ attribute_name_moves p name done so_far (x ∷ xs) ys names h =
     (moves_then (goes_by p (AttributeName (tag_at StartTag name done (attribute_at so_far []))) (AttributeName (tag_at StartTag name done (attribute_at (so_far ++ x ∷ []) []))) x [] (xs ++ ys) h n.cr (attribute_row p.last name done so_far x n))
     (λ q i l. attribute_name_moves q name done (so_far ++ x ∷ []) xs ys names.1 i))
 
--- the '=' behind a name that is new, and the quote
+-- the '=' after a name that is new, and the quote
 equals_rows : (last name : List ℕ) (done : List AttributeText) (local : List ℕ) → is_named_in local done ≡ false
     → rows last (61 ∷ 34 ∷ []) (Some (AttributeName (tag_at StartTag name done (attribute_at local [])))) ≡ Some (AttributeValue (Quoted Double) (tag_at StartTag name done (attribute_at local [])))
 equals_rows last name done local new = rw new refl
@@ -195,7 +195,7 @@ attributes_move p b tag name done (a ∷ attrs) ys complete plain readable new h
 
 -- ---- whole tags
 
--- bytes are passed without errors, and at one behind them this token is handed on
+-- bytes are passed without errors, and at one after them this token is emitted
 pub record HandsToken (p : ReaderPlace) (xs : List ℕ) (token : TokenText) (ys : List ℕ) : Type 0 where
   pub place : ReaderPlace
   pub byte : ℕ
@@ -235,7 +235,7 @@ pub end_handed : (p : ReaderPlace) (name ys : List ℕ) → IsTagName name → I
 end_handed p name ys t h =
     handed p (60 ∷ 47 ∷ (name ++ 62 ∷ ys)) (after_name EndTag name) 62 (end_tag name) ys refl (λ last e. refl) (end_opened p name (62 ∷ ys) t h)
 
--- the end tag of a title, behind its text
+-- the end tag of a title, after its text
 title_end_rows : rows (codes "title") (codes "</title") (Some (Text Rcdata)) ≡ Some (RawEndTagName raw.Rcdata (codes "title"))
 title_end_rows = refl
 

@@ -115,7 +115,7 @@ hard_space : 0xc2 ∷ 0xa0 ∷ [] ≡ encode_utf8 160
 unfolding encode_utf8
 hard_space = refl
 
--- where something follows it
+-- if something follows it
 char_reads : (p : ReaderPlace) (w : Where) (c y : ℕ) (ys : List ℕ) → c ≢ 0 → c ≢ 13 → NoQuote w (escape_char (in_value w) c) → IsIn p (state_of w) → Reads p w (escape_char (in_value w) c ++ y ∷ ys) (encode_utf8 c) (y ∷ ys)
 char_reads p w c y ys nul cr quiet h =
     by_cases (in_value w) c (λ l. NoQuote w l → Reads p w (l ++ y ∷ ys) (encode_utf8 c) (y ∷ ys))
@@ -165,7 +165,7 @@ no_quote_written InData text = tt
 no_quote_written InTitle text = tt
 no_quote_written (InValue tag) text = no_quote text
 
--- what was escaped is read back, where something follows it
+-- what was escaped is read back, if something follows it
 pub text_reads : (p : ReaderPlace) (w : Where) (text : List ℕ) (y : ℕ) (ys : List ℕ) → IsReadable text → IsIn p (state_of w) → Moves p (escape (in_value w) text ++ y ∷ ys) (emitted w text) (state_of (further w text)) (y ∷ ys)
 text_reads p w text y ys r h =
     subst (λ t. Reads p w (escape (in_value w) text ++ y ∷ ys) t (y ∷ ys)) (encodes-chars text r.utf8)
@@ -173,7 +173,7 @@ text_reads p w text y ys r h =
 
 -- ---- a text at the end of the input
 
--- what was passed of it was emitted, and the rest, a reference without anything behind it, comes at the end
+-- what was passed of it was emitted; the remainder, a reference that nothing follows, is emitted at the end
 pub record Ends (p : ReaderPlace) (xs text : List ℕ) : Type 0 where
   pub front : List ℕ
   pub back : List ℕ

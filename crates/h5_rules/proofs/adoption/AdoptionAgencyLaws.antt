@@ -37,7 +37,7 @@ use Rattle.h5_rules.proofs.changes.PopLaws.{all_cut, names-pop}
 use Rattle.h5_rules.proofs.changes.SoundLaws.{all_tail}
 use Rattle.h5_rules.specs.formatting.Lists.{Lists}
 
--- all stands, the list agrees with the stack, and nodes stayed what they were
+-- the world is sound, the list agrees with the stack, and nodes stayed what they were
 pub record Keeps (w v : World) : Type 0 where
   pub sound : Sound v
   pub lists : HasLists v
@@ -109,7 +109,7 @@ cut_keeps is w k h = record {
   kinds = kinds_refl w.forest;
 }
 
--- up to and with the first of a name
+-- up to and including the first of a name
 pub until_named_keeps : (name : List ℕ) (w : World) → Sound w → HasLists w → Keeps w (pop_until_named name w)
 unfolding pop_until_named
 until_named_keeps name w k h = cut_keeps (is_html_named name) w k h
@@ -156,7 +156,7 @@ all_unlisted f s l n k = record {
   formatting = each_without_entry (λ m t. IsTrue (is_one_of formatting_names t.name)) n l k.formatting;
 }
 
--- an entry goes
+-- an entry is removed
 pub entry_gone_ready : (n : ℕ) (w : World) → HasHtmlRoot w → LeavesReady w (record w { formatting = without_entry n w.formatting })
 unfolding names_of
 entry_gone_ready n w ready = record {
@@ -168,7 +168,7 @@ all_behind : {l : List Entry} {head form context : Option ℕ} (f : Forest) (a s
 all_behind f [] s k = k
 all_behind f (n ∷ a) s k = all_behind f a s (all_tail f n (a ++ s) k)
 
--- elements are popped up to and with one that isn't the root, and its entry goes
+-- elements are popped up to and including one that isn't the root, and its entry is removed
 pub closed_ready : (n : ℕ) (w : World) → HasHtmlRoot w → IsIn n w.stack → is_html_named (codes "html") (name_in w.forest n) ≡ false
     → LeavesReady w (record w { stack = older_than n w.stack; formatting = without_entry n w.formatting })
 unfolding names_of
@@ -206,7 +206,7 @@ all_left f a r n some k = record {
   formatting = k.formatting;
 }
 
--- and the sink is told
+-- and the sink is notified
 pub taken_ready : (choices : SinkChoices) (n : ℕ) (w : World) → HasHtmlRoot w → is_html_named (codes "html") (name_in w.forest n) ≡ false → Lists (without_node n w.stack) w.formatting → LeavesReady w (remove_from_stack choices n w)
 unfolding remove_from_stack names_of
 taken_ready choices n w ready other lists = at (is_in n w.stack) refl

@@ -79,7 +79,7 @@ kinds_trans f g h a b = λ n there. b n (there_alike f g n (a n there) there) �
 
 -- Nodes are hung.
 
--- what stood still stands, if no newer open element is above an older one that comes below it
+-- what was sound stays sound, if no newer open element is above an older one that comes below it
 pub stands_hung : (f g : Forest) (chosen : ℕ → Bool) (q : ℕ) (s : List ℕ) → Stands f s → IsForest g → Rehangs f g chosen (Some q)
     → ((x y z : ℕ) → Before s x y → chosen z ≡ true → AtOrAbove (parent_of f) x q → AtOrAbove (parent_of f) z y → ⊥) → Stands g s
 stands_hung f g chosen q s k forest r apart = record {
@@ -347,7 +347,7 @@ module _ (choices : SinkChoices) (tag : TagText) (g : Forest) (s : List ℕ) (b 
       (wrapped_rehangs k loose).parents m ∙ ap (λ c. cond c (Some outer) (parent_of loosened m)) (ne_eqb m last other)
       ∙ detached_parents (make_for choices tag g) last m other ∙ make_for_parents choices tag g k m there
 
-  -- all stands then, and the clone is loose in its turn
+  -- the world is sound then, and the clone is loose in its turn
   pub wrapped_all : {l : List Entry} {head form context : Option ℕ} (a : ℕ) → Before s b a → AllStand g s l head form context → IsLoose g s b last → AllStand (wrapped choices (Some tag) last g) s l head form context
   wrapped_all {l} {head} {form} {context} a under k loose =
       all_hung loosened (wrapped choices (Some tag) last g) (λ m. m == last) outer s kept (wrapped_is_forest forest loose) (wrapped_rehangs forest loose)

@@ -1,5 +1,5 @@
--- What the adoption agency, and what calls it, keep of what modes tell: by roles it takes plain names out, and puts
--- them on plain ones.
+-- What the adoption agency, and the rules that call it, preserve of what modes say: by roles it removes plain names,
+-- and inserts them after plain ones.
 use Rattle.std.proofs.Common.{◌≡◌, ◌≤◌, inl, inr, ℕ, zero, suc, Bool, true, false, cond, not, ◌&&◌, ◌||◌, List, [], ◌∷◌, ◌++◌, length, filter, take, map, codes, Option, Some, None, refl, ap, sym, subst, ◌∙◌, arith}
 use Rattle.std.specs.List.{list_any}
 use Rattle.std.proofs.lemmas.List.{map-append}
@@ -155,7 +155,7 @@ module _ {name : List ℕ} {f : FormattingElement} {k : FurthestBlock} (choices 
 
 -- Elements that go.
 
--- up to and with a plain element, where none above it ends a scope
+-- up to and including a plain element, if none above it ends a scope
 cut_behind : (named : ℕ → QualName) (newer older : List ℕ) (n : ℕ) → list_any (λ m. is_default_scope (named m)) newer ≡ false → role_of (named n) ≡ PlainRole
     → Cut passes_table_scope PlainRole (roles (map named (newer ++ n ∷ older))) (roles (map named older))
 cut_behind named [] older n h e = subst (λ x. Cut passes_table_scope PlainRole (x ∷ roles (map named older)) (roles (map named older))) (sym e) here

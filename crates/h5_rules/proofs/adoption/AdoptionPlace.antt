@@ -1,5 +1,5 @@
--- Where the furthest block goes in a round of the adoption agency: it may be put there, and all stands then (HTML standard,
--- sections 13.2.6.1 and 13.2.6.4.7).
+-- The furthest block in a round of the adoption agency may be put at its new place, and the world is sound then (HTML
+-- standard, sections 13.2.6.1 and 13.2.6.4.7).
 use Rattle.std.proofs.Common.{◌≡◌, ◌≢◌, inl, inr, ℕ, Bool, true, false, ◌==◌, ◌&&◌, ◌||◌, cond, List, [], ◌∷◌, ◌++◌, map, codes, Option, Some, None, IsTrue, refl, ap, sym, subst, ◌∙◌, arith}
 use Rattle.std.specs.List.{list_any}
 use Rattle.std.specs.Prelude.{unwrap_or}
@@ -360,7 +360,7 @@ module _ {name : List ℕ} {f : FormattingElement} {k : FurthestBlock} (w : Worl
       put_loose_rehangs.parents m ∙ ap (λ b. cond b (Some (parent_at free_forest spot)) (parent_of free_forest m)) (ne_eqb m last other)
       ∙ detached_parents w.forest last m other
 
-  -- all stands then, and it is as loose as it was
+  -- the world is sound then, and it is as loose as it was
   pub put_loose_all : AllStand (put (appropriate_place w target) (ChildNode last) (detach last w.forest)) w.stack w.formatting w.head w.form w.context
   put_loose_all =
       all_hung free_forest (put spot (ChildNode last) free_forest) (λ n. n == last) (parent_at free_forest spot) w.stack

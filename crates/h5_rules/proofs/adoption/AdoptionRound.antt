@@ -1,4 +1,4 @@
--- A round of the adoption agency with a furthest block: what holds of builder and sink before it holds after it (HTML
+-- A round of the adoption agency with a furthest block: what holds for builder and sink before it holds after it (HTML
 -- standard, section 13.2.6.4.7, "adoption agency algorithm").
 use Rattle.std.proofs.Common.{◌≡◌, ◌≢◌, ◌⊎◌, inl, inr, ℕ, suc, Bool, true, false, ◌==◌, cond, List, [], ◌∷◌, ◌++◌, append_assoc, length, filter, map, take, codes, Option, Some, None, IsTrue, refl, ap, sym, subst, ◌∙◌}
 use Rattle.std.proofs.lemmas.Bool.{eq-eqb, eqb-true}

@@ -74,7 +74,7 @@ pub template_not_thorough : (n : QualName) → is_thorough_implied n ≡ true �
 unfolding thorough_implied_names implied_names
 template_not_thorough n h = named_not_thorough (codes "template") n refl h
 
--- what is popped is no element that names are cut at, so cutting there leaves the same
+-- popped elements aren't among those that names are cut at, so cutting there has the same result
 pub cut_dropped : (is popped : QualName → Bool) → ((n : QualName) → popped n ≡ true → is n ≡ false) → (ns : List QualName) → cut_names is (drop_while popped ns) ≡ cut_names is ns
 cut_dropped is popped apart [] = refl
 cut_dropped is popped apart (n ∷ ns) = at (popped n) refl (cut_dropped is popped apart ns)

@@ -17,7 +17,7 @@ use Rattle.h5_rules.proofs.changes.FormattingLaws.{sound_anew}
 use Rattle.h5_rules.proofs.changes.NameLaws.{names-insert}
 use Rattle.h5_rules.proofs.changes.PopLaws.{pop_stack}
 
--- what stays open where none is closed
+-- what stays open if none is closed
 pub no_p_expected : (names : List QualName) → has_p_in_button_scope names ≡ false → is_expected_p names ≡ true
 unfolding is_expected_p
 no_p_expected names h = ap (λ b. cond b (is_expected (is_implied_but (codes "p")) (is_html_named (codes "p")) names) true) h
@@ -51,7 +51,7 @@ pub first_implied : (choices : SinkChoices) (n : ℕ) (w : World) → first_is n
 unfolding generate_implied_end_tags is_expected_node
 first_implied choices n w = ap (first_is n) (while_stack choices is_implied (names_of w) w)
 
--- elements made anew stand on those that were open
+-- new elements come after those that were open
 anew : (choices : SinkChoices) (l : List Entry) (w : World) → Sound w → names_of (insert_anew choices l w) ≡ names_made_anew l (names_of w)
 anew choices [] w k = refl
 anew choices (MarkerEntry ∷ l) w k = anew choices l w k
@@ -62,7 +62,7 @@ pub names-reconstruct : (choices : SinkChoices) (w : World) → Sound w → name
 unfolding reconstruct_active_formatting_elements names_anew names_of
 names-reconstruct choices w k = anew choices (closed_front w.stack w.formatting) w k
 
--- two errors that may be told: where not both are kept back, the mark isn't 0 behind the later one
+-- two possible errors: unless neither is reported, the mark isn't 0 after the later one
 pub told_either : (one other : Bool) (first last : ℕ) → (one ≡ false → 0 < first) → first ≤ last → (other ≡ false → 0 < last) → (one && other) ≡ false → 0 < last
 told_either false other first last f rises g h = let k = f refl in omega arith
 told_either true other first last f rises g h = g h

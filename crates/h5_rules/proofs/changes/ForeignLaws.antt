@@ -33,7 +33,7 @@ pub svg_no_html : (local : List ℕ) → is_html_element (foreign_name svg_names
 unfolding svg_namespace html_namespace
 svg_no_html local = refl
 
--- what is left is no element of HTML
+-- what is left isn't an element of HTML
 left_foreign : (choices : SinkChoices) (f : Forest) (n : ℕ) → is_left choices f n ≡ true → is_html_element (name_in f n) ≡ false
 unfolding is_left
 left_foreign choices f n h = not_first (is_html_element (name_in f n)) _ h
@@ -65,7 +65,7 @@ tree_leave choices w = leave_holds (OnlyTree w) choices (λ v x ns e f one. tree
 pub situation_leave : (choices : SinkChoices) (w : World) → KeepsSituation w (leave_foreign_content choices w)
 situation_leave choices w = leave_holds (KeepsSituation w) choices (λ v x ns e f one. situation_then w v (pop choices v) one (situation_pop choices v)) w (situation_same w)
 
--- up to and with an element of a name
+-- up to and including an element of a name
 pub until_in_any_case_keeps : (local : List ℕ) (w : World) → Sound w → HasLists w → Keeps w (pop_until_named_in_any_case local w)
 unfolding pop_until_named_in_any_case
 until_in_any_case_keeps local w k h = cut_keeps (is_named_in_any_case local) w k h

@@ -1,4 +1,4 @@
--- What making elements anew, and new formatting elements, leave of a world.
+-- What new elements for entries, and new formatting elements, leave of a world.
 use Rattle.std.proofs.Common.{◌≡◌, inl, inr, ℕ, suc, Bool, true, false, cond, List, [], ◌∷◌, ◌++◌, length, take, Option, None, IsTrue, refl, ap, sym, subst, ◌∙◌}
 use Rattle.std.proofs.lemmas.List.{take_at}
 use Rattle.h5_token.specs.TokenText.{TagText}
@@ -82,7 +82,7 @@ module _ (choices : SinkChoices) (tag : TagText) (w : World) where
   pub root_insert_for : Sound w → IsRootOpen (names_of w) → IsRootOpen (names_of (insert_for choices tag w))
   root_insert_for k h = subst IsRootOpen (sym (names-insert choices tag.name tag.attrs tag.had_duplicate_attributes w k)) (open_push (html_name tag.name) (names_of w) h)
 
--- ELEMENTS are made anew for entries, the oldest entry's first; these are they, the newest first
+-- NEW ELEMENTS for entries are created, the oldest entry's first; the list has them with the newest first
 abbrev pub made_nodes : SinkChoices → List Entry → World → List ℕ
 made_nodes choices [] w = []
 made_nodes choices (MarkerEntry ∷ l) w = made_nodes choices l w
@@ -222,7 +222,7 @@ module _ (choices : SinkChoices) (w : World) where
   unfolding names_of reconstruct_active_formatting_elements
   root_reconstruct k h = root_anew choices front w k h
 
-  -- where there is nothing to make, nothing changes
+  -- if there is nothing to make, nothing changes
   pub reconstruct_none : closed_front w.stack w.formatting ≡ [] → reconstruct_active_formatting_elements choices w ≡ w
   unfolding reconstruct_active_formatting_elements
   reconstruct_none e =

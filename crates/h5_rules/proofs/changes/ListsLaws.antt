@@ -1,4 +1,4 @@
--- What each change leaves of a world in which all stands, and whose list of active formatting elements agrees with the
+-- What each change leaves of a sound world whose list of active formatting elements agrees with the
 -- stack of open elements.
 use Rattle.std.proofs.Common.{◌≡◌, ◌≢◌, ℕ, Bool, true, false, cond, List, [], ◌∷◌, codes, Option, Some, None, refl}
 use Rattle.h5_names.specs.AttributeText.{AttributeText}
@@ -34,7 +34,7 @@ use Rattle.h5_rules.proofs.changes.PopLaws.{all_cut_above}
 use Rattle.h5_rules.proofs.changes.SoundLaws.{all_rearranged, root_is_node}
 use Rattle.h5_rules.proofs.changes.TemplateLaws.{insert_template_lists, insert_template_stands}
 
--- all stands, and the list agrees with the stack
+-- the world is sound, and the list agrees with the stack
 pub record IsSteady (w : World) : Type 0 where
   pub sound : Sound w
   pub lists : HasLists w

@@ -210,7 +210,7 @@ text_put_rearranges f (TableFosterParenting element prev) t k some there = at (p
     at None may = append_text_rearranges f prev t k may
     at (Some q) may = insert_text_rearranges f element t k may
 
--- an element at a place is pushed, and all stands
+-- an element at a place is pushed, and the world is sound
 pub all_inserted : (choices : SinkChoices) (p : Place) (name : QualName) (attrs : List AttributeText) (duplicates : Bool) (marks : Marking) (w : World) → Sound w → IsPlaceIn w.forest p → (w.stack ≡ [] → p ≡ LastChild w.forest.document)
     → AllStand (new_element choices p name attrs duplicates marks w.forest) (choices.fresh w.forest ∷ w.stack) w.formatting w.head w.form w.context
 all_inserted choices p name attrs duplicates marks w k there first =
@@ -320,7 +320,7 @@ no_form_stands w k = record {
   formatting = k.formatting;
 }
 
--- where nothing is open, the place of insertion is the document
+-- if nothing is open, the place of insertion is the document
 pub first_place : (w : World) → IsForest w.forest → w.stack ≡ [] → place w ≡ LastChild w.forest.document
 unfolding appropriate_place is_table_outer html_namespace
 first_place w k e =

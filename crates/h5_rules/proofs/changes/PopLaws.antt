@@ -104,7 +104,7 @@ pub pop_stack : (choices : SinkChoices) (w : World) → (pop choices w).stack �
 unfolding pop
 pop_stack choices w = refl
 
--- what is popped is no element that a stack is cut at, so cutting at it gives the same
+-- popped elements aren't among those that a stack is cut at, so cutting there has the same result
 pub cut_popped : (choices : SinkChoices) (popped is : QualName → Bool) → ((n : QualName) → popped n ≡ true → is n ≡ false) → (ns : List QualName) (w : World) → names_of w ≡ ns
     → let v = pop_while choices popped ns w in cut_through is (names_of v) v.stack ≡ cut_through is ns w.stack
 cut_popped choices popped is apart [] w e = ap (λ ns. cut_through is ns w.stack) e

@@ -1,4 +1,4 @@
--- What stands where open elements leave the stack.
+-- The world stays sound when open elements are removed from the stack.
 use Rattle.std.proofs.Common.{◌≡◌, ◌≢◌, ℕ, List, [], ◌∷◌, ◌++◌, Option, refl, sym, subst}
 use Rattle.h5_interface.specs.Forest.{Forest}
 use Rattle.h5_rules.specs.formatting.Adoption.{newer_than, older_than, without_node}

@@ -151,7 +151,7 @@ module _ (choices : SinkChoices) (w : World) where
   unfolding append_comment_to_html
   situation_comment_to_root t k = situation_forest w _ (new_comment_rearranges choices w.forest (LastChild (root w)) t k.stands.is_forest (root_is_node w k))
 
--- elements are made anew
+-- new elements for entries
 anew_kinds : (choices : SinkChoices) (l : List Entry) (w : World) → Sound w → KeepsKinds w.forest (insert_anew choices l w).forest
 anew_kinds choices [] w k = kinds_refl w.forest
 anew_kinds choices (MarkerEntry ∷ l) w k = anew_kinds choices l w k

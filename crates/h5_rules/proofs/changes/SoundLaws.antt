@@ -25,7 +25,7 @@ before_second (n ∷ s) x y (inr h) = inr (before_second s x y h)
 pub name_kept : (f g : Forest) (n : ℕ) → Rearranges f g → IsNode f n → name_in g n ≡ name_in f n
 name_kept f g n r there = ap name_of_found (r.same_kind n there)
 
--- what stood still stands after a rearrangement
+-- what was sound stays sound after a rearrangement
 pub stands_rearranged : (f g : Forest) (s : List ℕ) → Stands f s → Rearranges f g → Stands g s
 stands_rearranged f g s k r = record {
   is_forest = r.is_forest;
@@ -109,7 +109,7 @@ top_tail f n [] k = tt
 top_tail f n (m ∷ s) k = k
 
 module _ {l : List Entry} {head form context : Option ℕ} where
-  -- all stands after a rearrangement
+  -- the world is sound after a rearrangement
   pub all_rearranged : (f g : Forest) (s : List ℕ) → AllStand f s l head form context → Rearranges f g → AllStand g s l head form context
   all_rearranged f g s k r = record {
     stands = stands_rearranged f g s k.stands r;

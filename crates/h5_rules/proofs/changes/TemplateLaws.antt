@@ -162,7 +162,7 @@ module _ (choices : SinkChoices) (attrs : List AttributeText) (duplicates : Bool
   sound_popped : Sound popped
   sound_popped = pop_sound choices loose sound_loose
 
-  -- all stands
+  -- the world is sound
   pub insert_template_stands : Sound (insert_template choices attrs duplicates w)
   insert_template_stands =
       template_ways Sound choices attrs duplicates w
@@ -214,7 +214,7 @@ module _ (choices : SinkChoices) (attrs : List AttributeText) (duplicates : Bool
   pub situation_insert_template : KeepsSituation w (insert_template choices attrs duplicates w)
   situation_insert_template = situation_tree w (insert_template choices attrs duplicates w) (tree_insert_template choices attrs duplicates w) insert_template_kinds
 
--- a template is closed: the names that are left behind the first template's
+-- a template is closed: the names that remain after the first template's
 pub names-close_template : (choices : SinkChoices) (w : World) → names_of (pop_until_named (codes "template") (generate_implied_end_thoroughly choices w)) ≡ cut_names (is_html_named (codes "template")) (names_of w)
 names-close_template choices w =
     names-cut (codes "template") (generate_implied_end_thoroughly choices w)

@@ -17,7 +17,7 @@ use Rattle.h5_rules.specs.stack.Closing.{close_item, close_list_item, close_name
 use Rattle.h5_rules.specs.formatting.Formatting.{clear_active_formatting_to_marker, create_formatting_element, insert_anew, insert_for, insert_marker, reconstruct_active_formatting_elements}
 use Rattle.h5_rules.specs.World.{World, current, name_in, names_of}
 
--- v is w but for these three
+-- v is w except for these three
 abbrev pub OnlyTree : World → World → Type 0
 OnlyTree w v = v ≡ record w { forest = v.forest; stack = v.stack; formatting = v.formatting }
 

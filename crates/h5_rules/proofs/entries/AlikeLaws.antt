@@ -1,4 +1,4 @@
--- The test of likeness tells alike tags from others; so two tags that are alike have the same ones alike to them.
+-- The test `is_alike` holds exactly for alike tags; so the same entries are alike to two tags that are alike.
 use Rattle.std.proofs.Common.{◌≡◌, ◌≢◌, ◌==◌, ◌↔◌, ◌&&◌, IsTrue, ℕ, ◌+◌, Bool, true, false, cond, List, [], ◌∷◌, ◌++◌, refl, sym, ◌∙◌, subst, zero, suc, arith, rules}
 use Rattle.std.specs.List.{list_all}
 use Rattle.std.proofs.lemmas.Bool.{eq-eqb, eqb-true}

@@ -1,4 +1,4 @@
--- What holds of each entry, after a change.
+-- What holds for each entry, after a change.
 use Rattle.std.proofs.Common.{◌≡◌, ℕ, Bool, true, false, cond, List, [], ◌∷◌, ◌++◌, Option, Some, None, refl, subst}
 use Rattle.std.specs.Prelude.{◌==◌, nat_le}
 use Rattle.h5_token.specs.TokenText.{TagText}
@@ -77,7 +77,7 @@ each_inserted_after P a c u (ElementEntry n t ∷ l) p h = at (n == a) (each_ins
     at true k = (p, h)
     at false k = (h.0, k)
 
--- after a round something holds of each entry, if it does of each that stays, of each clone with the tag of its
+-- after a round something holds for each entry, if it does of each that stays, of each clone with the tag of its
 -- original, and of the clone of f
 pub each_round : (P Q : ℕ → TagText → Type 0) (f : ℕ) (u : TagText) (between clones : List ℕ) (c : ℕ) (l : List Entry)
     → ((n m : ℕ) (t : TagText) → P n t → replaced_by between (to_clone l between) clones n ≡ Some m → Q m t) → Q c u → EachEntry P l → EachEntry Q (round_list f u between clones c l)
@@ -85,7 +85,7 @@ each_round P Q f u between clones c l gives p h =
     each_without_entry Q f (inserted_after (first_or f clones) (ElementEntry c u) (replaced (replaced_by between (to_clone l between) clones) l))
     (each_inserted_after Q (first_or f clones) c u (replaced (replaced_by between (to_clone l between) clones) l) p (each_replaced P Q (replaced_by between (to_clone l between) clones) l gives h))
 
--- what holds of the tags alone
+-- what holds for the tags alone
 pub each_tag_anew : (Q : TagText → Type 0) (s ms : List ℕ) (l : List Entry) → EachEntry (λ n t. Q t) l → EachEntry (λ n t. Q t) (made_anew ms (closed_front s l))
 each_tag_anew Q s ms l h = anew ms (closed_front s l) (front l h)
   where

@@ -34,12 +34,12 @@ four : adopted (λ n. n == 6) (record { node = 1; tag = b }) (15 ∷ 14 ∷ 13 �
     ≡ record { stack = 11 ∷ 6 ∷ 15 ∷ 14 ∷ 13 ∷ 0 ∷ []; formatting = ElementEntry 11 b ∷ ElementEntry 15 i ∷ ElementEntry 14 i ∷ ElementEntry 13 i ∷ [] }
 four = refl
 
--- <b><i></b>: there is no furthest block, so both are popped, and b's entry goes
+-- <b><i></b>: there is no furthest block, so both are popped, and b's entry is removed
 popped : adopted (λ n. n == 9) (record { node = 1; tag = b }) [] 11 (2 ∷ 1 ∷ 0 ∷ []) (ElementEntry 2 i ∷ ElementEntry 1 b ∷ [])
     ≡ record { stack = 0 ∷ []; formatting = ElementEntry 2 i ∷ [] }
 popped = refl
 
--- what is closed is made anew down to what is open, or to a marker
+-- closed entries get new elements, down to an open one or to a marker
 front : closed_front (1 ∷ 0 ∷ []) (ElementEntry 3 i ∷ ElementEntry 2 b ∷ ElementEntry 1 b ∷ []) ≡ ElementEntry 3 i ∷ ElementEntry 2 b ∷ []
 front = refl
 

@@ -41,7 +41,7 @@ lists_pushed n s l out k = record {
     old x u (inl e) = absurd (out (subst (λ z. IsIn z (nodes_of l)) e u))
     old x u (inr i) = i
 
--- the newest front of the stack is cut
+-- the newest part of the stack is cut off
 pub lists_cut : (a s : List ℕ) (l : List Entry) → Distinct (a ++ s) → Lists (a ++ s) l → Lists s l
 lists_cut a s l d k = record {
   agrees = agrees_restacked (a ++ s) s l (λ x u i. in_right x a s i) order stay k.agrees;
@@ -142,7 +142,7 @@ entry_cut m (ElementEntry n t ∷ l) h = at (n == m) refl (λ i. entry_cut m l i
           first = λ v. elim v [ inl j ↦ eqb-false n m e (sym j) | inr j ↦ k.first j ];
         }
 
--- where there is none, nothing changes
+-- if there is none, nothing changes
 pub without_entry_none : (m : ℕ) (l : List Entry) → ¬ (IsIn m (nodes_of l)) → without_entry m l ≡ l
 without_entry_none m [] out = refl
 without_entry_none m (MarkerEntry ∷ l) out = ap (λ z. MarkerEntry ∷ z) (without_entry_none m l out)

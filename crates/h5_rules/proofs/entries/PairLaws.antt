@@ -90,7 +90,7 @@ newer p q m x d h =
       | inr j ↦ elim j [ inl i ↦ absurd (not_beside p q m d (in_right m p q i.1)) | inr i ↦ i.1 ]
     ]
 
--- the test tells whether a number stands in a list
+-- the test holds exactly if a list has a number
 pub is_in_true : (n : ℕ) (s : List ℕ) → is_in n s ≡ true → IsIn n s
 is_in_true n [] h = absurd (cc)
 is_in_true n (m ∷ s) h = at (n == m) refl h (λ k. is_in_true n s k)

@@ -82,7 +82,7 @@ lists_without_node f s l out k = elim (is_listed_or_not f s) [
 pub lists_removed : (f : ℕ) (s : List ℕ) (l : List Entry) → Lists s l → Lists (without_node f s) (without_entry f l)
 lists_removed f s l k = lists_without_node f s (without_entry f l) (without_entry_gone f l k.agrees.once) (lists_without_entry f s l k)
 
--- the stack is cut at an open element, and its entry goes
+-- the stack is cut at an open element, and its entry is removed
 pub lists_closed : (f : ℕ) (s : List ℕ) (l : List Entry) → IsIn f s → Distinct s → Lists s l → Lists (older_than f s) (without_entry f l)
 lists_closed f s l i d k =
     let e = stack_split f s i in
@@ -123,7 +123,7 @@ newest_named_at name (ElementEntry n t ∷ l) f e = at (is_same_text t.name name
           is_newest = (differ t.name name v, k.is_newest);
         }
 
--- where there is none
+-- if there is none
 pub newest_named_none : (name : List ℕ) (l : List Entry) → newest_named name l ≡ None → EachEntry (λ n t. ¬ (t.name ≡ name)) (after_marker l)
 newest_named_none name [] e = tt
 newest_named_none name (MarkerEntry ∷ l) e = tt
@@ -194,7 +194,7 @@ lists_adopted special name f clones c s l found i d out as_many fresh k = at (fu
         })
         (subst (λ z. Lists z (place.newer ++ ElementEntry f.node f.tag ∷ place.older)) stack (subst (Lists s) place.cut k)))
 
--- what holds of each entry after it, if it does of the entries that stay, of each clone with the tag of its
+-- what holds for each entry after it, if it does of the entries that stay, of each clone with the tag of its
 -- original, and of the formatting element's clone with its tag
 pub each_adopted : (P Q : ℕ → TagText → Type 0) (special : ℕ → Bool) (name : List ℕ) (f : FormattingElement) (clones : List ℕ) (c : ℕ) (s : List ℕ) (l : List Entry)
     → newest_named name l ≡ Some f → ((n : ℕ) (t : TagText) → P n t → Q n t) → ((y x : ℕ) (t : TagText) → IsCloneOf (clones_wanted special f s l) clones y x → P x t → Q y t) → (P f.node f.tag → Q c f.tag)

@@ -10,7 +10,7 @@ use Rattle.h5_rules.specs.stack.Order.{Before, IsIn, is_in}
 use Rattle.h5_rules.proofs.entries.EntryLaws.{nodes_of-append}
 use Rattle.h5_rules.proofs.entries.PairLaws.{in_left, in_right, in_split, before_first, before_second, before_split, before_across, before_left, before_right, is_in_false, is_in_telling, is_in_true}
 
--- the front and the rest are the list
+-- the closed prefix and the remainder are the list
 pub front_split : (s : List ℕ) (l : List Entry) → l ≡ closed_front s l ++ open_rest s l
 front_split s [] = refl
 front_split s (MarkerEntry ∷ l) = refl
@@ -53,7 +53,7 @@ rest_open s (ElementEntry n t ∷ l) k y h = at (is_in n s) refl h (λ i. rest_o
     at true e (inr i) go = k n y (inl (refl, after_twice y l i)) (is_in_true n s e)
     at false e i go = go i
 
--- the front is what the standard's rewinding goes over
+-- the closed prefix is what the standard's rewinding passes
 pub rewinds_to : (s : List ℕ) (l : List Entry) → RewindsTo s l (closed_front s l) (open_rest s l)
 rewinds_to s [] = record { cut = refl; unmarked = tt; none_open = λ n h. absurd h; stops = tt }
 rewinds_to s (MarkerEntry ∷ l) = record { cut = refl; unmarked = tt; none_open = λ n h. absurd h; stops = tt }
@@ -133,7 +133,7 @@ alike_anew t s (ElementEntry n u ∷ l) ms e = at (is_in n s) ms e (λ ks h. ali
         let same = ap (λ i. cond (is_alike t u) (suc i) i) k.0 in
         (same, λ few. (subst (λ i. i ≤ 3) (sym same) few.0, k.1 few.1))
 
--- reconstructing, with as many new elements as there are entries in the front
+-- reconstructing, with as many new elements as the closed prefix has entries
 module _ (fresh s : List ℕ) (l : List Entry) (as_many : length fresh ≡ length (closed_front s l)) where
   rest_listed : (x : ℕ) → IsIn x (nodes_of (open_rest s l)) → IsIn x (nodes_of l)
   rest_listed x i =
@@ -210,7 +210,8 @@ module _ (fresh s : List ℕ) (l : List Entry) (as_many : length fresh ≡ lengt
           listed x y (ElementEntry n t ∷ r) (inl i) = inl i.0
           listed x y (ElementEntry n t ∷ r) (inr i) = inr (listed x y r i)
 
--- once more is nothing: where the front is empty nothing changes, and after it the front is empty
+-- reconstructing again does nothing: if the closed prefix is empty nothing changes, and after reconstructing it is
+-- empty
 pub reconstructed_none : (s : List ℕ) (l : List Entry) → closed_front s l ≡ [] → reconstructed [] s l ≡ l
 reconstructed_none s l e = sym (front_split s l ∙ ap (λ z. z ++ open_rest s l) e)
 

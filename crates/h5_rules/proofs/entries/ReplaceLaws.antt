@@ -1,4 +1,4 @@
--- What stays where elements of the stack and of the list are replaced by others, in both alike.
+-- What is preserved if elements of the stack and of the list are replaced in the same way.
 use Rattle.std.proofs.Common.{◌≡◌, ◌≤◌, ◌⊎◌, inl, inr, ℕ, suc, cond, List, [], ◌∷◌, ◌++◌, Option, Some, None, refl, ap, sym, subst, ◌∙◌, arith}
 use Rattle.h5_token.specs.TokenText.{TagText}
 use Rattle.h5_rules.specs.formatting.Adoption.{entry_as, replaced}

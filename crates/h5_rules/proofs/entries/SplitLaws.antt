@@ -1,4 +1,4 @@
--- The questions about open elements, and the ways to close them, are what the standard says of them.
+-- The tests of open elements, and the ways to close them, agree with the standard's words.
 use Rattle.std.proofs.Common.{◌≡◌, ◌⊎◌, inl, inr, ◌&&◌, ◌||◌, ℕ, zero, suc, Bool, true, false, cond, List, [], ◌∷◌, ◌++◌, length, map, drop, refl, ap, sym, subst, ◌∙◌}
 use Rattle.std.specs.List.{list_all, list_any}
 use Rattle.h5_names.specs.declared.qualified.QualName.{QualName}
@@ -82,7 +82,7 @@ pops_all_alone is names left k = sym (ap (drop_while is) k.cut ∙ over k.popped
     over [] h = stopped left k.stops
     over (n ∷ l) h = rw (all_first is n l h) (over l (all_rest is n l h))
 
--- popped up to and with the newest of such elements
+-- popped up to and including the newest of such elements
 pub pops_through : (is : QualName → Bool) (names : List QualName) → list_any is names ≡ true → PopsThrough is names (cut_names is names)
 pops_through is [] h = absurd (cc)
 pops_through is (n ∷ ns) h = at (is n) refl h (pops_through is ns)

@@ -75,7 +75,7 @@ not_second m n s out i e = out (subst (λ z. IsIn z s) e i)
 pub replaced_by_unlisted : (m : ℕ) (B xs ys : List ℕ) (l : List Entry) → ¬ (IsIn m (nodes_of l)) → replaced (replaced_by (m ∷ B) xs ys) l ≡ replaced (replaced_by B xs ys) l
 replaced_by_unlisted m B xs ys l out = replaced_agree (replaced_by (m ∷ B) xs ys) (replaced_by B xs ys) l (λ n i. replaced_by_other m n B xs ys (not_second m n (nodes_of l) out i))
 
--- it gets no clone: its entry goes
+-- it gets no clone: its entry is removed
 pub replaced_by_without : (m : ℕ) (B xs ys : List ℕ) (l : List Entry) → Distinct (nodes_of l) → ¬ (IsIn m xs) → replaced (replaced_by (m ∷ B) xs ys) l ≡ replaced (replaced_by B xs ys) (without_entry m l)
 replaced_by_without m B xs ys [] d out = refl
 replaced_by_without m B xs ys (MarkerEntry ∷ l) d out = ap (λ z. MarkerEntry ∷ z) (replaced_by_without m B xs ys l d out)

@@ -99,7 +99,7 @@ second_half newer_s older_s clones b f c t p r d cnew unlisted ffirst cf nm spot
         subst (λ z. Agrees z (without_entry f (inserted_after (first_or f clones) (ElementEntry c t) (p ++ ElementEntry f t ∷ r)))) (append_assoc newer_s (c ∷ b ∷ clones) older_s)
         (agrees_dropped (newer_s ++ c ∷ b ∷ clones) older_s f (inserted_after (first_or f clones) (ElementEntry c t) (p ++ ElementEntry f t ∷ r)) both)
 
-    -- f's entry goes from where it stands
+    -- f's entry is removed from where it stands
     in_p : (x : ℕ) → IsIn x (nodes_of spot.front ++ nodes_of spot.middle) → IsIn x (nodes_of p)
     in_p x i = subst (λ z. IsIn x (nodes_of z)) (sym spot.cut) (subst (IsIn x) (sym (nodes_of-append spot.front spot.middle)) i)
 

@@ -1,4 +1,4 @@
--- The changes that are no frames, and the mode that fits after each: parts of tables, tables, templates and framesets.
+-- The changes that aren't frames, and the mode that fits after each: parts of tables, tables, templates and framesets.
 use Rattle.std.proofs.Common.{◌≡◌, ◌+◌, ℕ, suc, Bool, true, false, cond, List, [], ◌∷◌, length, Some, refl, ap, sym, ◌∙◌, arith}
 use Rattle.h5_tables.specs.declared.modes.InsertionMode.{InsertionMode}
 use Rattle.h5_tables.specs.declared.modes.InsertionMode.TheVariants.{Initial, BeforeHtml, InBody, Text, InTable, InTableText, InTemplate, InFrameset}

@@ -1,4 +1,4 @@
--- What is left where the stack is cleared back to a context.
+-- The open elements after the stack is cleared back to a context.
 use Rattle.std.proofs.Common.{◌≡◌, suc, Bool, true, false, cond, List, [], ◌∷◌, refl, ap, sym, ◌∙◌}
 use Rattle.h5_rules.specs.fitting.Contexts.{Clear, LeastContext, Over, StackContext, TableBodyContext, TableContext, TableRowContext, Under, context_of, down_to, ends, stands, starts}
 use Rattle.h5_rules.specs.fitting.Floors.{Grounded, HasBase, above, in_head, on_body, on_root, on_template}

@@ -24,7 +24,7 @@ module _ {passes : Role → Bool} {x : Role} where
   cut_any_later p (here {rest = rest}) a = later_true (p x) (has_role p rest) a
   cut_any_later p (there {ns = ns} n h c) a = later_true (p n) (has_role p ns) (cut_any_later p c a)
 
-  -- nothing that p tells is among what is closed
+  -- no closed element passes p
   pub cut_count : (p : Role → Bool) → ((n : Role) → passes n ≡ true → p n ≡ false) → p x ≡ false → {ns rest : List Role} → Cut passes x ns rest → count_roles p rest ≡ count_roles p ns
   cut_count p f e (here {rest = rest}) = sym (ap (λ b. cond b (suc (count_roles p rest)) (count_roles p rest)) e)
   cut_count p f e (there {ns = ns} n h c) = cut_count p f e c ∙ sym (ap (λ b. cond b (suc (count_roles p ns)) (count_roles p ns)) (f n h))
@@ -111,7 +111,7 @@ loose_stands BodyRole m h l s = refl
 loose_stands FramesetRole m h l s = refl
 loose_stands _ m h l s = absurd (cc)
 
--- under tells that no part of a table is above it
+-- by `Under`, no part of a table is above it
 cut_loose : {ns rest : List Role} → Cut passes_table_scope PlainRole ns rest → Under ns → Cut is_loose PlainRole ns rest
 cut_loose here u = here
 cut_loose (there n h here) u = there n (loose_stands n PlainRole h refl u.0) here

@@ -75,7 +75,7 @@ text_pop s ns f = at ns f.place.0 f.place.1.0 f.place.1.1 f.known
     at (n ∷ []) m e p k = elim p [ ]
     at (n ∷ l ∷ ns) m e p k = record { mode = m; saved = e; placed = p.1; fits = record { known = known_pop s n (l ∷ ns) p.0 k.root k; place = reset_place s (l ∷ ns) m p.1 } }
 
--- before the body names are told exactly
+-- before the body the names are known exactly
 pub head_pushed : (s : Situation) (ns : List Role) → Fits s BeforeHead ns → Fits (with_head s) InHead (HeadRole ∷ ns)
 head_pushed s ns f =
     let k = f.known in

@@ -1,4 +1,5 @@
--- What modes that go by the body tell by names: the modes of the body fit where they do, and tags that no rule names.
+-- What modes that use the rules of "in body" say by names: the modes of the body fit where they do, and tags that no
+-- rule names.
 use Rattle.std.proofs.Common.{Bool, List, [], ap, codes, false, inl, inr, refl, subst, sym, true, ℕ, ◌∙◌, ◌∷◌, ◌≡◌}
 use Rattle.std.proofs.lemmas.Slice.Eq.{bytes_eq-Decides}
 use Rattle.h5_names.specs.KnownNames.{name_text}
@@ -23,7 +24,7 @@ use Rattle.h5_rules.proofs.roles.SetLaws.{ordinary_plain}
 use Rattle.h5_rules.proofs.rows.ByNameLaws.{all_ruled, are_ruled}
 
 module _ (s : Situation) (ns : List QualName) where
-  -- what fits a mode that goes by the body fits the body, and what comes after it
+  -- what fits a mode that uses the rules of the body fits the body, and what comes after it
   pub names_in_body : (m : InsertionMode) → goes_by_body m ≡ true → NamesFit s m ns → NamesFit s InBody ns
   names_in_body m h f = names_fit s InBody ns refl (record { known = f.fits.known; place = fits_grounded s m (roles ns) h f.fits })
 
@@ -126,7 +127,7 @@ MayEnd m BodyRole = ⊥
 MayEnd m TemplateRole = ⊥
 MayEnd m _ = m ≡ InBody
 
--- any other end tag, in every mode that goes by the body
+-- any other end tag, in every mode that uses the rules of the body
 pub names_other_end : (s : Situation) (m : InsertionMode) (local : List ℕ) (ns : List QualName) → goes_by_body m ≡ true → MayEnd m (role_of_local local) → comes_before_special local ns ≡ true → NamesFit s m ns
     → NamesFit s m (cut_names (is_html_named local) (drop_while (is_implied_but local) ns))
 names_other_end s m local ns goes may h f = at (role_of_local local) refl may

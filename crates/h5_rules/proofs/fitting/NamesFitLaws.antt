@@ -1,4 +1,4 @@
--- What modes tell by names: what frames and resets keep, the modes before the body, and the modes left for a text.
+-- What modes say by names: what frames and resets preserve, the modes before the body, and the modes left for a text.
 use Rattle.std.proofs.Common.{◌≡◌, ◌<◌, ℕ, suc, Bool, true, false, cond, List, [], ◌∷◌, length, unwrap_or, codes, refl, ap, sym, subst, ◌∙◌, arith}
 use Rattle.h5_names.specs.declared.qualified.QualName.{QualName}
 use Rattle.h5_tables.specs.TagSets.{is_html_named}
@@ -28,7 +28,7 @@ pub roles_later : (ns : List QualName) → later_roles (roles ns) ≡ roles (lat
 roles_later [] = refl
 roles_later (n ∷ ns) = refl
 
--- a mode that tells no name
+-- a mode that says nothing about names
 abbrev pub is_silent : InsertionMode → Bool
 is_silent InHeadNoscript = false
 is_silent Text = false

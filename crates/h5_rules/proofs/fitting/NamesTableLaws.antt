@@ -1,4 +1,4 @@
--- What modes tell by names: parts of tables put and closed, tables, templates and framesets.
+-- What modes say by names: parts of tables inserted and closed, tables, templates and framesets.
 use Rattle.std.proofs.Common.{◌≡◌, ◌⊎◌, inl, inr, ℕ, Bool, true, false, cond, ◌||◌, List, [], ◌∷◌, codes, refl, ap, sym, subst, ◌∙◌}
 use Rattle.h5_names.specs.declared.qualified.QualName.{QualName}
 use Rattle.h5_tables.specs.TagSets.{html_namespace, is_cell, is_html_named, is_table_body_context, is_table_row_context, is_table_scope}

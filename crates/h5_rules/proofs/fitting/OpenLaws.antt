@@ -42,7 +42,7 @@ open_while p (n ∷ ns) f h = at (p n) refl (open_while p ns f)
     at true e r = r (open_pop n ns (f n e) h)
     at false e r = h
 
--- up to and with one that isn't `html`, where a scope has one
+-- up to and including one that isn't `html`, where a scope has one
 pub open_cut : (is stop : QualName → Bool) (ns : List QualName) → ((n : QualName) → is n ≡ true → is_html_named (codes "html") n ≡ false) → in_scope is stop ns ≡ true → IsRootOpen ns → IsRootOpen (cut_names is ns)
 open_cut is stop [] f c h = elim h [ ]
 open_cut is stop (n ∷ ns) f c h = at (is n) (stop n) refl c (open_cut is stop ns f)
@@ -67,7 +67,7 @@ not_html local e n h = at (is_html_named (codes "html") n) refl
 pub open_implied : (local : List ℕ) (ns : List QualName) → IsRootOpen ns → IsRootOpen (drop_while (is_implied_but local) ns)
 open_implied local ns h = open_while (is_implied_but local) ns (λ n k. implied_not_html n (and_not (is_implied n) (is_html_named local n) k).0) h
 
--- an end tag but `html`, where nothing special comes before what it names
+-- an end tag but `html`, if nothing special comes before what it names
 pub open_ended : (local : List ℕ) (ns : List QualName) → is_same_text local (codes "html") ≡ false → comes_before_special local ns ≡ true → IsRootOpen ns
     → IsRootOpen (cut_names (is_html_named local) (drop_while (is_implied_but local) ns))
 open_ended local ns e c h =
@@ -82,7 +82,7 @@ names_root_open s m ns h f = at ns (names_open s m ns h f) (names_root s m ns f)
     at [] o r = absurd (omega (arith, o))
     at (n ∷ ns) o r = root_open n ns r
 
--- a mode that may be left for a text comes so, and those that go by the body are some
+-- a mode that may be left for a text comes so, and those that use the rules of the body are some
 pub left_after_root : (m : InsertionMode) → may_be_left m ≡ true → is_before_root m ≡ false
 left_after_root Initial h = absurd (cc)
 left_after_root BeforeHtml h = absurd (cc)

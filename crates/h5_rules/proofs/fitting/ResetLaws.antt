@@ -110,7 +110,7 @@ lasts_push w s InTemplate ns h = (refl, (above PlainRole refl h.1.0, h.1.1))
 lasts_push w s InFrameset ns h = (refl, (let k : 0 < length ns = h.1.0 in omega arith, h.1.1))
 lasts_push w s _ ns h = absurd (let k = h.0 in cc)
 
--- what a template mode tells holds where the template comes first, or where it is a fragment's context
+-- what a template mode says holds if the template comes first, or if it is a fragment's context
 pub by_template : (w : Bool) (s : Situation) (ns : List Role) → Grounded w ns → HasBase w ns → ((c : StackContext) → Over c ns) → 0 < length s.template_modes → (m : InsertionMode) → is_template_mode m ≡ true → Lasts w s m ns
 by_template w s ns g b o some InTemplate h = (refl, (g, (some, o LeastContext)))
 by_template w s ns g b o some InTable h = (refl, (g, b))

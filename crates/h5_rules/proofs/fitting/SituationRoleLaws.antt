@@ -1,4 +1,4 @@
--- What modes tell in a later situation, where the frameset-ok flag may have gone off and a head become known.
+-- What modes say in a later situation, in which the frameset-ok flag may be off and a head may be known.
 use Rattle.std.proofs.Common.{◌≡◌, ◌<◌, ◌+◌, Bool, true, List, [], ◌∷◌, length, ap, sym, subst, ◌∙◌}
 use Rattle.h5_names.specs.declared.qualified.QualName.{QualName}
 use Rattle.h5_tables.specs.declared.modes.InsertionMode.{InsertionMode}

@@ -13,7 +13,7 @@ use Rattle.h5_rules.proofs.roles.SetLaws.{html_test}
 use Rattle.h5_rules.proofs.fitting.TableModeLaws.{body_passed}
 use Rattle.h5_rules.proofs.roles.TestLaws.{table_body_context_test, table_scope_test}
 
--- a row group is told by its role
+-- a row group is recognized by its role
 pub section_test : (n : QualName) → is_table_section n ≡ is_section (role_of n)
 unfolding role_of_local
 section_test n = same_tests (is_table_section n) (is_section (role_of n)) (named (is_html_named (codes "tbody") n) (is_html_named (codes "tfoot") n) (is_html_named (codes "thead") n) refl refl refl) (at (role_of n) (names_of_role n))
@@ -39,8 +39,8 @@ section_test n = same_tests (is_table_section n) (is_section (role_of n)) (named
     at SectionRole e h = one (is_html_named (codes "tbody") n) (is_html_named (codes "tfoot") n) (is_html_named (codes "thead") n) e
     at _ e h = absurd (cc)
 
--- Where one is in table scope, the stack cleared back to a table body context has it on top, and the root is older: the two
--- pops of the mode never reach the root, whatever the mode tells.
+-- If a row group is in table scope, the stack cleared back to a table body context has it on top, and the root is
+-- older: the two pops of the mode never reach the root, whatever the mode says.
 pub section_above_root : (ns : List QualName) → in_scope is_table_section is_table_scope ns ≡ true → IsRootOpen ns → IsRootOpen (later_names (down_names is_table_body_context ns))
 section_above_root [] h k = absurd k
 section_above_root (n ∷ ns) h k = at (is_table_section n) refl (is_table_scope n) refl h (section_above_root ns)

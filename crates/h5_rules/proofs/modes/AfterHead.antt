@@ -1,5 +1,5 @@
--- HTML standard, section 13.2.6.4.6, the "after head" insertion mode: for head content the head element is pushed, the rules
--- of the head put an element or begin a text, and the head element leaves the stack again.
+-- HTML standard, section 13.2.6.4.6, the "after head" insertion mode: for head content the head element is pushed, the
+-- rules of "in head" insert an element or begin a text, and the head element is removed from the stack again.
 use Rattle.std.proofs.Common.{◌≡◌, ◌≢◌, ℕ, true, [], ◌∷◌, ◌++◌, codes, Option, Some, None, refl, ap, sym, subst, ◌∙◌}
 use Rattle.h5_names.specs.declared.qualified.QualName.{QualName}
 use Rattle.h5_token.specs.TokenText.{TagText}
@@ -81,7 +81,7 @@ module _ (choices : SinkChoices) (tag : TagText) (v : World) (sound : Sound v) w
       let top = template_on_top choices tag.attrs tag.had_duplicate_attributes opened sound_opened in
       ap (last_or d) top.stack ∙ ap (last_or top.node) e
 
--- All stands, and the list agrees with the stack.
+-- The world is sound, and the list agrees with the stack.
 
 known_left_ready : (choices : SinkChoices) (o : Option ℕ) (u : World) → u.head ≡ o → HasHtmlRoot u → HasHtmlRoot (apply_all choices (removes_known o) u)
 known_left_ready choices None u known ready = ready

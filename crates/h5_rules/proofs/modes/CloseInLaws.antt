@@ -1,4 +1,4 @@
--- More changes in the body, where builder and sink are ready and the open elements fit a mode that goes by the body: they
+-- More changes in the body, where builder and sink are ready and the open elements fit a mode that uses the rules of the body: they
 -- are ready after it, and the open elements fit the mode.
 use Rattle.std.proofs.lemmas.Bool.{eqb-true}
 use Rattle.std.proofs.lemmas.Slice.Eq.{bytes_eq-Decides}
@@ -98,7 +98,7 @@ frame_item local ns plain h =
     (frame_cut (cut_roles (is_html_named local) ends_item_search passes_table_scope PlainRole (λ n k. role_named local n k ∙ plain) (λ n k l. item_passes n l) low
     (still_in_scope (is_html_named local) ends_item_search (is_implied_but local) (λ n e. (and_not (is_implied n) (is_html_named local n) e).1) ns h)))
 
--- implied ends but for a plain name, and up to and with it, in a scope
+-- implied end tags except for a plain name, and pops up to and including it, in a scope
 frame_close_except : (local : List ℕ) (stop : QualName → Bool) (ns : List QualName) → role_of_local local ≡ PlainRole → ((n : QualName) → stop n ≡ false → is_default_scope n ≡ false) → in_scope (is_html_named local) stop ns ≡ true
     → Frame (roles ns) (roles (cut_names (is_html_named local) (drop_while (is_implied_but local) ns)))
 frame_close_except local stop ns plain ends h =
@@ -106,7 +106,7 @@ frame_close_except local stop ns plain ends h =
     frame_trans (roles ns) (roles low) (roles (cut_names (is_html_named local) low)) (frame_implied local ns)
     (frame_closed local stop low plain ends (still_in_scope (is_html_named local) stop (is_implied_but local) (λ n e. (and_not (is_implied n) (is_html_named local n) e).1) ns h))
 
--- a form is no formatting element, so it isn't listed
+-- a form isn't a formatting element, so it isn't listed
 form_formatted : (name : List ℕ) → IsTrue (is_one_of formatting_names name) → name ≡ codes "form" → ⊥
 unfolding formatting_names
 form_formatted name h e = let k = ap (is_one_of formatting_names) e in cc
@@ -178,7 +178,7 @@ module _ (choices : SinkChoices) (m : InsertionMode) (goes : goes_by_body m ≡ 
       in_closed m goes w (pop_until_named local w) r (until_named_keeps local w r.ready.sound r.ready.lists) (tree_until local w)
       (subst (λ ns. Frame (roles (names_of w)) (roles ns)) (sym (names-cut local w)) (frame_closed local is_default_scope (names_of w) plain (λ n e. e) h))
 
-  -- implied ends but for a name, and up to and with it
+  -- implied end tags except for a name, and pops up to and including it
   in_end : (local : List ℕ) → Frame (roles (names_of w)) (roles (cut_names (is_html_named local) (drop_while (is_implied_but local) (names_of w)))) → ReadyIn m (pop_until_named local (generate_implied_end_except choices local w))
   in_end local f =
       let v = generate_implied_end_except choices local w in

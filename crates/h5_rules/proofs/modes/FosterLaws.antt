@@ -1,4 +1,4 @@
--- A token that goes by the rule of the body, with foster parenting on.
+-- A token that is handled by the rule of the body, with foster parenting on.
 use Rattle.std.proofs.Common.{Bool, Some, [], ap, codes, false, refl, subst, sym, true, ℕ, ◌<◌, ◌∙◌, ◌∷◌, ◌≡◌}
 use Rattle.h5_interface.specs.SinkChoices.{SinkChoices}
 use Rattle.h5_tables.specs.TurnResult.{TurnResult}
@@ -32,7 +32,7 @@ ends_outright html (Answers answer) h = tt
 ends_outright html (Again k) h = tt
 ends_outright html (AgainBy mode) h = absurd h
 
--- the mode that is reset to, behind a template that is closed
+-- the mode that is reset to after a template is closed
 reset_outright : (v : World) → reset_mode (set_foster false v) ≡ reset_mode v
 unfolding reset_mode names_of
 reset_outright v = refl
@@ -65,7 +65,7 @@ outright_ends node t results.DoneAckSelfClosing e v k h = h
 outright_ends node t (results.Reprocess mode token) e v k h = (outright_next e v k ∙ h.0, h.1)
 outright_ends node t (results.Answer answer) e v k h = h
 
--- a turn by the body while foster parenting is on, and the flag goes off behind it
+-- a turn by the rules of "in body" while foster parenting is on; the flag is turned off after it
 pub foster_follows : {H : Type 0} (choices : SinkChoices) (node : H → ℕ) (t : TurnText) (w v u : World) (a b c d : ℕ) (result : TurnResult H) → Follows choices node (in_body t (set_foster true w)) t (set_foster true w) v a b result → u ≡ set_foster false v
     → 0 < a → d ≡ b → Follows choices node (foster in_body t w) t w u c d result
 foster_follows choices node t w v u a b c d result f e told same =

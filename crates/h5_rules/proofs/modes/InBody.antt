@@ -1,5 +1,5 @@
--- HTML standard, section 13.2.6.4.7, the "in body" insertion mode: what is asked of its rows in each mode that goes by its
--- rules, one lemma for each rule.
+-- HTML standard, section 13.2.6.4.7, the "in body" insertion mode: the properties of its rows in each mode that uses
+-- its rules, one lemma for each rule.
 use Rattle.std.proofs.Common.{Bool, IsTrue, List, None, Option, Some, [], ap, codes, false, if◌then◌else◌, inl, inr, is_some, not, refl, subst, sym, true, ℕ, ◌&&◌, ◌∙◌, ◌∷◌, ◌≡◌, ◌≢◌, ◌⊎◌}
 use Rattle.h5_names.specs.AttributeText.{AttributeText}
 use Rattle.h5_names.specs.declared.known_name.KnownName.TheVariants.{A, Button, Frameset, Html, Iframe, Nobr, Noembed, Noscript, Optgroup, Plaintext, Select, Table, Textarea, Xmp}
@@ -119,7 +119,7 @@ marked_not_implied local p n h = named_not_implied in_body_marked local n refl p
 
 -- WHAT IS ASKED OF A ROW
 
--- the turn is the last, but for an end tag `html`
+-- the turn is the last, except for an end tag `html`
 abbrev pub is_end_html : TagKind → List ℕ → Bool
 is_end_html StartTag name = false
 is_end_html EndTag name = named Html name
@@ -131,7 +131,7 @@ EndsBody html (Answers answer) = Unit {0}
 EndsBody html (Again mode) = (mode ≡ AfterBody) × (html ≡ true)
 EndsBody html (AgainBy mode) = ⊥
 
--- after it all stands, the list of active formatting elements agrees with the stack, and the open elements fit the mode
+-- after it the world is sound, the list of active formatting elements agrees with the stack, and the open elements fit the mode
 -- that it leaves
 pub record Leaves (choices : SinkChoices) (m : InsertionMode) (w : World) (r : Row) : Type 0 where
   pub steady : IsSteady (apply_all choices r.changes w)
@@ -162,7 +162,7 @@ row_ends {k = k} {name = name} {w = w} r x fits = record {
   leaves = λ choices m goes same ready part. record { steady = steady_changes choices r.changes w x.needs (ready_steady w ready.ready); fits = fits choices m goes same ready part };
 }
 
--- of a start tag, by what its changes need and by what it tells
+-- of a start tag, by what its changes need and by what it reports
 row_goes : {name : List ℕ} {w : World} (r : Row) → NeedsOfAll r.changes → IsTold r → RowStops r
     → ((choices : SinkChoices) (m : InsertionMode) → goes_by_body m ≡ true → w.mode ≡ m → ReadyIn m w → FitsLeft choices w m r)
     → IsBodyRow StartTag name w r
@@ -240,7 +240,7 @@ module _ (choices : SinkChoices) (m : InsertionMode) (goes : goes_by_body m ≡ 
   opened : role_of_local tag.name ≡ PlainRole → ReadyIn m (insert_element choices tag.name tag.attrs tag.had_duplicate_attributes v)
   opened plain = in_insert choices m goes v r tag.name tag.attrs tag.had_duplicate_attributes plain
 
-  -- once active formatting elements are made anew, and without a frameset then
+  -- after active formatting elements are reconstructed, and without a frameset then
   anew : role_of_local tag.name ≡ PlainRole → ReadyIn m (insert_element choices tag.name tag.attrs tag.had_duplicate_attributes (reconstruct_active_formatting_elements choices v))
   anew plain = in_insert choices m goes (reconstruct_active_formatting_elements choices v) (in_reconstruct choices m goes v r) tag.name tag.attrs tag.had_duplicate_attributes plain
 
@@ -251,7 +251,7 @@ module _ (choices : SinkChoices) (m : InsertionMode) (goes : goes_by_body m ≡ 
   leaf_anew : (local : List ℕ) (attrs : List AttributeText) → ReadyIn m (insert_and_pop_element choices local attrs tag.had_duplicate_attributes (reconstruct_active_formatting_elements choices v))
   leaf_anew local attrs = in_leaf choices m goes (reconstruct_active_formatting_elements choices v) (in_reconstruct choices m goes v r) local attrs tag.had_duplicate_attributes
 
-  -- behind a `p` that is closed
+  -- after a `p` is closed
   behind_p : role_of_local tag.name ≡ PlainRole → ReadyIn m (insert_element choices tag.name tag.attrs tag.had_duplicate_attributes (close_p_element_in_button_scope choices v))
   behind_p plain = in_insert choices m goes (close_p_element_in_button_scope choices v) (in_close_p_in_scope choices m goes v r) tag.name tag.attrs tag.had_duplicate_attributes plain
 

@@ -1,5 +1,5 @@
--- HTML standard, section 13.2.6.4.4, the "in head" insertion mode: what the rules of its start tags come to, in each mode
--- that may be left for a text.
+-- HTML standard, section 13.2.6.4.4, the "in head" insertion mode: the effect of the rules of its start tags, in each
+-- mode that may be left for a text.
 use Rattle.std.proofs.Common.{List, None, Option, Some, [], codes, false, refl, true, ℕ, ◌∷◌, ◌≡◌}
 use Rattle.h5_names.specs.KnownNames.{name_text}
 use Rattle.h5_names.specs.declared.known_name.KnownName.TheVariants.{Head, Html, Noscript, Template, Title}
@@ -34,7 +34,7 @@ use Rattle.h5_rules.proofs.rows.ByNameLaws.{all_ruled, holds_by_name, holds_chos
 use Rattle.h5_rules.proofs.rows.EndingLaws.{EndsTurn}
 use Rattle.h5_rules.proofs.rows.KeptLaws.{FitsAs, Kept, as_before}
 
--- modes that go by the body take a template
+-- modes that use the rules of the body take a template
 pub body_takes : (m : InsertionMode) → goes_by_body m ≡ true → takes_template m ≡ true
 body_takes InHead h = refl
 body_takes AfterHead h = refl
@@ -64,7 +64,7 @@ pub data IsContent (tag : TagText) (w : World) : Row → Type 0 where
   begins_script : IsContent tag w (in_head_start_script tag w)
   puts_template : named Template tag.name ≡ true → IsContent tag w (in_head_start_template tag w)
 
--- what holds of each such row, of those of an `html`, a `noscript` and a `head`, and of any other, holds of a start tag's
+-- what holds for each such row, for those of an `html`, a `noscript` and a `head`, and for any other, holds for a start tag's
 pub head_start_by : (P : Row → Type 0) (tag : TagText) (w : World) → (named Html tag.name ≡ true → P (in_body_start_html tag w)) → ((r : Row) → IsContent tag w r → P r)
     → (named Noscript tag.name ≡ true → P (in_head_start_noscript tag w)) → (named Head tag.name ≡ true → P ignored) → (NonePasses in_head_start tag.name → P (in_head_else (TagTurn tag) w)) → P (in_head_start_tag tag w)
 unfolding in_head_start in_head_start_tag in_head_raw role_of_local

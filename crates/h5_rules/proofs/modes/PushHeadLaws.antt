@@ -1,5 +1,5 @@
--- After the head only the root is open, and the head element is known. It is open again as the current node, and all
--- stands then; and it leaves the stack again, from wherever it stands.
+-- After the head only the root is open, and the head element is known. It is pushed again as the current node, and the
+-- world is sound then; it is removed from the stack again, wherever it is.
 use Rattle.std.proofs.Common.{◌≡◌, ◌≢◌, inl, inr, ℕ, Bool, true, false, cond, List, [], ◌∷◌, map, codes, Option, Some, None, is_some, IsTrue, refl, ap, sym, subst, ◌∙◌}
 use Rattle.std.proofs.lemmas.Bool.{eq-eqb, ne_eqb}
 use Rattle.h5_names.specs.declared.qualified.QualName.{QualName}
@@ -130,7 +130,7 @@ head_not_root w k o e =
     let clash : HeadRole ≡ HtmlRole = sym (head_role w.forest o.head (k.head_node o.head o.known)) ∙ ap (λ n. role_of (name_in w.forest n)) e ∙ o.is_root in
     cc
 
--- so all stands where it is pushed
+-- so the world is sound where it is pushed
 pub sound_push_head : (w : World) → Sound w → OnlyRoot w → Sound (push_head w)
 sound_push_head w k o =
     subst (λ head. AllStand w.forest (with_known head w.stack) w.formatting head w.form w.context) (sym o.known)

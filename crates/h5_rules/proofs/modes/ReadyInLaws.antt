@@ -1,4 +1,4 @@
--- Changes in the body, where builder and sink are ready and the open elements fit a mode that goes by the body: they are
+-- Changes in the body, where builder and sink are ready and the open elements fit a mode that uses the rules of the body: they are
 -- ready after it, and the open elements fit the mode.
 use Rattle.std.proofs.Common.{◌≡◌, ◌≢◌, ℕ, Bool, true, false, cond, List, [], ◌∷◌, codes, IsTrue, refl, ap, sym, subst, ◌∙◌}
 use Rattle.h5_names.specs.AttributeText.{AttributeText}
@@ -64,7 +64,7 @@ frame_close_p ns h =
 pub frame_all_implied : (ns : List QualName) → Frame (roles ns) (roles (drop_while is_implied ns))
 frame_all_implied ns = frame_while is_implied implied_plain ns
 
--- and up to and with a plain one in default scope
+-- and up to and including a plain one in default scope
 pub frame_close : (is : QualName → Bool) (ns : List QualName) → ((n : QualName) → is n ≡ true → role_of n ≡ PlainRole) → ((n : QualName) → is_implied n ≡ true → is n ≡ false) → in_scope is is_default_scope ns ≡ true
     → Frame (roles ns) (roles (cut_names is (drop_while is_implied ns)))
 frame_close is ns plain apart h =
@@ -80,7 +80,7 @@ frame_pop_heading (n ∷ ns) = at (is_heading n) refl
     at true e = frame_without [] ns n (heading_plain n e)
     at false e = frame_refl (roles (n ∷ ns))
 
--- elements are made anew
+-- new elements for entries
 pub front_formatting : (s : List ℕ) (l : List Entry) → AllFormatting l → AllFormatting (closed_front s l)
 front_formatting s [] h = tt
 front_formatting s (MarkerEntry ∷ l) h = tt
@@ -223,7 +223,7 @@ module _ (choices : SinkChoices) (m : InsertionMode) (goes : goes_by_body m ≡ 
       in_step m goes w (pop_heading choices w) r (steady_changes choices (PopHeading ∷ []) w (tt, tt) (steady m goes w r)) pop_heading_situation
       (subst (λ ns. Frame (roles (names_of w)) (roles ns)) (sym (names-pop_heading choices w)) (frame_pop_heading (names_of w)))
 
-  -- implied end tags, and up to and with a plain name, or a heading, in default scope
+  -- implied end tags, and up to and including a plain name, or a heading, in default scope
   pub in_close_named : (local : List ℕ) → role_of_local local ≡ PlainRole → ((n : QualName) → is_implied n ≡ true → is_html_named local n ≡ false) → in_scope (is_html_named local) is_default_scope (names_of w) ≡ true
       → ReadyIn m (pop_until_named local (generate_implied_end_tags choices w))
   in_close_named local plain apart h =

@@ -1,4 +1,4 @@
--- Where builder and sink are ready in the body, some element is open.
+-- If builder and sink are ready in the body, some element is open.
 use Rattle.std.proofs.Common.{◌<◌, length, arith}
 use Rattle.h5_rules.specs.Sound.{HasHtmlRoot}
 use Rattle.h5_rules.specs.World.{World, names_of}

@@ -1,4 +1,4 @@
--- Where an element of raw text begins: the mode is kept, and the open elements fit "text".
+-- An element of raw text begins: the mode is saved, and the open elements fit "text".
 use Rattle.std.proofs.Common.{◌≡◌, ℕ, Bool, true, List, [], ◌∷◌, Some, codes, refl, ap, sym, subst, ◌∙◌}
 use Rattle.h5_names.specs.AttributeText.{AttributeText}
 use Rattle.h5_names.specs.declared.qualified.QualName.{QualName}

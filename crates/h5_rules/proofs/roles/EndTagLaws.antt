@@ -1,5 +1,5 @@
--- Any other end tag in the body (HTML standard, section 13.2.6.4.7), where no special element comes before what it
--- names: implied end tags, then up to and with that.
+-- Any other end tag in the body (HTML standard, section 13.2.6.4.7), if no special element comes before what it
+-- names: implied end tags, then up to and including that.
 use Rattle.std.proofs.Common.{◌≡◌, ℕ, Bool, true, false, cond, List, [], ◌∷◌, refl}
 use Rattle.h5_names.specs.declared.qualified.QualName.{QualName}
 use Rattle.h5_tables.specs.TagSets.{is_html_named, is_implied, is_special}

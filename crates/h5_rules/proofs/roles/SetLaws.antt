@@ -95,7 +95,7 @@ template_test n = same_tests (is_html_named (codes "template") n) (is_template (
     at TemplateRole e h = e
     at _ e h = absurd (cc)
 
--- an implied end tag is no root
+-- an implied end tag isn't a root
 pub implied_not_html : (n : QualName) → is_implied n ≡ true → is_html_named (codes "html") n ≡ false
 unfolding is_implied implied_names
 implied_not_html n h = at (is_html_named (codes "html") n) refl

@@ -41,7 +41,7 @@ pub button_default : (n : QualName) → is_button_scope n ≡ false → is_defau
 unfolding is_button_scope
 button_default n h = (or_neither (is_default_scope n) _ h).0
 
--- so it is where nothing special comes before it
+-- so it is if nothing special comes before it
 pub frame_ended : (local : List ℕ) (ns : List QualName) → role_of_local local ≡ PlainRole → in_scope (is_html_named local) is_special ns ≡ true → Frame (roles ns) (roles (cut_names (is_html_named local) ns))
 frame_ended local ns e h = frame_cut (cut_roles (is_html_named local) is_special passes_table_scope PlainRole (λ n k. role_named local n k ∙ e) (λ n k l. ap passes_table_scope (ordinary_plain n l)) ns h)
 

@@ -1,4 +1,4 @@
--- What holds of each rule that a tag's name may choose holds of the one that it does choose.
+-- What holds for each rule that a tag's name may choose holds for the one that it does choose.
 use Rattle.std.proofs.Common.{Bool, List, [], ap, false, refl, subst, sym, true, ℕ, ◌&&◌, ◌||◌, ◌∙◌, ◌∷◌, ◌≡◌}
 use Rattle.std.proofs.lemmas.Slice.Eq.{bytes_eq-Decides}
 use Rattle.h5_names.specs.AttributeText.{is_same_text}
@@ -16,7 +16,7 @@ pub holds_chosen : (P : Row → Type 0) (b : Bool) (r s : Row) → (b ≡ true �
 holds_chosen P true r s x y = x refl
 holds_chosen P false r s x y = y refl
 
--- one fact and another, where there are many
+-- one fact and another, if there are many
 infixr 30 ◌&◌
 pub ◌&◌ : {A B : Type 0} → A → B → A × B
 a & b = (a, b)
@@ -66,11 +66,11 @@ not_ruled rules known l some n = at (named known l) refl
     at false e = refl
     at true e = absurd (ruled rules (name_text known) l some ((bytes_eq-Decides l (name_text known)).0 e) n)
 
--- what holds of a known name holds of a name that is it
+-- what holds for a known name holds for a name that is it
 pub of_named : (P : List ℕ → Type 0) (known : KnownName) (l : List ℕ) → P (name_text known) → named known l ≡ true → P l
 of_named P known l a h = subst P (sym ((bytes_eq-Decides l (name_text known)).0 h)) a
 
--- what holds of each name of a list holds of a name that is among them
+-- what holds for each name of a list holds for a name that is among them
 abbrev pub HoldsOfAll : (List ℕ → Type 0) → List (List ℕ) → Type 0
 HoldsOfAll P [] = Unit {0}
 HoldsOfAll P (x ∷ xs) = P x × HoldsOfAll P xs

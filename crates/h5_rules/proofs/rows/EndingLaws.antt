@@ -1,4 +1,4 @@
--- How a row ends: whether another turn is taken, and whether something is answered.
+-- How a row ends: if another turn is taken, and if there is a reply.
 use Rattle.std.proofs.Common.{◌∙◌, ◌≡◌, ℕ, Bool, None, Some, false, refl, sym}
 use Rattle.h5_tables.specs.TurnResult.{TurnResult}
 use Rattle.h5_tables.specs.TurnResult as results

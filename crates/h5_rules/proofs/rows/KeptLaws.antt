@@ -149,7 +149,7 @@ changes_mode choices [] w = refl
 changes_mode choices (x ∷ xs) w =
     changes_mode choices xs (apply choices x w) ∙ ap (λ m. mode_after choices (apply choices x w) m xs) (change_mode choices x w) ∙ mode_in_turn choices w w.mode x xs
 
--- Foster parenting, on for a row and off again behind it.
+-- Foster parenting is on for a row, and off again after it.
 
 pub apply_append : (choices : SinkChoices) (xs ys : List Change) (w : World) → apply_all choices (xs ++ ys) w ≡ apply_all choices ys (apply_all choices xs w)
 apply_append choices [] ys w = refl

@@ -1,4 +1,4 @@
--- The rule for a tag is found as well by what HTML knows its name as. So code asks one `match` over known names.
+-- The rule for a tag is also found by the known name that the tag has. So code uses one `match` over known names.
 use Rattle.std.proofs.Common.{◌≡◌, ℕ, Bool, true, false, ◌&&◌, ◌++◌, List, [], ◌∷◌, if◌then◌else◌, refl, sym, ap, ◌∙◌}
 use Rattle.std.proofs.lemmas.Bool.{and_parts}
 use Rattle.std.proofs.lemmas.Slice.Eq.{bytes_eq-Decides}
@@ -74,7 +74,7 @@ known_is_name (x ∷ xs) other tag w h =
 pub one_of_known : (names : List (List ℕ)) (name : List ℕ) (known : KnownName) → are_known names ≡ true → known ≡ known_name_of name → is_one_of names (name_text known) ≡ true → is_one_of names name ≡ true
 one_of_known names name known h e o = sym (any_by_name names name h) ∙ (ap (λ k. is_one_of names (name_text k)) (sym e) ∙ o)
 
--- where none of the rules is for a tag, it goes by what comes after them
+-- if none of the rules is for a tag, it goes by what comes after them
 none_passes : (rules : Rules) (rest : TagText → World → Row) (name : List ℕ) → NonePasses rules name → rule_of rules rest name ≡ rest
 none_passes [] rest name n = refl
 none_passes (x ∷ xs) rest name n = ap (λ b. if b then x.1 else rule_of xs rest name) n.0 ∙ none_passes xs rest name n.1

@@ -6,7 +6,7 @@ use Rattle.h5_rules.specs.World.{World}
 use Rattle.h5_tables.specs.TurnResult.{TurnResult}
 use Rattle.h5_tables.specs.TurnText.{TurnText}
 
--- where an error was told before a turn, the mark isn't 0 behind it
+-- if an error was reported before a turn, the mark isn't 0 after it
 pub still_told : {H : Type 0} (choices : SinkChoices) (node : H → ℕ) (r : Row) (t : TurnText) (old new : World) (before after : ℕ) (result : TurnResult H) → Follows choices node r t old new before after result → 0 < before → 0 < after
 still_told choices node r t old new before after result f told = at r.quiet refl
   where

@@ -1,4 +1,5 @@
--- What a row tells of texts: one that turns the reader to raw text sets the mode to "text" last, and no other does.
+-- What a row says about texts: one that switches the tokenizer to raw text sets the mode to "text" last, and no other
+-- does.
 use Rattle.std.proofs.Common.{◌≡◌, Bool, true, false, List, [], ◌∷◌, ◌++◌, refl}
 use Rattle.h5_token.specs.Reply.{Indicates, RunsScript, TurnsPlain, TurnsRaw}
 use Rattle.h5_tables.specs.declared.modes.InsertionMode.{InsertionMode}
@@ -109,7 +110,7 @@ no_text_append (PushTemplateMode m ∷ xs) ys h k = (h.0, no_text_append xs ys h
 no_text_append (SwitchTemplateMode m ∷ xs) ys h k = (h.0, no_text_append xs ys h.1 k)
 no_text_append (_ ∷ xs) ys h k = no_text_append xs ys h k
 
--- with changes behind it that set no mode
+-- with changes after it that set no mode
 tells_append : (x : Ending) (xs ys : List Change) → Tells x xs → NoMode ys → Tells x (xs ++ ys)
 tells_append IsDone xs ys h k = no_text_append xs ys h (no_mode_no_text ys k)
 tells_append IsAcknowledged xs ys h k = no_text_append xs ys h (no_mode_no_text ys k)

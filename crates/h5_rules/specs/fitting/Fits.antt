@@ -1,4 +1,4 @@
--- What an insertion mode tells of the open elements (HTML standard, section 13.2.4.1).
+-- What an insertion mode says about the open elements (HTML standard, section 13.2.4.1).
 use Rattle.std.specs.Prelude.{◌≡◌, ◌<◌, ◌+◌, ℕ, ◌∷◌, [], Bool, true, false, List, length, Option, Some, None}
 use Rattle.h5_tables.specs.declared.modes.InsertionMode.{InsertionMode}
 use Rattle.h5_tables.specs.declared.modes.InsertionMode.TheVariants.{Initial, BeforeHtml, BeforeHead, InHead, InHeadNoscript, AfterHead, InBody, Text, InTable, InTableText, InCaption, InColumnGroup, InTableBody, InRow, InCell, InTemplate, AfterBody, InFrameset, AfterFrameset, AfterAfterBody, AfterAfterFrameset}
@@ -6,8 +6,8 @@ use Rattle.h5_rules.specs.fitting.Contexts.{LeastContext, Over, TableBodyContext
 use Rattle.h5_rules.specs.fitting.Floors.{Grounded, HasBase, RootIs}
 use Rattle.h5_rules.specs.fitting.Roles.{HeadRole, HtmlRole, PlainRole, Role, TemplateRole, count_roles, has_role, is_head, is_template}
 
--- what the facts see besides mode and open elements: the stack of template insertion modes, the original insertion
--- mode, whether the head element is known, the frameset-ok flag, and the role of the fragment's context element
+-- what `Fits` reads in addition to the mode and the open elements: the stack of template insertion modes, the original
+-- insertion mode, that the head element is known, the frameset-ok flag, and the role of the fragment's context element
 pub record Situation : Type 0 where
   pub template_modes : List InsertionMode
   pub saved_mode : Option InsertionMode
@@ -21,13 +21,13 @@ is_whole None = true
 is_whole (Some HtmlRole) = true
 is_whole (Some _) = false
 
--- a context element that is a template counts as one
+-- the number of templates that the context element is
 abbrev pub context_templates : Option Role → ℕ
 context_templates None = 0
 context_templates (Some TemplateRole) = 1
 context_templates (Some _) = 0
 
--- the modes that the stack of template insertion modes has
+-- the modes that may be on the stack of template insertion modes
 abbrev pub is_template_mode : InsertionMode → Bool
 is_template_mode InTemplate = true
 is_template_mode InTable = true
@@ -45,7 +45,7 @@ AllKinds (m ∷ ms) = (is_template_mode m ≡ true) × AllKinds ms
 abbrev pub Counted : Situation → List Role → Type 0
 Counted s ns = length s.template_modes ≡ count_roles is_template ns + context_templates s.context
 
--- what a mode tells that may be left for a text; w: whether this is a whole document
+-- the condition of a mode that may be left for a text, on the open elements; w: this is a whole document
 abbrev pub Placed : Bool → Situation → InsertionMode → List Role → Type 0
 Placed w s BeforeHead ns = (w ≡ true) × (ns ≡ HtmlRole ∷ [])
 Placed w s InHead ns = (w ≡ true) × (ns ≡ HeadRole ∷ HtmlRole ∷ [])
@@ -66,20 +66,20 @@ Placed w s AfterFrameset ns = 0 < length ns
 Placed w s AfterAfterFrameset ns = 0 < length ns
 Placed w s _ ns = ⊥
 
--- below the element of a text
+-- the condition of that mode on the elements that are older than the one of the text
 abbrev pub PlacedBelow : Bool → Situation → InsertionMode → List Role → Type 0
 PlacedBelow w s m [] = ⊥
 PlacedBelow w s m (n ∷ []) = ⊥
 PlacedBelow w s m (n ∷ k ∷ ns) = (n ≡ PlainRole) × Placed w s m (k ∷ ns)
 
--- the modes that are left for a text in a table
+-- the modes that may be left for a text in a table
 abbrev pub is_table_mode : InsertionMode → Bool
 is_table_mode InTable = true
 is_table_mode InTableBody = true
 is_table_mode InRow = true
 is_table_mode _ = false
 
--- what a mode tells
+-- the condition of each mode
 abbrev pub Place : Situation → InsertionMode → List Role → Type 0
 Place s Initial ns = (ns ≡ []) × ((s.template_modes ≡ []) × (s.context ≡ None))
 Place s BeforeHtml ns = (ns ≡ []) × ((s.template_modes ≡ []) × (s.context ≡ None))
@@ -87,8 +87,9 @@ Place s Text ns = (m : InsertionMode) × ((s.saved_mode ≡ Some m) × PlacedBel
 Place s InTableText ns = (m : InsertionMode) × ((s.saved_mode ≡ Some m) × ((is_table_mode m ≡ true) × Placed (is_whole s.context) s m ns))
 Place s m ns = Placed (is_whole s.context) s m ns
 
--- what holds in every mode: the root is an `html`, template modes are as many as templates and of their kind, an open
--- head is known, no frameset may follow where a template is open, and parts of tables stand on what they may
+-- what holds in every mode: the root is an `html`; there are as many template modes as templates, and they are modes of
+-- that kind; an open head is the known one; no frameset may follow while a template is open; and each part of a table
+-- comes directly after an element that it may come after
 pub record Known (s : Situation) (ns : List Role) : Type 0 where
   pub root : RootIs ns
   pub modes : Counted s ns
@@ -97,7 +98,7 @@ pub record Known (s : Situation) (ns : List Role) : Type 0 where
   pub ok : s.frameset_ok ≡ true → has_role is_template ns ≡ false
   pub under : Under ns
 
--- the open elements fit the mode: at every turn, and between tokens
+-- the open elements fit the mode; holds at every turn and between tokens
 pub record Fits (s : Situation) (m : InsertionMode) (ns : List Role) : Type 0 where
   pub known : Known s ns
   pub place : Place s m ns
@@ -116,7 +117,7 @@ goes_by_body AfterBody = true
 goes_by_body AfterAfterBody = true
 goes_by_body _ = false
 
--- the modes that come before the root is made
+-- the modes before the root is created
 abbrev pub is_before_root : InsertionMode → Bool
 is_before_root Initial = true
 is_before_root BeforeHtml = true
@@ -130,7 +131,7 @@ may_be_left Text = false
 may_be_left InTableText = false
 may_be_left _ = true
 
--- the modes in which a template may be put
+-- the modes in which a template may be inserted
 abbrev pub takes_template : InsertionMode → Bool
 takes_template InHead = true
 takes_template AfterHead = true

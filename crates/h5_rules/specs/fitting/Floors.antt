@@ -1,15 +1,15 @@
--- What the open elements stand on, from the root on.
+-- The oldest open elements, from the root on.
 use Rattle.std.specs.Prelude.{◌≡◌, ◌∷◌, [], Bool, true, false, List}
 use Rattle.h5_rules.specs.fitting.Roles.{BodyRole, HeadRole, HtmlRole, Role, TemplateRole, has_role, is_base, is_ground, is_html}
 
--- the root, once made, is an `html`
+-- the root, once created, is an `html`
 abbrev pub RootIs : List Role → Type 0
 RootIs [] = Unit {0}
 RootIs (n ∷ []) = is_html n ≡ true
 RootIs (n ∷ m ∷ ns) = RootIs (m ∷ ns)
 
--- over a floor stand no names that only floors have. A fragment's floor (false) is the root; a whole document's (true)
--- is the body, or a template where the body would be or in the head
+-- the floor, and after it no name that only floors have. The floor of a fragment (false) is the root; that of a whole
+-- document (true) also has the body, or a template in the place of the body or in the head
 pub data Grounded : Bool → List Role → Type 0 where
   on_root : Grounded false (HtmlRole ∷ [])
   on_body : Grounded true (BodyRole ∷ HtmlRole ∷ [])
@@ -22,7 +22,7 @@ abbrev pub HasBase : Bool → List Role → Type 0
 HasBase true ns = has_role is_ground ns ≡ true
 HasBase false ns = Unit {0}
 
--- what a closed template leaves: the same again, or only the root, or the head
+-- the open elements after a template is closed: a floor as above, or only the root, or the root and the head
 pub data Left : Bool → List Role → Type 0 where
   grounded_left : {w : Bool} {ns : List Role} → Grounded w ns → Left w ns
   root_left : Left true (HtmlRole ∷ [])

@@ -1,4 +1,4 @@
--- What an insertion mode tells of the open elements by their names.
+-- What an insertion mode says about the open elements by their names.
 use Rattle.std.specs.Prelude.{◌≡◌, Bool, true, List, IsTrue, Some, codes}
 use Rattle.h5_names.specs.AttributeText.{is_same_text}
 use Rattle.h5_names.specs.declared.qualified.QualName.{QualName}
@@ -13,28 +13,28 @@ use Rattle.h5_rules.specs.fitting.Roles.{roles}
 abbrev pub is_html_element : QualName → Bool
 is_html_element n = is_same_text n.ns html_namespace
 
--- what a mode tells of the current node's name, and its role doesn't
+-- what a mode says about the current node's name that the role doesn't show
 abbrev pub IsNamed : InsertionMode → List QualName → Type 0
 IsNamed InHeadNoscript ns = IsTrue (first_passes (is_html_named (codes "noscript")) ns)
 IsNamed _ ns = Unit {0}
 
--- and in a text also of the element below, for the mode that was left
+-- in a text also about the next older element, for the mode that was left
 abbrev pub AreNamed : Situation → InsertionMode → List QualName → Type 0
 AreNamed s Text ns = IsTrue (first_passes is_html_element ns) × ((m : InsertionMode) → s.saved_mode ≡ Some m → IsNamed m (later_names ns))
 AreNamed s m ns = IsNamed m ns
 
--- the open elements fit the mode: at every turn, and between tokens
+-- the open elements fit the mode; holds at every turn and between tokens
 pub record NamesFit (s : Situation) (m : InsertionMode) (ns : List QualName) : Type 0 where
   pub fits : Fits s m (roles ns)
   pub named : AreNamed s m ns
 
--- below the element of a text: the mode that was left, and what it tells
+-- the open elements without the one of a text: the mode that was left, and its condition
 pub record ModeBelow (s : Situation) (ns : List QualName) : Type 0 where
   pub mode : InsertionMode
   pub saved : s.saved_mode ≡ Some mode
   pub fit : NamesFit s mode (later_names ns)
 
--- in a text in a table: the mode that was left
+-- in a text in a table: the mode that was left, and its condition
 pub record TableMode (s : Situation) (ns : List QualName) : Type 0 where
   pub mode : InsertionMode
   pub saved : s.saved_mode ≡ Some mode

@@ -6,6 +6,6 @@ use Rattle.h5_tables.specs.declared.modes.InsertionMode.{InsertionMode}
 use Rattle.h5_rules.specs.Sound.{situation_of}
 use Rattle.h5_rules.specs.World.{World, names_of}
 
--- the mode of the first open element, from the current node on, that decides
+-- the mode of the first open element that decides, from the current node on
 unfoldable pub reset_mode : World → InsertionMode
 reset_mode w = reset (situation_of w) (roles (names_of w))

@@ -10,7 +10,7 @@ abbrev pub first_mode : List InsertionMode → InsertionMode
 first_mode [] = InBody
 first_mode (m ∷ ms) = m
 
--- a name decides, or leaves it to what is below it
+-- the mode by a name, or, if the name doesn't decide, by the older ones
 abbrev pub decide : Situation → Role → InsertionMode → InsertionMode
 decide s CellRole below = InCell
 decide s RowRole below = InRow
@@ -25,7 +25,7 @@ decide s FramesetRole below = InFrameset
 decide s HtmlRole below = cond s.has_head AfterHead BeforeHead
 decide s PlainRole below = below
 
--- at the root the context element decides in its place; there a cell or a head does not
+-- the mode at the root, where the context element decides instead; there a cell or a head doesn't decide
 abbrev pub decide_root : Situation → Role → InsertionMode
 decide_root s CellRole = InBody
 decide_root s HeadRole = InBody

@@ -1,11 +1,11 @@
--- What a reset of the insertion mode tells apart among the names of open elements (HTML standard, section
--- 13.2.4.1), the current node's name first.
+-- The names of open elements, as far as a reset of the insertion mode distinguishes them (HTML standard, section
+-- 13.2.4.1), with the current node's name first.
 use Rattle.h5_names.specs.AttributeText.{is_same_text}
 use Rattle.std.specs.Prelude.{ℕ, ◌∷◌, [], suc, Bool, true, false, cond, List, map, codes, if◌then◌else◌}
 use Rattle.h5_names.specs.declared.qualified.QualName.{QualName}
 use Rattle.h5_tables.specs.TagSets.{html_namespace}
 
--- what a name is to a reset of the mode: plain, or one that decides; a section is a `tbody`, `tfoot` or `thead`, a
+-- what a name is for a reset of the mode: plain, or one that decides; a section is a `tbody`, `tfoot` or `thead`, a
 -- cell a `td` or `th`
 pub data Role : Type 0 where
   PlainRole : Role
@@ -83,7 +83,7 @@ abbrev pub is_section : Role → Bool
 is_section SectionRole = true
 is_section _ = false
 
--- the names that stand only on the floor
+-- the roles that are only in the floor
 abbrev pub is_base : Role → Bool
 is_base HtmlRole = true
 is_base HeadRole = true
@@ -91,13 +91,13 @@ is_base BodyRole = true
 is_base FramesetRole = true
 is_base _ = false
 
--- what the parts of a table stand on in the end
+-- a table or a template, which the parts of a table come after in the end
 abbrev pub is_ground : Role → Bool
 is_ground TableRole = true
 is_ground TemplateRole = true
 is_ground _ = false
 
--- a part of a table: it has to stand on another name
+-- a part of a table, which must come directly after certain roles
 abbrev pub is_table_part : Role → Bool
 is_table_part CaptionRole = true
 is_table_part ColgroupRole = true
@@ -106,7 +106,7 @@ is_table_part RowRole = true
 is_table_part CellRole = true
 is_table_part _ = false
 
--- a name that floors are made of
+-- the names that floors are made of
 abbrev pub is_floor_name : Role → Bool
 is_floor_name HtmlRole = true
 is_floor_name HeadRole = true
@@ -114,22 +114,22 @@ is_floor_name BodyRole = true
 is_floor_name TemplateRole = true
 is_floor_name _ = false
 
--- one of them is such a name
+-- a role of the list passes
 abbrev pub has_role : (Role → Bool) → List Role → Bool
 has_role p [] = false
 has_role p (n ∷ ns) = cond (p n) true (has_role p ns)
 
--- how many of them are
+-- the number of roles that pass
 abbrev pub count_roles : (Role → Bool) → List Role → ℕ
 count_roles p [] = 0
 count_roles p (n ∷ ns) = cond (p n) (suc (count_roles p ns)) (count_roles p ns)
 
--- one that is asked for comes before, or is, the first that ends the scope (section 13.2.4.2)
+-- a role that passes comes before, or is, the first one that ends the scope (section 13.2.4.2)
 abbrev pub role_in_scope : (Role → Bool) → (Role → Bool) → List Role → Bool
 role_in_scope is stop [] = false
 role_in_scope is stop (n ∷ ns) = cond (is n) true (cond (stop n) false (role_in_scope is stop ns))
 
--- all but the current node's
+-- all roles except the current node's
 abbrev pub later_roles : List Role → List Role
 later_roles [] = []
 later_roles (n ∷ ns) = ns

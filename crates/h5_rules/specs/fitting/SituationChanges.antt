@@ -1,4 +1,4 @@
--- What rules change besides names and mode.
+-- Changes of a situation by rules.
 use Rattle.std.specs.Prelude.{◌∷◌, [], true, false, List, Some, None}
 use Rattle.h5_tables.specs.declared.modes.InsertionMode.{InsertionMode}
 use Rattle.h5_tables.specs.declared.modes.InsertionMode.TheVariants.{InTable, InCaption, InColumnGroup, InTableBody, InRow, InCell, InTemplate}
@@ -13,11 +13,11 @@ later_modes (m ∷ ms) = ms
 abbrev pub with_template : Situation → Situation
 with_template s = record s { template_modes = InTemplate ∷ s.template_modes; frameset_ok = false }
 
--- a template is closed: its mode leaves
+-- a template is closed: its mode is popped
 abbrev pub without_template : Situation → Situation
 without_template s = record s { template_modes = later_modes s.template_modes }
 
--- the current template insertion mode gives way to another (section 13.2.6.4.16)
+-- the current template insertion mode is replaced by another (section 13.2.6.4.16)
 abbrev pub with_last_mode : InsertionMode → Situation → Situation
 with_last_mode m s = record s { template_modes = m ∷ later_modes s.template_modes }
 
@@ -29,7 +29,7 @@ with_head s = record s { has_head = true }
 abbrev pub with_saved : InsertionMode → Situation → Situation
 with_saved m s = record s { saved_mode = Some m }
 
--- what the parser of a fragment begins with (section 13.4)
+-- the situation in which the parser of a fragment begins (section 13.4)
 abbrev pub start_modes : Role → List InsertionMode
 start_modes TemplateRole = InTemplate ∷ []
 start_modes _ = []
@@ -37,7 +37,7 @@ start_modes _ = []
 abbrev pub start_of : Role → Situation
 start_of c = record { template_modes = start_modes c; saved_mode = None; has_head = false; frameset_ok = true; context = Some c }
 
--- the mode after a part of a table has been put, and after it has been closed
+-- the mode after a part of a table has been inserted, and after it has been closed
 abbrev pub mode_of : Role → InsertionMode
 mode_of CaptionRole = InCaption
 mode_of ColgroupRole = InColumnGroup

@@ -16,7 +16,7 @@ newest_named name [] = None
 newest_named name (MarkerEntry ∷ l) = None
 newest_named name (ElementEntry n t ∷ l) = if is_same_text t.name name then Some (record { node = n; tag = t }) else newest_named name l
 
--- the open elements that are newer than one, those that are older, and all others
+-- the open elements that are newer than one; those that are older; and all others
 abbrev pub newer_than : ℕ → List ℕ → List ℕ
 newer_than f [] = []
 newer_than f (n ∷ s) = if n == f then [] else n ∷ newer_than f s
@@ -29,8 +29,8 @@ abbrev pub without_node : ℕ → List ℕ → List ℕ
 without_node f [] = []
 without_node f (n ∷ s) = if n == f then s else n ∷ without_node f s
 
--- the furthest block: of the elements that are newer than the formatting element, the oldest special one; with
--- those that are newer than it, and those between the two
+-- the furthest block: of the elements that are newer than the formatting element, the oldest special one; with the
+-- elements that are newer than it, and those between the two
 pub record FurthestBlock : Type 0 where
   pub newer : List ℕ
   pub block : ℕ
@@ -44,11 +44,11 @@ abbrev pub furthest_block : (ℕ → Bool) → List ℕ → Option FurthestBlock
 furthest_block special [] = None
 furthest_block special (n ∷ s) = block_or n (special n) s (furthest_block special s)
 
--- Of the elements between, those are cloned that are listed and among the three that are nearest to the block.
+-- the elements between that are cloned: those that are listed and among the three nearest to the block
 abbrev pub to_clone : List Entry → List ℕ → List ℕ
 to_clone l between = filter (λ n. is_in n (nodes_of l)) (take 3 between)
 
--- what takes an element's place: its clone, nothing if it is between and has none, else it stays
+-- the replacement of an element: its clone if it has one; none if it is between and has none; otherwise itself
 abbrev pub replaced_by : (between originals clones : List ℕ) → ℕ → Option ℕ
 replaced_by between [] ys n = if is_in n between then None else Some n
 replaced_by between (x ∷ xs) [] n = if is_in n between then None else Some n
@@ -60,7 +60,7 @@ IsCloneOf [] ys y x = ⊥
 IsCloneOf (a ∷ xs) [] y x = ⊥
 IsCloneOf (a ∷ xs) (b ∷ ys) y x = ((x ≡ a) × (y ≡ b)) ⊎ IsCloneOf xs ys y x
 
--- the list, where elements are replaced
+-- the list with elements replaced
 abbrev pub entry_as : Option ℕ → TagText → List Entry → List Entry
 entry_as None t l = l
 entry_as (Some m) t l = ElementEntry m t ∷ l
@@ -70,18 +70,20 @@ replaced w [] = []
 replaced w (MarkerEntry ∷ l) = MarkerEntry ∷ replaced w l
 replaced w (ElementEntry n t ∷ l) = entry_as (w n) t (replaced w l)
 
--- the list with a new entry, which is next newer than that of an element
+-- the list with a new entry, which is the next newer one after that of an element
 abbrev pub inserted_after : ℕ → Entry → List Entry → List Entry
 inserted_after a e [] = []
 inserted_after a e (MarkerEntry ∷ l) = MarkerEntry ∷ inserted_after a e l
 inserted_after a e (ElementEntry n t ∷ l) = if n == a then e ∷ ElementEntry n t ∷ l else ElementEntry n t ∷ inserted_after a e l
 
--- The stack `newer ++ b ∷ between ++ f ∷ older`, where f is the formatting element, b the furthest block, and c
--- the clone of f: clones take the place of the elements between, f leaves, and c comes right below b.
+-- The stack after a round is made from `newer ++ b ∷ between ++ f ∷ older`, where f is the formatting element, b the
+-- furthest block, and c the clone of f: clones replace the elements between, f is removed, and c comes right below b,
+-- as the next newer element.
 abbrev pub round_stack : List ℕ → ℕ → ℕ → List ℕ → List ℕ → List ℕ
 round_stack newer c b clones older = newer ++ c ∷ b ∷ (clones ++ older)
 
--- the list: the same elements are replaced, and c comes after the newest of the clones or where f stood
+-- the list after a round: the same elements are replaced, and c comes after the newest of the clones, or takes the
+-- place of f
 abbrev pub round_list : ℕ → TagText → List ℕ → List ℕ → ℕ → List Entry → List Entry
 round_list f t between clones c l =
     without_entry f (inserted_after (first_or f clones) (ElementEntry c t) (replaced (replaced_by between (to_clone l between) clones) l))
@@ -91,9 +93,9 @@ pub record StackAndList : Type 0 where
   pub stack : List ℕ
   pub formatting : List Entry
 
--- A pass where the formatting element is open and in scope. Without a furthest block the elements up to and with
--- it are popped and its entry goes; else it is a round as above. Given are a clone of each element that is
--- to have one, in the stack's order, and that of the formatting element.
+-- One pass, if the formatting element is open and in scope. Without a furthest block the elements up to and including
+-- the formatting element are popped, and its entry is removed; otherwise it is a round as above. Given are a clone of
+-- each element that needs one, in the stack's order, and the clone of the formatting element.
 abbrev pub clones_wanted_at : Option FurthestBlock → List Entry → List ℕ
 clones_wanted_at None l = []
 clones_wanted_at (Some k) l = to_clone l k.between

@@ -1,4 +1,5 @@
--- The adoption agency in a world, and what calls it (HTML standard, section 13.2.6.4.7, "adoption agency algorithm").
+-- The adoption agency in a world, and the rules that call it (HTML standard, section 13.2.6.4.7, "adoption agency
+-- algorithm").
 use Rattle.std.specs.Prelude.{◌≡◌, ◌≢◌, ◌⊎◌, ℕ, zero, suc, ◌==◌, Bool, false, not, ◌&&◌, ◌||◌, is_some, if◌then◌else◌, List, [], ◌∷◌, codes, Option, Some, None}
 use Rattle.std.specs.List.{list_any}
 use Rattle.h5_token.specs.TokenText.{TagText}
@@ -20,7 +21,7 @@ use Rattle.h5_rules.specs.formatting.Formatting.{reconstruct_active_formatting_e
 use Rattle.h5_rules.specs.insertion.Place.{appropriate_place, put}
 use Rattle.h5_rules.specs.World.{World, current, name_in, names_of, root}
 
--- a new element for a tag, which stands nowhere yet
+-- a new element for a tag, without a parent
 abbrev pub make_for : SinkChoices → TagText → Forest → Forest
 make_for choices tag f = make_element choices (html_name tag.name) tag.attrs (flags_of (html_name tag.name) tag.attrs tag.had_duplicate_attributes) f
 
@@ -30,13 +31,12 @@ tag_in [] n = None
 tag_in (MarkerEntry ∷ l) n = tag_in l n
 tag_in (ElementEntry m t ∷ l) n = if m == n then Some t else tag_in l n
 
--- around a node, a clone of an element that was made for this tag
+-- a clone of an element that was created for this tag, put around a node
 abbrev pub wrapped : SinkChoices → Option TagText → ℕ → Forest → Forest
 wrapped choices None last f = f
 wrapped choices (Some tag) last f = with_last_child (choices.fresh f) (ChildNode last) (detach last (make_for choices tag f))
 
--- clones of some elements around a node, that of the first one around it, the next around that: the forest, the clones,
--- and the outermost
+-- clones of some elements around a node, that of the first one innermost: the forest, the clones, and the outermost one
 pub record Nest : Type 0 where
   pub forest : Forest
   pub clones : List ℕ
@@ -48,17 +48,17 @@ nest choices l (n ∷ ns) last f =
     let outer = nest choices l ns (choices.fresh f) (wrapped choices (tag_in l n) last f) in
     record { forest = outer.forest; clones = choices.fresh f ∷ outer.clones; outermost = outer.outermost }
 
--- the element that is next older than the formatting element, in which the furthest block comes to stand
+-- the common ancestor: the element that is next older than the formatting element, into which the furthest block goes
 abbrev pub common_ancestor : FormattingElement → World → ℕ
 common_ancestor f w = first_or (root w) (older_than f.node w.stack)
 
--- the furthest block with the clones around it, where that element takes it
+-- the furthest block with the clones around it, at the place of insertion in the common ancestor
 abbrev pub placed : FormattingElement → Nest → World → Forest
 placed f n w =
     put (appropriate_place (with_forest n.forest w) (common_ancestor f w)) (ChildNode n.outermost) (detach n.outermost n.forest)
 
--- the block's children below a clone of the formatting element, which becomes the block's child; and the sink is told
--- that the formatting element is popped
+-- the block's children move into a clone of the formatting element, which becomes the block's child; and the sink is
+-- notified that the formatting element is popped
 abbrev pub refilled : SinkChoices → FormattingElement → (block : ℕ) → Forest → Forest
 refilled choices f block g =
     let c = choices.fresh g in
@@ -73,13 +73,14 @@ adopt choices f k w =
     let after = adopted_at f n.clones (choices.fresh g) (Some k) (older_than f.node w.stack) w.formatting in
     record w { forest = refilled choices f k.block g; stack = after.stack; formatting = after.formatting }
 
--- without one the elements up to and with the formatting element are popped, and its entry goes
+-- the effect without a furthest block: the elements up to and including the formatting element are popped, and its
+-- entry is removed
 abbrev pub adopt_at : (World → World) → SinkChoices → FormattingElement → Option FurthestBlock → World → World
 adopt_at again choices f None w = record w { stack = older_than f.node w.stack; formatting = without_entry f.node w.formatting }
 adopt_at again choices f (Some k) w = again (adopt choices f k w)
 
--- a round: without a formatting element, by "any other end tag"; where it isn't open its entry goes; where it isn't in
--- scope nothing changes
+-- a round. Without a formatting element it is "any other end tag"; if the formatting element isn't open, its entry is
+-- removed; if it isn't in scope, nothing changes
 abbrev pub adopt_by : (World → World) → SinkChoices → List ℕ → Option FormattingElement → World → World
 adopt_by again choices name None w = close_named choices name w
 adopt_by again choices name (Some f) w =
@@ -88,7 +89,7 @@ adopt_by again choices name (Some f) w =
     else (if list_any (λ n. is_default_scope (name_in w.forest n)) newer then w
     else adopt_at again choices f (furthest_block (λ n. is_special (name_in w.forest n)) newer) w)
 
--- so many rounds at most
+-- at most n rounds
 abbrev pub adopt_within : ℕ → SinkChoices → List ℕ → World → World
 adopt_within zero choices name w = w
 adopt_within (suc n) choices name w = adopt_by (adopt_within n choices name) choices name (newest_named name w.formatting) w
@@ -97,11 +98,11 @@ adopt_within (suc n) choices name w = adopt_by (adopt_within n choices name) cho
 abbrev pub is_current_unlisted : List ℕ → World → Bool
 is_current_unlisted name w = first_passes (is_html_named name) (names_of w) && not (is_in (current w) (nodes_of w.formatting))
 
--- then it is popped; else eight rounds at most
+-- if so, it is popped; otherwise there are at most eight rounds
 unfoldable pub adoption_agency : SinkChoices → List ℕ → World → World
 adoption_agency choices name w = if is_current_unlisted name w then pop choices w else adopt_within 8 choices name w
 
--- whether the current node is the formatting element, so that it is closed without a parse error
+-- the node is the formatting element; if it is the current node, closing it isn't a parse error
 abbrev pub is_formatting_element : ℕ → Option FormattingElement → Bool
 is_formatting_element n None = false
 is_formatting_element n (Some f) = n == f.node
@@ -109,24 +110,25 @@ is_formatting_element n (Some f) = n == f.node
 abbrev pub closes_current : List ℕ → World → Bool
 closes_current name w = is_formatting_element (current w) (newest_named name w.formatting)
 
--- whether the current node alone is closed
+-- only the current node is closed
 abbrev pub closes_one : List ℕ → World → Bool
 closes_one name w = is_current_unlisted name w || closes_current name w
 
--- whether a formatting element of this name is listed after the last marker
+-- a formatting element of this name is listed after the last marker
 abbrev pub is_named_listed : List ℕ → World → Bool
 is_named_listed name w = is_some (newest_named name w.formatting)
 
--- an element leaves the stack, and the sink is told, where it is open
+-- an element is removed from the stack, and the sink is notified, if it is open
 unfoldable pub remove_from_stack : SinkChoices → ℕ → World → World
 remove_from_stack choices n w =
     if is_in n w.stack then record w { forest = mark (choices.marks_after_pop w.forest n) w.forest; stack = without_node n w.stack } else w
 
--- an element leaves list and stack
+-- an element is removed from the list and from the stack
 abbrev pub unlist_and_remove : SinkChoices → ℕ → World → World
 unlist_and_remove choices n w = remove_from_stack choices n (record w { formatting = without_entry n w.formatting })
 
--- where an `a` is listed after the last marker: the adoption agency for it, and then it leaves list and stack
+-- if an `a` is listed after the last marker: the adoption agency runs for `a`, and then the element is removed from
+-- list and stack
 abbrev pub close_misnested_a : SinkChoices → Option FormattingElement → World → World
 close_misnested_a choices None w = w
 close_misnested_a choices (Some f) w = unlist_and_remove choices f.node (adoption_agency choices (codes "a") w)
@@ -134,26 +136,26 @@ close_misnested_a choices (Some f) w = unlist_and_remove choices f.node (adoptio
 unfoldable pub handle_misnested_a_tags : SinkChoices → World → World
 handle_misnested_a_tags choices w = close_misnested_a choices (newest_named (codes "a") w.formatting) w
 
--- where a `nobr` is in scope: the adoption agency for it, and active formatting elements are reconstructed again
+-- if a `nobr` is in scope: the adoption agency runs for it, and active formatting elements are reconstructed again
 unfoldable pub handle_misnested_nobr_tags : SinkChoices → World → World
 handle_misnested_nobr_tags choices w =
     if in_scope (is_html_named (codes "nobr")) is_default_scope (names_of w)
     then reconstruct_active_formatting_elements choices (adoption_agency choices (codes "nobr") w) else w
 
--- a round with a furthest block may be made: the formatting element is the newest one of the name after the last marker,
--- it is open and in scope, and this is its furthest block
+-- the premises of a round with a furthest block: the formatting element is the newest one of the name after the last
+-- marker, it is open and in scope, and this is its furthest block
 pub record MayAdopt (name : List ℕ) (f : FormattingElement) (k : FurthestBlock) (w : World) : Type 0 where
   pub newest : newest_named name w.formatting ≡ Some f
   pub is_open : IsIn f.node w.stack
   pub in_scope : list_any (λ n. is_default_scope (name_in w.forest n)) (newer_than f.node w.stack) ≡ false
   pub block : furthest_block (λ n. is_special (name_in w.forest n)) (newer_than f.node w.stack) ≡ Some k
 
--- nodes that were there stay what they are
+-- nodes of the old forest keep their kinds
 abbrev pub KeepsKinds : Forest → Forest → Type 0
 KeepsKinds f g = (n : ℕ) → IsNode f n → kind_of g n ≡ kind_of f n
 
--- in the midst of a round: the furthest block, or the outermost of the clones around it, may be hung elsewhere, and of the
--- open elements only the block and newer ones are it or below it
+-- in the middle of a round: the furthest block, or the outermost of the clones around it, may be moved; of the open
+-- elements only the block and newer ones are it or below it
 pub record IsLoose (g : Forest) (s : List ℕ) (block last : ℕ) : Type 0 where
   pub is_node : IsNode g last
   pub no_document : kind_of g last ≢ Some DocumentNode

@@ -12,13 +12,13 @@ use Rattle.h5_names.specs.declared.qualified.QualName.{QualName}
 abbrev pub insert_for : SinkChoices → TagText → World → World
 insert_for choices tag w = insert_element choices tag.name tag.attrs tag.had_duplicate_attributes w
 
--- a formatting element: an element for the tag, which is pushed onto the list, too
+-- a formatting element: an element for the tag is inserted, and also added to the list
 unfoldable pub create_formatting_element : SinkChoices → TagText → World → World
 create_formatting_element choices tag w =
     let v = insert_for choices tag w in
     record v { formatting = push_formatting (current v) tag v.formatting }
 
--- entries' elements are made anew, the oldest first
+-- new elements for entries are inserted, the oldest entry's first
 abbrev pub insert_anew : SinkChoices → List Entry → World → World
 insert_anew choices [] w = w
 insert_anew choices (MarkerEntry ∷ l) w = insert_anew choices l w
@@ -35,7 +35,7 @@ reconstruct_active_formatting_elements choices w =
     let v = insert_anew choices front w in
     record v { formatting = reconstructed (take (length front) v.stack) w.stack w.formatting }
 
--- the names of open elements, once entries' elements were made anew
+-- the names of open elements after new elements were inserted for entries
 abbrev pub names_made_anew : List Entry → List QualName → List QualName
 names_made_anew [] names = names
 names_made_anew (MarkerEntry ∷ l) names = names_made_anew l names

@@ -1,5 +1,5 @@
--- The list of active formatting elements, the newest entry first (HTML standard, section 13.2.4.3, "The list of
--- active formatting elements"; there the newest stands last).
+-- The list of active formatting elements, with the newest entry first (HTML standard, section 13.2.4.3, "The list of
+-- active formatting elements"; there the newest is the last).
 use Rattle.std.specs.Prelude.{ℕ, suc, ◌==◌, nat_le, Bool, true, false, ◌&&◌, if◌then◌else◌, List, [], ◌∷◌, ◌++◌}
 use Rattle.std.specs.List.{list_all}
 use Rattle.h5_names.specs.AttributeText.{AttributeText, is_same_text}
@@ -20,7 +20,7 @@ nodes_of [] = []
 nodes_of (MarkerEntry ∷ l) = nodes_of l
 nodes_of (ElementEntry n t ∷ l) = n ∷ nodes_of l
 
--- something holds of each element that is listed, with its tag
+-- a condition holds for each listed element with its tag
 abbrev pub EachEntry : (ℕ → TagText → Type 0) → List Entry → Type 0
 EachEntry P [] = Unit {0}
 EachEntry P (MarkerEntry ∷ l) = EachEntry P l
@@ -32,7 +32,7 @@ after_marker [] = []
 after_marker (MarkerEntry ∷ l) = []
 after_marker (ElementEntry n t ∷ l) = ElementEntry n t ∷ after_marker l
 
--- "clear the list of active formatting elements up to the last marker": the marker goes too
+-- "clear the list of active formatting elements up to the last marker", including the marker
 abbrev pub clear_to_marker : List Entry → List Entry
 clear_to_marker [] = []
 clear_to_marker (MarkerEntry ∷ l) = l
@@ -56,7 +56,7 @@ has_same_attributes xs ys = list_all (λ a. occurrences a xs == occurrences a ys
 unfoldable pub is_alike : TagText → TagText → Bool
 is_alike x y = is_same_kind x.kind y.kind && (is_same_text x.name y.name && has_same_attributes x.attrs y.attrs)
 
--- how many entries after the last marker are alike to a tag
+-- the number of entries after the last marker that are alike to a tag
 abbrev pub count_alike : TagText → List Entry → ℕ
 count_alike t [] = 0
 count_alike t (MarkerEntry ∷ l) = 0
@@ -69,30 +69,31 @@ without_earliest t (MarkerEntry ∷ l) = MarkerEntry ∷ l
 without_earliest t (ElementEntry n u ∷ l) =
     if count_alike t l == 0 then (if is_alike t u then l else ElementEntry n u ∷ l) else ElementEntry n u ∷ without_earliest t l
 
--- "push onto the list of active formatting elements": where three are alike already, the earliest of them goes
+-- "push onto the list of active formatting elements": if three entries are alike already, the earliest of them is
+-- removed
 abbrev pub push_formatting : ℕ → TagText → List Entry → List Entry
 push_formatting n t l = ElementEntry n t ∷ (if nat_le 3 (count_alike t l) then without_earliest t l else l)
 
--- "reconstruct the active formatting elements": the entries from the newest down to a marker, or to an element
--- that is open (`s`: the open elements), are those whose elements are made anew
+-- the entries that "reconstruct the active formatting elements" creates new elements for: from the newest on, up to the
+-- first one that is a marker or has an open element (`s`: the open elements)
 abbrev pub closed_front : List ℕ → List Entry → List Entry
 closed_front s [] = []
 closed_front s (MarkerEntry ∷ l) = []
 closed_front s (ElementEntry n t ∷ l) = if is_in n s then [] else ElementEntry n t ∷ closed_front s l
 
--- the entries that stay
+-- the entries that keep their elements
 abbrev pub open_rest : List ℕ → List Entry → List Entry
 open_rest s [] = []
 open_rest s (MarkerEntry ∷ l) = MarkerEntry ∷ l
 open_rest s (ElementEntry n t ∷ l) = if is_in n s then ElementEntry n t ∷ l else open_rest s l
 
--- entries with new elements, the newest first in both
+-- entries with new elements, the newest first in both lists
 abbrev pub made_anew : List ℕ → List Entry → List Entry
 made_anew [] l = []
 made_anew (m ∷ ms) [] = []
 made_anew (m ∷ ms) (MarkerEntry ∷ l) = []
 made_anew (m ∷ ms) (ElementEntry n t ∷ l) = ElementEntry m t ∷ made_anew ms l
 
--- the list after reconstructing; the open elements are `fresh ++ s` then
+-- the list after reconstructing; the open elements are then `fresh ++ s`
 abbrev pub reconstructed : List ℕ → List ℕ → List Entry → List Entry
 reconstructed fresh s l = made_anew fresh (closed_front s l) ++ open_rest s l

@@ -10,20 +10,20 @@ swapped m n [] = []
 swapped m n (MarkerEntry ∷ l) = MarkerEntry ∷ swapped m n l
 swapped m n (ElementEntry x t ∷ l) = if x == m then ElementEntry n t ∷ l else ElementEntry x t ∷ swapped m n l
 
--- Over the elements between, the one nearest to the furthest block first, with clones for those that are listed.
--- While the counter is at most three (k more times), a listed one is replaced by its clone; after that its entry
--- is removed. One that isn't listed is passed over.
+-- The loop over the elements between, the one nearest to the furthest block first, with clones for the listed ones. In
+-- the first k steps a listed element is replaced by its clone; after that its entry is removed. One that isn't listed
+-- is skipped.
 abbrev pub walked : ℕ → List ℕ → List ℕ → List Entry → List Entry
 walked k [] ys l = l
 walked zero (m ∷ ms) ys l = walked zero ms ys (without_entry m l)
 walked (suc k) (m ∷ ms) [] l = walked k ms [] l
 walked (suc k) (m ∷ ms) (y ∷ ys) l = if is_in m (nodes_of l) then walked k ms ys (swapped m y l) else walked k ms (y ∷ ys) l
 
--- those that are listed among the first k
+-- the listed ones among the first k
 abbrev pub picked : ℕ → List Entry → List ℕ → List ℕ
 picked k l ms = filter (λ n. is_in n (nodes_of l)) (take k ms)
 
--- no element stands twice, and there is a new clone for each that is to have one
+-- the premises of the loop: no element occurs twice, and there is a new clone for each that needs one
 pub record MayWalk (k : ℕ) (ms ys : List ℕ) (l : List Entry) : Type 0 where
   pub between : Distinct ms
   pub listed : Distinct (nodes_of l)

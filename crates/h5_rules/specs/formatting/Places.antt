@@ -1,5 +1,5 @@
--- Where in the stack and the list the standard's algorithms look, both with the newest first: each is a list that
--- is cut there (HTML standard, sections 13.2.4.3 and 13.2.6.4.7).
+-- The places in stack and list that the standard's algorithms look for, both with the newest first: each is a list that
+-- is split there (HTML standard, sections 13.2.4.3 and 13.2.6.4.7).
 use Rattle.std.specs.Prelude.{◌≡◌, ℕ, Bool, true, false, List, [], ◌∷◌, ◌++◌}
 use Rattle.std.specs.List.{list_any}
 use Rattle.h5_token.specs.TokenText.{IsAlike, TagText}
@@ -31,14 +31,15 @@ StartsOpen s [] = Unit {0}
 StartsOpen s (MarkerEntry ∷ l) = Unit {0}
 StartsOpen s (ElementEntry n t ∷ l) = IsIn n s
 
--- the entries whose elements are made anew: none is a marker or open, and the next one is, if there is one
+-- the entries that get new elements: none is a marker or has an open element, and the next one, if there is one, is or
+-- has
 pub record RewindsTo (s : List ℕ) (l front rest : List Entry) : Type 0 where
   pub cut : l ≡ front ++ rest
   pub unmarked : NoMarker front
   pub none_open : (n : ℕ) → IsIn n (nodes_of front) → ¬ (IsIn n s)
   pub stops : StartsOpen s rest
 
--- the formatting element: after the last marker, of the name, and no newer one is
+-- the formatting element: after the last marker, of the name, and no newer one has the name
 pub record NewestNamedAt (name : List ℕ) (f : FormattingElement) (l : List Entry) : Type 0 where
   pub newer : List Entry
   pub older : List Entry
@@ -47,7 +48,7 @@ pub record NewestNamedAt (name : List ℕ) (f : FormattingElement) (l : List Ent
   pub named : f.tag.name ≡ name
   pub is_newest : EachEntry (λ n t. ¬ (t.name ≡ name)) newer
 
--- the furthest block: special, and of what is newer than the formatting element none that is older is special
+-- the furthest block: special, and newer than the formatting element; no older such element is special
 pub record FurthestBlockAt (special : ℕ → Bool) (k : FurthestBlock) (s : List ℕ) : Type 0 where
   pub cut : s ≡ k.newer ++ k.block ∷ k.between
   pub is_special : special k.block ≡ true

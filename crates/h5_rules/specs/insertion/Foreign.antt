@@ -1,5 +1,5 @@
--- Elements of SVG and MathML: when a token is for foreign content, and how their elements are made and left (HTML
--- standard, sections 13.2.4.2, "adjusted current node", and 13.2.6, "the tree construction dispatcher").
+-- Elements of SVG and MathML: when a token is handled as foreign content, and how such elements are created and left
+-- (HTML standard, sections 13.2.4.2, "adjusted current node", and 13.2.6, "the tree construction dispatcher").
 use Rattle.std.specs.Prelude.{ℕ, Bool, true, false, not, ◌&&◌, ◌||◌, if◌then◌else◌, unwrap_or, List, [], ◌∷◌, map, codes, Option, None, Some}
 use Rattle.std.specs.Str.{str_eq_ignore_ascii_case}
 use Rattle.h5_names.specs.AttributeText.{AttributeText, is_same_text}
@@ -19,7 +19,7 @@ use Rattle.h5_rules.specs.Kinds.{is_start}
 use Rattle.h5_rules.specs.insertion.Place.{place}
 use Rattle.h5_rules.specs.World.{World, name_in, names_of}
 
--- the adjusted current node: the context where only the root of a fragment is open, else the current node
+-- the adjusted current node: the context if only the root of a fragment is open, otherwise the current node
 abbrev pub adjusted_of : Option ℕ → List ℕ → Option ℕ
 adjusted_of context [] = None
 adjusted_of context (n ∷ []) = Some (unwrap_or context n)
@@ -28,7 +28,7 @@ adjusted_of context (n ∷ m ∷ s) = Some n
 abbrev pub adjusted_current_node : World → Option ℕ
 adjusted_current_node w = adjusted_of w.context w.stack
 
--- what a MathML text integration point takes as HTML: a text, a null, and a start tag but of these two
+-- what a MathML text integration point takes as HTML: a text, a null, and a start tag except these two
 unfoldable pub glyph_names : List (List ℕ)
 glyph_names = codes "mglyph" ∷ codes "malignmark" ∷ []
 
@@ -39,7 +39,7 @@ goes_into_text_point (TextTurn status text) = true
 goes_into_text_point NullTurn = true
 goes_into_text_point EofTurn = false
 
--- what an HTML integration point does: a text, a null, and any start tag
+-- what an HTML integration point takes as HTML: a text, a null, and any start tag
 abbrev pub goes_into_html_point : TurnText → Bool
 goes_into_html_point (TagTurn tag) = is_start tag.kind
 goes_into_html_point (CommentTurn text) = false
@@ -66,8 +66,8 @@ abbrev pub is_foreign_at : SinkChoices → TurnText → Forest → Option ℕ �
 is_foreign_at choices t f None = false
 is_foreign_at choices t f (Some n) = not (is_taken_in choices t f n)
 
--- A TOKEN IS FOREIGN where an element is open, and the adjusted current node doesn't take it as HTML; the end of the
--- input never is
+-- A TOKEN IS FOREIGN if an element is open, and the adjusted current node doesn't take the token as HTML; the end of
+-- the file never is
 unfoldable pub is_foreign : SinkChoices → TurnText → World → Bool
 is_foreign choices (TagTurn tag) w = is_foreign_at choices (TagTurn tag) w.forest (adjusted_current_node w)
 is_foreign choices (CommentTurn text) w = is_foreign_at choices (CommentTurn text) w.forest (adjusted_current_node w)
@@ -75,11 +75,11 @@ is_foreign choices (TextTurn status text) w = is_foreign_at choices (TextTurn st
 is_foreign choices NullTurn w = is_foreign_at choices NullTurn w.forest (adjusted_current_node w)
 is_foreign choices EofTurn w = false
 
--- so of all texts, whatever they say
+-- a text is foreign, regardless of its content
 abbrev pub is_foreign_text : SinkChoices → World → Bool
 is_foreign_text choices w = is_foreign choices (TextTurn NotSplit []) w
 
--- "adjust foreign attributes", after those of MathML or of SVG
+-- "adjust foreign attributes", after the adjustment for MathML or SVG
 unfoldable pub adjusted_attributes : (namespace : List ℕ) → List AttributeText → List AttributeText
 adjusted_attributes namespace attrs =
     map (renamed foreign_attributes)
@@ -109,15 +109,16 @@ insert_foreign_element choices name attrs duplicates w = record w {
   stack = choices.fresh w.forest ∷ w.stack;
 }
 
--- and one that isn't open
+-- an element of this name at the place of insertion, not pushed
 unfoldable pub insert_and_pop_foreign_element : SinkChoices → QualName → List AttributeText → Bool → World → World
 insert_and_pop_foreign_element choices name attrs duplicates w = with_forest (new_element choices (place w) name attrs duplicates None w.forest) w
 
--- an HTML integration point: one of SVG, by its name, or an `annotation-xml` of which the sink says so
+-- an HTML integration point: an element of SVG, by its name, or an `annotation-xml` that the sink calls one
 abbrev pub is_html_point : SinkChoices → Forest → ℕ → Bool
 is_html_point choices f n = is_svg_html_point (name_in f n) || (is_annotation_xml (name_in f n) && is_integration_point choices f n)
 
--- elements are popped up to one of HTML, a MathML text integration point, or an HTML integration point
+-- an element that is popped when foreign content is left: neither of HTML, nor a MathML text integration point, nor an
+-- HTML integration point
 unfoldable pub is_left : SinkChoices → Forest → ℕ → Bool
 is_left choices f n = not (is_html_element (name_in f n) || (is_mathml_text_point (name_in f n) || is_html_point choices f n))
 
@@ -132,6 +133,6 @@ leave_foreign_content choices w = pop_left choices w.stack w
 abbrev pub is_named_in_any_case : List ℕ → QualName → Bool
 is_named_in_any_case local n = str_eq_ignore_ascii_case n.local local
 
--- the stack is cut at the first of them from the current node on, that element included; the sink isn't told
+-- pops without notifying the sink, up to and including the newest of these elements
 unfoldable pub pop_until_named_in_any_case : List ℕ → World → World
 pop_until_named_in_any_case local w = record w { stack = cut_through (is_named_in_any_case local) (names_of w) w.stack }

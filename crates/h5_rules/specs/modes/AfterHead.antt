@@ -20,13 +20,13 @@ after_head_start_body tag w = row (InsertElement tag.name tag.attrs tag.had_dupl
 abbrev pub after_head_start_frameset : TagText → World → Row
 after_head_start_frameset tag w = row (inserts tag ∷ SetMode InFrameset ∷ []) IsDone
 
--- the element is no more open
+-- the head element is removed from the stack
 abbrev pub removes_known : Option ℕ → List Change
 removes_known None = []
 removes_known (Some n) = RemoveFromStack n ∷ []
 
--- a start tag of what stands in the head: the head element is current for it, by the rules of the head, and leaves the
--- stack then, from wherever it stands
+-- a start tag of an element that belongs in the head: the head element is pushed, the rule of "in head" is applied, and
+-- the head element is removed from the stack, wherever it is
 unfoldable pub with_head : (TagText → World → Row) → TagText → World → Row
 with_head rule tag w =
     let r = rule tag (push_head w) in errs (PushHead ∷ (r.changes ++ removes_known w.head)) r.ending

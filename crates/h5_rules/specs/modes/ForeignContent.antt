@@ -16,7 +16,7 @@ use Rattle.h5_rules.specs.Rows.{AppendComment, AppendText, Change, IsDone, Leave
 use Rattle.h5_rules.specs.modes.Shared.{inserts_foreign}
 use Rattle.h5_rules.specs.World.{World, names_of}
 
--- a token in foreign content has a row of its own, or goes by the rules of the current mode after some changes, with a
+-- a token in foreign content has a row, or, after some changes, is handled by the rules of the current mode, with a
 -- parse error or quietly
 pub data ForeignStep : Type 0 where
   HasRow : (row : Row) → ForeignStep
@@ -32,7 +32,7 @@ foreign_breakout_names =
     codes "s" ∷ codes "small" ∷ codes "span" ∷ codes "strong" ∷ codes "strike" ∷ codes "sub" ∷ codes "sup" ∷
     codes "table" ∷ codes "tt" ∷ codes "u" ∷ codes "ul" ∷ codes "var" ∷ []
 
--- `font` does where it has an attribute of these, in no namespace
+-- attributes, in no namespace, by which a `font` also leaves it
 unfoldable pub font_attribute_names : List (List ℕ)
 font_attribute_names = codes "color" ∷ codes "face" ∷ codes "size" ∷ []
 
@@ -42,7 +42,7 @@ is_font_attribute a = is_same_text a.name.ns [] && is_one_of font_attribute_name
 unfoldable pub breaks_out : TagText → Bool
 breaks_out tag = is_one_of foreign_breakout_names tag.name || (is_same_text tag.name (codes "font") && list_any is_font_attribute tag.attrs)
 
--- end tags that do
+-- end tags that leave foreign content
 unfoldable pub foreign_breakout_end_names : List (List ℕ)
 foreign_breakout_end_names = codes "br" ∷ codes "p" ∷ []
 
@@ -57,8 +57,7 @@ foreign_start_other tag w =
 unfoldable pub foreign_start : TagText → World → ForeignStep
 foreign_start tag w = if breaks_out tag then unexpected_in_foreign_content else HasRow (foreign_start_other tag w)
 
--- any other end tag: from the current node on, an element of its name is closed, unless one of HTML, or the root, comes
--- first
+-- any other end tag: the newest open element of its name is closed, unless an element of HTML or the root is newer
 pub data EndSearch : Type 0 where
   ReachesRoot : EndSearch
   ReachesHtml : EndSearch
@@ -70,7 +69,7 @@ search_end local (n ∷ []) = ReachesRoot
 search_end local (n ∷ m ∷ ns) =
     if is_html_element n then ReachesHtml else (if is_named_in_any_case local n then Finds else search_end local (m ∷ ns))
 
--- the current node is expected to have its name, unless that is the root
+-- the current node has its name, unless it is the root; otherwise there is a parse error
 abbrev pub is_expected_end : List ℕ → List QualName → Bool
 is_expected_end local [] = true
 is_expected_end local (n ∷ []) = true
@@ -90,7 +89,7 @@ abbrev pub foreign_tag : TagKind → TagText → World → ForeignStep
 foreign_tag StartTag tag w = foreign_start tag w
 foreign_tag EndTag tag w = foreign_end tag w
 
--- U+FFFD stands for a null
+-- U+FFFD, which replaces a null
 abbrev pub replacement_text : List ℕ
 replacement_text = 239 ∷ 191 ∷ 189 ∷ []
 
@@ -116,6 +115,6 @@ abbrev pub row_of : SinkChoices → ForeignStep → TurnText → World → Row
 row_of choices (HasRow row) t w = row
 row_of choices (ByMode quiet changes) t w = by_mode choices quiet changes t w
 
--- THE RULE of a token, whichever it goes by ("the tree construction dispatcher")
+-- THE RULE of a token, foreign or not ("the tree construction dispatcher")
 unfoldable pub dispatch : SinkChoices → TurnText → World → Row
 dispatch choices t w = choose (is_foreign choices t w) (row_of choices (foreign_step t w) t w) (rule w.mode t w)

@@ -37,7 +37,7 @@ body_in_scope w = has_body_in_scope (names_of w)
 unfoldable pub if_body_in_scope : Row → World → Row
 if_body_in_scope r w = choose (body_in_scope w) r ignored
 
--- the body ends, and a parse error is told where an element is still open that may not be
+-- the body ends; there is a parse error if an element is open that may not be
 abbrev pub body_ends : List Change → Ending → World → Row
 body_ends changes ending w = row_if (not (has_unclosed (names_of w))) changes ending
 
@@ -105,12 +105,12 @@ abbrev pub in_body_start_void : TagText → World → Row
 in_body_start_void tag w =
     row (ReconstructActiveFormattingElements ∷ InsertAndPopElement tag.name tag.attrs tag.had_duplicate_attributes ∷ SetFramesetNotOk ∷ []) IsAcknowledged
 
--- an end tag "br", which is taken for a start tag without attributes
+-- an end tag "br", which is handled as a start tag without attributes
 abbrev pub in_body_end_br : TagText → World → Row
 in_body_end_br tag w =
     errs (ReconstructActiveFormattingElements ∷ InsertAndPopElement tag.name [] tag.had_duplicate_attributes ∷ SetFramesetNotOk ∷ []) IsAcknowledged
 
--- a start tag "table", which closes a `p` but in quirks mode
+-- a start tag "table", which closes a `p` except in quirks mode
 abbrev pub is_quirks : QuirksMode → Bool
 is_quirks Quirks = true
 is_quirks _ = false
@@ -120,11 +120,11 @@ in_body_start_table tag w =
     let opens : List Change = inserts tag ∷ SetFramesetNotOk ∷ SetMode InTable ∷ [] in
     choose (is_quirks w.quirks) (row opens IsDone) (row_if (is_expected_p (names_of w)) (ClosePElementInButtonScope ∷ opens) IsDone)
 
--- start tags of what stands in tables, or before the body, are ignored
+-- start tags that are ignored, of elements that belong in tables or before the body
 unfoldable pub outside_names : List (List ℕ)
 outside_names = codes "frame" ∷ codes "head" ∷ []
 
--- a start tag "frameset": it takes the place of the body, where that is still to be had
+-- a start tag "frameset": it replaces the body, if that is still possible
 unfoldable pub in_body_start_frameset : TagText → World → Row
 in_body_start_frameset tag w =
     choose (w.frameset_ok && second_is (codes "body") (names_of w)) (errs (RemoveBody ∷ inserts tag ∷ SetMode InFrameset ∷ []) IsDone) ignored
@@ -180,7 +180,7 @@ in_body_start_button tag w =
     let opens : List Change = ReconstructActiveFormattingElements ∷ inserts tag ∷ SetFramesetNotOk ∷ [] in
     choose (named_in_scope (codes "button") w) (errs (GenerateImpliedEnd ∷ PopUntilNamed (codes "button") ∷ opens) IsDone) (row opens IsDone)
 
--- an end tag "form": the form element, which isn't one any more, leaves the stack from wherever it stands
+-- an end tag "form": the form element is cleared, and is removed from the stack, wherever it is
 abbrev pub form_in_scope : ℕ → World → Bool
 form_in_scope form w = node_in_scope form is_default_scope (names_of w) w.stack
 
@@ -190,7 +190,7 @@ close_the_form (Some form) w =
     choose (form_in_scope form w)
     (row_if (is_expected_node form (names_of w) w.stack) (ClearForm ∷ GenerateImpliedEnd ∷ RemoveFromStack form ∷ []) IsDone) (errs (ClearForm ∷ []) IsDone)
 
--- in a template, the form that is in scope
+-- an end tag "form" in a template: the form that is in scope
 unfoldable pub close_open_form : World → Row
 close_open_form w =
     choose (named_in_scope (codes "form") w)
@@ -214,7 +214,7 @@ in_body_end_marked tag w =
     choose (named_in_scope tag.name w)
     (row_if (is_expected is_implied (is_html_named tag.name) (names_of w)) (GenerateImpliedEnd ∷ PopUntilNamed tag.name ∷ ClearActiveFormattingToMarker ∷ []) IsDone) ignored
 
--- a start tag "image", which is taken for "img"
+-- a start tag "image", which is handled as "img"
 abbrev pub in_body_start_image : TagText → World → Row
 in_body_start_image tag w =
     errs (ReconstructActiveFormattingElements ∷ InsertAndPopElement (codes "img") tag.attrs tag.had_duplicate_attributes ∷ SetFramesetNotOk ∷ []) IsAcknowledged
@@ -235,7 +235,7 @@ in_body_parts = codes "param" ∷ codes "source" ∷ codes "track" ∷ []
 abbrev pub in_body_start_part : TagText → World → Row
 in_body_start_part tag w = row (InsertAndPopElement tag.name tag.attrs tag.had_duplicate_attributes ∷ []) IsAcknowledged
 
--- a start tag "hr": in a `select` no option is expected to stay open
+-- a start tag "hr": if a `select` is in scope, an `option` or `optgroup` in scope that stays open is a parse error
 abbrev pub has_option_in_scope : List QualName → Bool
 has_option_in_scope names = in_scope (is_html_named (codes "option")) is_default_scope names || in_scope (is_html_named (codes "optgroup")) is_default_scope names
 
@@ -271,7 +271,7 @@ in_body_start_option tag w =
 unfoldable pub in_body_start_optgroup : TagText → World → Row
 in_body_start_optgroup tag w = in_body_start_in_select (GenerateImpliedEnd ∷ []) (not (has_option_in_scope (drop_while is_implied (names_of w)))) tag w
 
--- an end tag "option": where the option that is nearest the root was closed, it is copied
+-- an end tag "option": if the open option that is nearest to the root was closed, it is copied
 abbrev pub copies_option : Option ℕ → List Change
 copies_option None = []
 copies_option (Some option) = CopyClosedOption option ∷ []
@@ -311,7 +311,7 @@ abbrev pub in_body_start_foreign : (namespace : List ℕ) → TagText → World 
 in_body_start_foreign namespace tag w =
     inserts_foreign (foreign_name namespace tag.name) (adjusted_attributes namespace tag.attrs) (ReconstructActiveFormattingElements ∷ []) tag
 
--- a start tag "plaintext": the reader takes all that follows for text
+-- a start tag "plaintext": for the tokenizer, all that follows is text
 abbrev pub in_body_start_plaintext : TagText → World → Row
 in_body_start_plaintext tag w = row_if (is_expected_p (names_of w)) (ClosePElementInButtonScope ∷ inserts tag ∷ []) (Answers TurnsPlain)
 
@@ -328,7 +328,7 @@ in_body_start_iframe tag w = raw_text Rawtext (SetFramesetNotOk ∷ inserts tag 
 abbrev pub in_body_start_noembed : TagText → World → Row
 in_body_start_noembed tag w = raw_text Rawtext (inserts tag ∷ [])
 
--- a start tag "noscript": where scripts run, a text
+-- a start tag "noscript": if scripting is enabled, its content is text
 unfoldable pub in_body_start_noscript : TagText → World → Row
 in_body_start_noscript tag w =
     choose w.options.scripting_enabled (raw_text Rawtext (inserts tag ∷ [])) (row (ReconstructActiveFormattingElements ∷ inserts tag ∷ []) IsDone)
@@ -343,7 +343,7 @@ in_body_end_other tag w =
     choose (comes_before_special tag.name (names_of w))
     (row_if (is_expected (is_implied_but tag.name) (is_html_named tag.name) (names_of w)) (GenerateImpliedEndExcept tag.name ∷ PopUntilNamed tag.name ∷ []) IsDone) ignored
 
--- start tags: those of the page and its blocks, those of what stands in a line, those of what is put in, and others
+-- start tags: of the page and its blocks, of inline elements, of inserted content, and others
 unfoldable pub in_body_start_blocks : Rules
 in_body_start_blocks =
     (Only Html, in_body_start_html) ∷
@@ -391,7 +391,7 @@ in_body_start_embedded =
 unfoldable pub in_body_start : Rules
 in_body_start = in_body_start_blocks ++ (in_body_start_inline ++ in_body_start_embedded)
 
--- end tags: those of the page and its blocks, and others
+-- end tags: of the page and its blocks, and others
 unfoldable pub in_body_end_blocks : Rules
 in_body_end_blocks =
     (Only Html, in_body_end_html) ∷
@@ -417,7 +417,7 @@ in_body_end = in_body_end_blocks ++ in_body_end_inline
 unfoldable pub in_body_tag : TagText → World → Row
 in_body_tag tag w = by_kind tag.kind (by_name in_body_start in_body_start_other tag w) (by_name in_body_end in_body_end_other tag w)
 
--- no template insertion mode is there
+-- the stack of template insertion modes is empty
 abbrev pub no_template_mode : List InsertionMode → Bool
 no_template_mode [] = true
 no_template_mode (m ∷ ms) = false

@@ -13,7 +13,7 @@ use Rattle.h5_rules.specs.World.{World, names_of}
 use Rattle.h5_rules.specs.stack.Expected.{is_expected}
 use Rattle.h5_tables.specs.TagSets.{is_html_named, is_implied}
 
--- the caption is closed, where table scope has one
+-- the caption is closed, if one is in table scope
 unfoldable pub close_the_caption : List Change → Ending → World → Row
 close_the_caption changes ending w =
     choose (named_in_table_scope (codes "caption") w)

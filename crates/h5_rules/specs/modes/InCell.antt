@@ -19,7 +19,7 @@ in_cell_end_cell tag w =
     (row_if (is_expected is_implied (is_html_named tag.name) (names_of w)) (GenerateImpliedEnd ∷ PopUntilNamed tag.name ∷ ClearActiveFormattingToMarker ∷ SetMode InRow ∷ []) IsDone)
     ignored
 
--- "close the cell", and the token goes by the row
+-- "close the cell", and the token is reprocessed in the mode "in row"
 abbrev pub close_the_cell : World → Row
 close_the_cell w =
     row_if (is_expected is_implied is_cell (names_of w)) (GenerateImpliedEnd ∷ PopUntilCell ∷ ClearActiveFormattingToMarker ∷ []) (Again InRow)

@@ -12,7 +12,7 @@ use Rattle.h5_rules.specs.Rows.{Again, AppendComment, AppendText, Ending, Insert
 use Rattle.h5_rules.specs.modes.Shared.{current_is, in_body_start_html}
 use Rattle.h5_rules.specs.World.{World}
 
--- the column group is closed, where it is the current node
+-- the column group is closed, if it is the current node
 unfoldable pub close_the_column_group : List Change → Ending → World → Row
 close_the_column_group changes ending w = choose (current_is (codes "colgroup") w) (row (Pop ∷ changes) ending) ignored
 

@@ -27,7 +27,7 @@ is_root_alone [] = false
 is_root_alone (n ∷ []) = true
 is_root_alone (n ∷ m ∷ ns) = false
 
--- the element below the current node is a `frameset`
+-- the element next older than the current node is a `frameset`
 abbrev pub is_in_frameset : List QualName → Bool
 is_in_frameset [] = false
 is_in_frameset (n ∷ []) = false

@@ -64,7 +64,8 @@ in_head_end_template tag w =
     (GenerateImpliedEndThoroughly ∷ PopUntilNamed (codes "template") ∷ ClearActiveFormattingToMarker ∷ PopTemplateMode ∷ ResetMode ∷ []) IsDone)
     ignored
 
--- the end of the input, where a template may be open: it is closed, and the token goes by the mode that is reset to
+-- the end of the file, at which a template may be open: the template is closed, and the token is reprocessed in the
+-- mode that is reset to
 unfoldable pub template_eof : World → Row
 template_eof w =
     choose (has_template (names_of w))
@@ -91,7 +92,7 @@ in_head_start =
 unfoldable pub in_head_end : Rules
 in_head_end = (Only Head, in_head_end_head) ∷ (AnyOf outer_names, of_tag in_head_else) ∷ (Only Template, in_head_end_template) ∷ []
 
--- a start tag, also where other modes go by the rules of the head
+-- a start tag; also used by other modes
 unfoldable pub in_head_start_tag : TagText → World → Row
 in_head_start_tag tag w = by_name in_head_start (of_tag in_head_else) tag w
 

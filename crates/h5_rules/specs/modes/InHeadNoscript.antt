@@ -19,12 +19,12 @@ in_head_noscript_end_noscript tag w = row (Pop ∷ SetMode InHead ∷ []) IsDone
 abbrev pub in_head_noscript_else : TurnText → World → Row
 in_head_noscript_else t w = errs (Pop ∷ []) (Again InHead)
 
--- start tags that go by the head
+-- start tags that are handled by the rules of "in head"
 unfoldable pub noscript_content_names : List (List ℕ)
 noscript_content_names =
     codes "basefont" ∷ codes "bgsound" ∷ codes "link" ∷ codes "meta" ∷ codes "noframes" ∷ codes "style" ∷ []
 
--- and that are ignored
+-- start tags that are ignored
 unfoldable pub in_head_noscript_ignored : List (List ℕ)
 in_head_noscript_ignored = codes "head" ∷ codes "noscript" ∷ []
 

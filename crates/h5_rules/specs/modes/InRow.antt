@@ -16,7 +16,7 @@ use Rattle.h5_rules.specs.World.{World}
 abbrev pub in_row_start_cell : TagText → World → Row
 in_row_start_cell tag w = row (PopUntilCurrent is_table_row_context ∷ inserts tag ∷ SetMode InCell ∷ InsertMarker ∷ []) IsDone
 
--- the row is closed, where table scope has one
+-- the row is closed, if one is in table scope
 unfoldable pub close_the_row : List Change → Ending → World → Row
 close_the_row changes ending w =
     choose (named_in_table_scope (codes "tr") w) (row (PopUntilCurrent is_table_row_context ∷ Pop ∷ changes) ending) ignored

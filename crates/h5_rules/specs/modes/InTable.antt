@@ -15,7 +15,7 @@ use Rattle.h5_rules.specs.World.{World, names_of}
 use Rattle.h5_rules.specs.modes.Shared.{inserts, is_type_hidden}
 use Rattle.h5_rules.specs.modes.InHead.{in_head_end_template, in_head_start_tag}
 
--- the current node is one in which text of a table is kept back
+-- the current node is one in which text of a table is buffered
 abbrev pub keeps_text : World → Bool
 keeps_text w = first_passes is_table_outer (names_of w)
 

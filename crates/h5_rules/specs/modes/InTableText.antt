@@ -14,12 +14,13 @@ use Rattle.h5_rules.specs.World.{World}
 abbrev pub saved_mode : World → InsertionMode
 saved_mode w = unwrap_or w.saved_mode InTable
 
--- the text that was kept back: blank, it goes where it came; else it goes by the body, with foster parenting on
+-- the pending text: if it is all whitespace, it is inserted where it came; otherwise it is handled by the rules of "in
+-- body", with foster parenting on
 unfoldable pub pending_text : List ℕ → World → Row
 pending_text [] w = row [] IsDone
 pending_text (b ∷ t) w = choose (all_blank (b ∷ t)) (row (AppendText (b ∷ t) ∷ []) IsDone) (foster in_body (TextTurn NotSplit (b ∷ t)) w)
 
--- anything else: the text goes first, and the token by the mode that was left
+-- anything else: the pending text comes first, and then the token in the mode that was left
 unfoldable pub in_table_text_else : TurnText → World → Row
 in_table_text_else t w =
     let r = pending_text w.pending w in record r { changes = TakePendingText ∷ r.changes; ending = AgainBy saved_mode }

@@ -13,7 +13,7 @@ use Rattle.h5_rules.specs.Rows.{Again, Row, SwitchTemplateMode, ignored, row}
 use Rattle.h5_rules.specs.modes.Shared.{head_start_names}
 use Rattle.h5_rules.specs.World.{World}
 
--- the template insertion mode gives way to another, by which the token goes
+-- the template insertion mode is replaced by another, in which the token is reprocessed
 abbrev pub in_template_as : InsertionMode → TagText → World → Row
 in_template_as mode tag w = row (SwitchTemplateMode mode ∷ []) (Again mode)
 

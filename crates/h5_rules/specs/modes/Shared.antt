@@ -21,17 +21,18 @@ in_body_start_html tag w = choose (has_template (names_of w)) ignored (errs (Add
 abbrev pub in_body_text : List ℕ → World → Row
 in_body_text text w = row (ReconstructActiveFormattingElements ∷ SetFramesetOkByText text ∷ AppendText text ∷ []) IsDone
 
--- start tags that close a caption or a cell, and that the body ignores
+-- start tags that close a caption or a cell, and that are ignored in the body
 unfoldable pub table_structure_names : List (List ℕ)
 table_structure_names =
     codes "caption" ∷ codes "col" ∷ codes "colgroup" ∷ codes "tbody" ∷ codes "td" ∷ codes "tfoot" ∷
     codes "th" ∷ codes "thead" ∷ codes "tr" ∷ []
 
--- section 13.2.6.2, elements that contain only text: the mode is kept, to go back to, and the reader is told
+-- section 13.2.6.2, elements that contain only text: the mode is saved as the one to return to, and the reply switches
+-- the tokenizer's state
 abbrev pub raw_text : RawKind → List Change → Row
 raw_text kind changes = row (changes ++ SaveMode ∷ SetMode Text ∷ []) (Answers (TurnsRaw kind))
 
--- start tags that go by the rules of the head elsewhere, too
+-- start tags that other modes handle by the rules of "in head"
 unfoldable pub head_start_names : List (List ℕ)
 head_start_names =
     codes "base" ∷ codes "basefont" ∷ codes "bgsound" ∷ codes "link" ∷ codes "meta" ∷ codes "noframes" ∷
@@ -41,7 +42,7 @@ head_start_names =
 abbrev pub inserts : TagText → Change
 inserts tag = InsertElement tag.name tag.attrs tag.had_duplicate_attributes
 
--- an element of this name for a tag, in SVG or MathML, after some changes; it stays open unless the tag closes itself
+-- an element of this name for a tag, in SVG or MathML, after some changes; it stays open unless the tag is self-closing
 abbrev pub inserts_foreign : QualName → List AttributeText → List Change → TagText → Row
 inserts_foreign name attrs before tag =
     choose tag.self_closing
@@ -52,7 +53,7 @@ inserts_foreign name attrs before tag =
 abbrev pub current_is : List ℕ → World → Bool
 current_is local w = first_passes (is_html_named local) (names_of w)
 
--- whether the first attribute `type`, in no namespace, is `hidden`, in any case of ASCII letters
+-- the first attribute `type`, in no namespace, is `hidden`, in any case of ASCII letters
 abbrev pub is_type : AttributeText → Bool
 is_type a = is_same_text a.name.ns [] && is_same_text a.name.local (codes "type")
 
@@ -60,7 +61,7 @@ abbrev pub is_type_hidden : List AttributeText → Bool
 is_type_hidden [] = false
 is_type_hidden (a ∷ attrs) = if is_type a then str_eq_ignore_ascii_case a.value (codes "hidden") else is_type_hidden attrs
 
--- the context element, where a fragment is parsed, passes (section 13.4)
+-- the context element passes, if a fragment is parsed (section 13.4)
 abbrev pub context_passes : (QualName → Bool) → Forest → Option ℕ → Bool
 context_passes is f None = false
 context_passes is f (Some n) = is (name_in f n)

@@ -1,5 +1,5 @@
 -- HTML standard, section 13.2.6.4.8, the "text" insertion mode. A start tag, a comment and a null are refused there
--- before any rule is asked.
+-- before any rule is applied.
 use Rattle.std.specs.Prelude.{if◌then◌else◌, List, [], ◌∷◌, ◌++◌, codes}
 use Rattle.h5_names.specs.AttributeText.{is_same_text}
 use Rattle.h5_token.specs.Reply.{RunsScript}
@@ -11,14 +11,14 @@ use Rattle.h5_rules.specs.Rows.{AgainBy, Answers, AppendText, Change, Ending, Is
 use Rattle.h5_rules.specs.modes.Shared.{current_is}
 use Rattle.h5_rules.specs.World.{World, current}
 
--- an end tag; of a script, the answer names the element that was current
+-- an end tag; for a script, the reply names the element that was current
 abbrev pub answers_script : TagText → World → Ending
 answers_script tag w = if is_same_text tag.name (codes "script") then Answers (RunsScript (current w)) else IsDone
 
 abbrev pub text_end : TagText → World → Row
 text_end tag w = row (Pop ∷ SetMode (saved_mode w) ∷ []) (answers_script tag w)
 
--- the end of the input: a script that is open is marked as started
+-- the end of the file: a script that is open is marked as started
 abbrev pub marks_script : World → List Change
 marks_script w = if current_is (codes "script") w then MarkStarted ∷ [] else []
 

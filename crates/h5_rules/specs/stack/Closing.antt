@@ -21,29 +21,29 @@ generate_implied_end_thoroughly choices w = pop_while choices is_thorough_implie
 unfoldable pub close_p_element : SinkChoices → World → World
 close_p_element choices w = pop_until_named (codes "p") (generate_implied_end_except choices (codes "p") w)
 
--- the same, where a `p` is in button scope
+-- "close a p element", if a `p` is in button scope
 unfoldable pub close_p_element_in_button_scope : SinkChoices → World → World
 close_p_element_in_button_scope choices w = if has_p_in_button_scope (names_of w) then close_p_element choices w else w
 
--- the current node is popped, where it is a heading
+-- the current node is popped, if it is a heading
 unfoldable pub pop_heading : SinkChoices → World → World
 pop_heading choices w = if first_passes is_heading (names_of w) then pop choices w else w
 
--- the stack is cut at the first heading from the current node on, that element included; the sink isn't told
+-- pops without notifying the sink, up to and including the newest heading
 unfoldable pub pop_until_heading : World → World
 pop_until_heading w = record w { stack = cut_through is_heading (names_of w) w.stack }
 
--- the stack is cut at the first cell from the current node on, that element included; the sink isn't told
+-- pops without notifying the sink, up to and including the newest cell
 unfoldable pub pop_until_cell : World → World
 pop_until_cell w = record w { stack = cut_through is_cell (names_of w) w.stack }
 
--- "any other end tag": implied ends but for the name, and up to and with the first element of the name, where it comes
--- before any special one
+-- "any other end tag": implied end tags except for the name, and then pops up to and including the newest element of
+-- the name, if no special element is newer
 unfoldable pub close_named : SinkChoices → List ℕ → World → World
 close_named choices local w =
     if comes_before_special local (names_of w) then pop_until_named local (generate_implied_end_except choices local w) else w
 
--- implied ends, where a `select` is in scope
+-- implied end tags, if a `select` is in scope
 unfoldable pub generate_implied_end_in_select : SinkChoices → World → World
 generate_implied_end_in_select choices w =
     if in_scope (is_html_named (codes "select")) is_default_scope (names_of w) then generate_implied_end_tags choices w else w
@@ -52,14 +52,14 @@ generate_implied_end_in_select choices w =
 abbrev pub is_html_among : List (List ℕ) → QualName → Bool
 is_html_among locals n = is_same_text n.ns html_namespace && is_one_of locals n.local
 
--- a special element, but for `address`, `div` and `p`, ends the search for an item of a list
+-- names of the special elements at which the search for a list item doesn't end
 unfoldable pub passed_names : List (List ℕ)
 passed_names = codes "address" ∷ codes "div" ∷ codes "p" ∷ []
 
 abbrev pub ends_item_search : QualName → Bool
 ends_item_search n = is_special n && not (is_html_among passed_names n)
 
--- the name of the newest of these elements, where it comes before any that ends the search
+-- the name of the newest of these elements, unless an element that ends the search is newer
 abbrev pub newest_item : List (List ℕ) → List QualName → Option (List ℕ)
 newest_item locals [] = None
 newest_item locals (n ∷ ns) = if is_html_among locals n then Some n.local else (if ends_item_search n then None else newest_item locals ns)
@@ -68,10 +68,10 @@ abbrev pub close_item : SinkChoices → Option (List ℕ) → World → World
 close_item choices None w = w
 close_item choices (Some local) w = pop_until_named local (generate_implied_end_except choices local w)
 
--- the item that is open is closed: implied ends but for its name, and up to and with it
+-- the open list item is closed: implied end tags except for its name, and then pops up to and including it
 unfoldable pub close_list_item : SinkChoices → List (List ℕ) → World → World
 close_list_item choices locals w = close_item choices (newest_item locals (names_of w)) w
 
--- the option that was closed is copied into `selectedcontent` elements
+-- an option that was closed is copied into `selectedcontent` elements
 unfoldable pub copy_closed_option : SinkChoices → ℕ → World → World
 copy_closed_option choices option w = with_forest (if is_in option w.stack then w.forest else choices.after_option_copy w.forest option) w

@@ -1,27 +1,27 @@
--- Whether an element that is closed is the current node by then, as is expected: where it isn't, this is a parse error
--- (HTML standard, section 13.2.6.4.7).
+-- If an element that is closed isn't the current node by then, this is a parse error (HTML standard, section
+-- 13.2.6.4.7).
 use Rattle.std.specs.Prelude.{ℕ, Bool, true, false, not, ◌==◌, if◌then◌else◌, List, [], ◌∷◌, Option, None, Some, codes}
 use Rattle.h5_names.specs.declared.qualified.QualName.{QualName}
 use Rattle.h5_tables.specs.TagSets.{is_html_named, is_implied}
 use Rattle.h5_rules.specs.stack.Closing.{newest_item}
 use Rattle.h5_rules.specs.stack.Scope.{cut_above, cut_names, drop_while, first_passes, has_p_in_button_scope, is_implied_but}
 
--- the current node is one of these, once those that are popped before were popped
+-- after the pops that come first, the current node is one of these
 abbrev pub is_expected : (popped is : QualName → Bool) → List QualName → Bool
 is_expected popped is names = first_passes is (drop_while popped names)
 
--- the names that are left where the first of these is closed then
+-- the names that remain after the first of these is closed
 abbrev pub names_behind : (popped is : QualName → Bool) → List QualName → List QualName
 names_behind popped is names = cut_names is (drop_while popped names)
 
--- a `p`, where one is in button scope
+-- a `p`, if one is in button scope
 unfoldable pub is_expected_p : List QualName → Bool
 is_expected_p names = if has_p_in_button_scope names then is_expected (is_implied_but (codes "p")) (is_html_named (codes "p")) names else true
 
 unfoldable pub names_behind_p : List QualName → List QualName
 names_behind_p names = if has_p_in_button_scope names then names_behind (is_implied_but (codes "p")) (is_html_named (codes "p")) names else names
 
--- an element of this name, where one is closed
+-- an element of this name, if one is closed
 abbrev pub is_expected_named : Option (List ℕ) → List QualName → Bool
 is_expected_named None names = true
 is_expected_named (Some local) names = is_expected (is_implied_but local) (is_html_named local) names

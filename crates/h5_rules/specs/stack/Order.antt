@@ -2,27 +2,26 @@
 use Rattle.std.specs.Prelude.{◌≡◌, ℕ, ◌==◌, Bool, true, false, if◌then◌else◌, ◌⊎◌, List, [], ◌∷◌, Option, Some, None}
 use Rattle.h5_interface.specs.Ancestors.{AtOrAbove}
 
--- a number stands in a list
+-- a list has a number
 abbrev pub IsIn : ℕ → List ℕ → Type 0
 IsIn n [] = ⊥
 IsIn n (m ∷ ms) = (n ≡ m) ⊎ IsIn n ms
 
--- whether it does
+-- the test for `IsIn`
 abbrev pub is_in : ℕ → List ℕ → Bool
 is_in n [] = false
 is_in n (m ∷ ms) = if n == m then true else is_in n ms
 
--- x stands before y
+-- x is before y
 abbrev pub Before : List ℕ → ℕ → ℕ → Type 0
 Before [] x y = ⊥
 Before (n ∷ ns) x y = ((x ≡ n) × IsIn y ns) ⊎ Before ns x y
 
--- no member stands twice
+-- no member occurs twice
 abbrev pub Distinct : List ℕ → Type 0
 Distinct s = (x : ℕ) → ¬ (Before s x x)
 
--- of two members, with the newest first, the newer one is neither the older one nor above it; so members
--- are distinct
+-- of two members, with the newest first, the newer one is neither the older one nor above it; so members are distinct
 pub record IsOrdered (up : ℕ → Option ℕ) (s : List ℕ) : Type 0 where
   pub newer : (x y : ℕ) → Before s x y → ¬ (AtOrAbove up x y)
 

@@ -1,5 +1,5 @@
--- Questions about the open elements, and ways to close them, by their names, the current node's first (HTML
--- standard, section 13.2.4.2, "The stack of open elements").
+-- Tests of the open elements, and ways to close them, by their names, with the current node's first (HTML standard,
+-- section 13.2.4.2, "The stack of open elements").
 use Rattle.std.specs.Prelude.{ℕ, ◌==◌, Bool, true, false, not, ◌&&◌, if◌then◌else◌, List, [], ◌∷◌, Option, None, Some, codes}
 use Rattle.std.specs.List.{list_any}
 use Rattle.h5_names.specs.declared.qualified.QualName.{QualName}
@@ -32,7 +32,7 @@ oldest_passing is (n ∷ ns) (m ∷ s) = oldest_of (oldest_passing is ns s) (if 
 abbrev pub has_template : List QualName → Bool
 has_template = list_any is_html_template
 
--- some open element may not be open where the body ends
+-- an element is open that may not be when the body ends
 abbrev pub has_unclosed : List QualName → Bool
 has_unclosed = list_any (λ n. not (is_body_end_ok n))
 
@@ -60,26 +60,26 @@ abbrev pub first_passes : (QualName → Bool) → List QualName → Bool
 first_passes p [] = false
 first_passes p (n ∷ ns) = p n
 
--- an implied end tag, but for an HTML element of this name
+-- an implied end tag, except an HTML element of this name
 abbrev pub is_implied_but : List ℕ → QualName → Bool
 is_implied_but local n = is_implied n && not (is_html_named local n)
 
--- all names but the current node's
+-- all names except the current node's
 abbrev pub later_names : List QualName → List QualName
 later_names [] = []
 later_names (n ∷ ns) = ns
 
--- the names that are left of open elements that are popped while they pass
+-- the names that remain after open elements are popped while they pass
 abbrev pub drop_while : (QualName → Bool) → List QualName → List QualName
 drop_while p [] = []
 drop_while p (n ∷ ns) = if p n then drop_while p ns else n ∷ ns
 
--- "up to and with": the names that are left after the first one that passes, none where none does
+-- "up to and including": the names after the first one that passes; none if no name passes
 abbrev pub cut_names : (QualName → Bool) → List QualName → List QualName
 cut_names is [] = []
 cut_names is (n ∷ ns) = if is n then ns else cut_names is ns
 
--- the elements that are left then, by the names of all
+-- the elements that remain then, by the names of all
 abbrev pub cut_through : (QualName → Bool) → List QualName → List ℕ → List ℕ
 cut_through is [] s = s
 cut_through is (n ∷ ns) s = if is n then but_first s else cut_through is ns (but_first s)
@@ -89,7 +89,7 @@ abbrev pub down_names : (QualName → Bool) → List QualName → List QualName
 down_names is [] = []
 down_names is (n ∷ ns) = if is n then n ∷ ns else down_names is ns
 
--- and the elements, by the names of all
+-- the elements that remain then, by the names of all
 abbrev pub cut_above : (QualName → Bool) → List QualName → List ℕ → List ℕ
 cut_above is [] s = s
 cut_above is (n ∷ ns) s = if is n then s else cut_above is ns (but_first s)

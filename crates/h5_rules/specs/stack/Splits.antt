@@ -1,12 +1,12 @@
--- What the standard says of the stack of open elements and of closing them, as a list of names that is cut in two,
--- the current node's name first (HTML standard, section 13.2.4.2, "The stack of open elements").
+-- What the standard says about the stack of open elements and about closing them, as a list of names that is split in
+-- two, with the current node's name first (HTML standard, section 13.2.4.2, "The stack of open elements").
 use Rattle.std.specs.Prelude.{◌≡◌, ℕ, Bool, true, false, ◌⊎◌, List, [], ◌∷◌, ◌++◌}
 use Rattle.std.specs.List.{list_all, list_any}
 use Rattle.h5_names.specs.declared.qualified.QualName.{QualName}
 use Rattle.h5_tables.specs.TagSets.{is_html_named}
 use Rattle.h5_rules.specs.stack.Scope.{first_passes}
 
--- "have a particular element in scope": below the newest such element none ends the scope
+-- "have a particular element in scope": no element that is newer than the newest such element ends the scope
 pub record HasInScope (is ends : QualName → Bool) (names : List QualName) : Type 0 where
   pub newer : List QualName
   pub found : QualName
@@ -16,15 +16,15 @@ pub record HasInScope (is ends : QualName → Bool) (names : List QualName) : Ty
   pub is_newest : list_any is newer ≡ false
   pub none_ends : list_any ends newer ≡ false
 
--- "while the current node is such an element, pop it": all that are popped are such elements, and what is current
--- then, if anything, is none
+-- "while the current node is such an element, pop it": all popped elements are such elements, and the current node
+-- then, if any, isn't one
 pub record PopsAll (is : QualName → Bool) (names left : List QualName) : Type 0 where
   pub popped : List QualName
   pub cut : names ≡ popped ++ left
   pub are_such : list_all is popped ≡ true
   pub stops : first_passes is left ≡ false
 
--- "pop elements until such an element has been popped": the newest one is the last that goes
+-- "pop elements until such an element has been popped": the newest one is the last that is popped
 pub record PopsThrough (is : QualName → Bool) (names left : List QualName) : Type 0 where
   pub newer : List QualName
   pub found : QualName
@@ -32,7 +32,7 @@ pub record PopsThrough (is : QualName → Bool) (names left : List QualName) : T
   pub is_such : is found ≡ true
   pub is_newest : list_any is newer ≡ false
 
--- "clear the stack back to" such an element: what is popped is none, and what is current then, if anything, is one
+-- "clear the stack back to" such an element: no popped element is one, and the current node then, if any, is one
 pub record PopsDownTo (is : QualName → Bool) (names left : List QualName) : Type 0 where
   pub popped : List QualName
   pub cut : names ≡ popped ++ left

@@ -3,7 +3,7 @@ use Rattle.h5_interface.specs.Forest.{count, nodes}
 use Rattle.h5_arena.specs.ArenaModel.{child_views}
 use Rattle.h5_arena.proofs.children.place_of.Given as goal
 
--- the node stands before this place
+-- the node is before this index
 abbrev pub invariant-places : goal.invariant-places
 invariant-places l = record {
   within : l.behind ≤ length l.fn.children;

@@ -5,7 +5,8 @@ use Rattle.h5_arena.specs.ArenaModel.{forest_in}
 use Rattle.h5_arena.proofs.ClimbLaws.{AreUnder}
 use Rattle.h5_arena.proofs.standing.is_at_or_above.Given as goal
 
--- this node stands at or above where the way up began, and what stands above that stands above this; so many different nodes are below it
+-- this node is at or above the start of the walk up; if `above` is at or above the start, it is at or above this node; as many different
+-- nodes as steps are below this node
 abbrev pub invariant-loop-step : goal.invariant-loop-step
 invariant-loop-step l = record {
   within : l.at.index < length l.nodes;

@@ -1,8 +1,8 @@
 use Rattle.std.specs.Str.Lossy.{utf8_lossy}
 use Rattle.html_tree_builder.specs.Cleaned.{IsCleaned}
-use Rattle.html_tree_builder.specs.TextPolicy.{text_rules}
+use Rattle.html_tree_builder.specs.DefaultPolicy.{default_rules}
 use Rattle.h5_c.proofs.Giving.{given_such}
 use Rattle.h5_c.proofs.page.hengaruto_clean.Goals as goal
 
 pub returns : goal.returns
-returns c = given_such c.cleaned.result (λ v. v.items) (IsCleaned text_rules (utf8_lossy c.args.html.now)) c.give.result c.give.new.length c.cleaned.ensures c.give.ensures
+returns c = given_such c.cleaned.result (λ v. v.items) (IsCleaned default_rules (utf8_lossy c.args.html.now)) c.give.result c.give.new.length c.cleaned.ensures c.give.ensures

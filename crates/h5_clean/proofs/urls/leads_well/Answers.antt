@@ -1,6 +1,6 @@
 use Rattle.std.proofs.Common.{ap, map, string_bytes, sym, ◌∙◌}
 use Rattle.h5_clean.specs.AllowLists.{leads_well}
-use Rattle.h5_clean.specs.TextPolicy.{behind_controls, scheme_of_visible}
+use Rattle.h5_clean.specs.DefaultPolicy.{behind_controls, scheme_of_visible}
 use Rattle.h5_clean.proofs.SchemeLaws.{listed, where_none, where_some}
 use Rattle.h5_clean.proofs.urls.leads_well.Goals as goal
 

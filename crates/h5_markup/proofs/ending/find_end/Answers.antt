@@ -4,7 +4,7 @@ use Rattle.h5_markup.proofs.Endings.{walk_along, walk_turn}
 use Rattle.h5_markup.proofs.ending.find_end.Goals as goal
 use Rattle.h5_markup.proofs.ending.find_end.Goals.{After-unmoved-n}
 
--- behind the bytes that were passed at once
+-- after the bytes that were passed at once
 passed : (c : After-unmoved-n) → walk c.args.place (take (c.loop-n.n + c.unmoved-n.result) c.args.bytes.now) ≡ Some c.loop-n.now
 passed c =
     let here : walk c.loop-n.now (take c.unmoved-n.result (drop c.loop-n.n c.args.bytes.now)) ≡ Some c.loop-n.now = rw c.split_at.ensures.back at c.unmoved-n.ensures.walked in

@@ -9,5 +9,5 @@ pub pop_until_named-requires-clause-place : goal.pop_until_named-requires-clause
 pop_until_named-requires-clause-place g c =
     let local = c.from_known-button.result in
     c.in-Some.ensures.place
-    ∙ ap (λ (w : World). length (cut_through (is_html_named local) (names_of w) w.stack)) (sym c.tell_error.ensures.told.world)
+    ∙ ap (λ (w : World). length (cut_through (is_html_named local) (names_of w) w.stack)) (sym c.report_error.ensures.told.world)
     ∙ ap length (sym (c.generate_implied_end_tags.ensures.older (is_html_named local) (button_not_implied local c.from_known-button.ensures)))

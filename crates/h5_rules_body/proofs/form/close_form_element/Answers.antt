@@ -34,19 +34,19 @@ unfolding names_of
 returns-then-not-is_node_in_scope g c =
     let law = g.S.TreeSink in
     let w = world_of law c.args.sink.now c.args.state.now in
-    let v = world_of law c.tell_error-then-not-is_node_in_scope.new.sink c.take_form.new.state in
+    let v = world_of law c.report_error-then-not-is_node_in_scope.new.sink c.take_form.new.state in
     let form = law.node c.in-Some.form in
     let scope : form_in_scope form w ≡ false = ap (λ (x : World). form_in_scope form x) (sym c.take_form.ensures.made.world) ∙ sym c.is_node_in_scope.ensures ∙ c.if-not-is_node_in_scope.true in
     record {
-      follows = subst (λ r. Follows law.choices law.node r (TagTurn (tag_text c.args.tag)) w v (errors_of law c.args.sink.now) (errors_of law c.tell_error-then-not-is_node_in_scope.new.sink) Done)
+      follows = subst (λ r. Follows law.choices law.node r (TagTurn (tag_text c.args.tag)) w v (errors_of law c.args.sink.now) (errors_of law c.report_error-then-not-is_node_in_scope.new.sink) Done)
           (sym (closes_unscoped form w (sym c.in-Some.ensures.form) scope))
           (record {
-            world = c.tell_error-then-not-is_node_in_scope.ensures.told.world ∙ c.take_form.ensures.made.world;
+            world = c.report_error-then-not-is_node_in_scope.ensures.told.world ∙ c.take_form.ensures.made.world;
             ending = refl;
             quiet = λ h. absurd (cc);
-            noted = λ h. c.tell_error-then-not-is_node_in_scope.ensures.noted;
+            noted = λ h. c.report_error-then-not-is_node_in_scope.ensures.noted;
           });
-      sound = c.tell_error-then-not-is_node_in_scope.ensures.told.sound c.take_form.ensures.made.sound;
+      sound = c.report_error-then-not-is_node_in_scope.ensures.told.sound c.take_form.ensures.made.sound;
     }
 
 pub remove_from_stack-requires-clause-element : goal.remove_from_stack-requires-clause-element

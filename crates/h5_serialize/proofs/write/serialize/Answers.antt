@@ -6,7 +6,7 @@ use Rattle.h5_serialize.proofs.EachLaws.{made_writes}
 use Rattle.h5_serialize.proofs.WalkLemmas.{IsWorking, made_parents, stopped_orphan, never_stopped}
 use Rattle.h5_serialize.proofs.write.serialize.Goals as goal
 
--- the fault that is answered is the walk's
+-- the error that is returned is the walk's
 same_fault : {A : Type 0} (r : Result A SerializeFault) (walked fault : SerializeFault) → IsErrAnd r (λ answered. answered ≡ walked) → IsErrOf r fault → walked ≡ fault
 same_fault (Ok x) walked fault h e = absurd h
 same_fault (Err answered) walked fault h e = cc

@@ -3,7 +3,7 @@ use Rattle.h5_tables.specs.declared.entry.FormatEntry.{FormatEntry}
 use Rattle.h5_state.specs.ListNumbers.{entry_number}
 use Rattle.h5_state.proofs.numbers.after_markers.Given as goal
 
--- what is passed is no marker
+-- a passed entry isn't a marker
 abbrev pub invariant-down : goal.invariant-down
 invariant-down g l = record {
   within : l.place ≤ length l.entries.items;

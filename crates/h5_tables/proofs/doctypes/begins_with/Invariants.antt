@@ -3,7 +3,7 @@ use Rattle.std.specs.Str.{str_to_ascii_lowercase}
 use Rattle.h5_tables.specs.Doctypes.{begins_with}
 use Rattle.h5_tables.proofs.doctypes.begins_with.Given as goal
 
--- the rest decides it
+-- the remaining bytes decide it
 abbrev pub invariant-loop-i : goal.invariant-loop-i
 invariant-loop-i l = record {
   within : l.i ≤ length l.text;

@@ -4,7 +4,7 @@ use denote.Shadow.{shadow}
 use Rattle.h5_tables.specs.MetaEncoding.{after_charset}
 use Rattle.h5_tables.proofs.meta_encoding.after_charset.Given as goal
 
--- the unread gives what the whole gives
+-- the unread text gives the result of the whole
 abbrev pub invariant-loop-n : goal.invariant-loop-n
 invariant-loop-n l = shadow (Utf8 l.unread) × (after_charset l.text ≡ after_charset l.unread)
 

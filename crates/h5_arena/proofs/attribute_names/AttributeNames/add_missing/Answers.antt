@@ -6,7 +6,7 @@ use Rattle.h5_arena.specs.AttributeNames.{AreNames}
 use Rattle.h5_arena.proofs.AttributeNameLaws.{names_of_all}
 use Rattle.h5_arena.proofs.attribute_names.AttributeNames.add_missing.Goals as goal
 
--- the names that were there are joined by those of the attributes that were added
+-- the names that were there, and those of the attributes that were added
 pub returns-in_default-clause-names : goal.returns-in_default-clause-names
 returns-in_default-clause-names c =
     let known = (rw (c.in-Some.is, c.as_slice.ensures.value) at c.in_ok-taken.ensures.taken) in

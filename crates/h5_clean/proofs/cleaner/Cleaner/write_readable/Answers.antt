@@ -6,7 +6,7 @@ use Rattle.h5_clean.specs.declared.cleaner.Front.TheVariants as front
 use Rattle.h5_clean.proofs.HandedLaws.{text_cleaned, text_told}
 use Rattle.h5_clean.proofs.cleaner.Cleaner.write_readable.Goals as goal
 
--- where no newline is written twice, a text loses its front
+-- if no newline is written twice, a text loses its start
 loses : (f : Front) (t : List ℕ) → (f ≡ front.Nothing) ⊎ (f ≡ front.Marks) → without_front f t ≡ behind_front f t
 loses f t (inl e) = ap (λ x. without_front x t) e ∙ sym (ap (λ x. behind_front x t) e)
 loses f t (inr e) = ap (λ x. without_front x t) e ∙ sym (ap (λ x. behind_front x t) e)

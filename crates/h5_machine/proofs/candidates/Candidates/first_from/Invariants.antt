@@ -3,7 +3,7 @@ use Rattle.h5_machine.specs.Numbered.{name_of}
 use Rattle.h5_machine.specs.Candidates.{IsRising, key_at}
 use Rattle.h5_machine.proofs.candidates.Candidates.first_from.Given as goal
 
--- what is left lies between two places
+-- what is left is between two indices
 pub record LiesBetween (depth from low high to least : ℕ) : Type 0 where
   pub begun : from ≤ low
   pub ordered : low ≤ high

@@ -1,4 +1,4 @@
--- Selectors that are nested have less room. What is called in one place stands lower in the grammar.
+-- Nested selectors have less room. A function called at the same place is lower in the grammar.
 use Rattle.std.proofs.Common.{◌≡◌, ◌+◌, ◌-◌, ◌*◌, map, option_map}
 use Rattle.h5_selectors.specs.Asking.{AskOr, asked}
 use Rattle.h5_selectors.specs.Grammar.{arguments_within, comma_next, commas_at, link_asked, link_next, links_at, repeated, selector_at, simple_next, simples_at}

@@ -1,5 +1,5 @@
 use Rattle.h5_arena.proofs.BelowLaws.{IsWalking, weight}
-use Rattle.h5_arena.proofs.tree.Arena.all_below.Given as goal
+use Rattle.h5_arena.proofs.tree.Arena.descendants_with_text.Given as goal
 
 abbrev pub invariant-loop-child : goal.invariant-loop-child
 invariant-loop-child l = IsWalking l.self l.fn.id.index l.found.items l.rest l.waiting.items

@@ -1,9 +1,9 @@
 use Rattle.std.proofs.Common.{◌≡◌, ◌∷◌, ◌∙◌, [], ap, codes, inl, inr, rules, sym}
 use Rattle.h5_tables.specs.TagSets.{is_one_of}
-use Rattle.h5_clean.specs.TextPolicy.{keepings, keeps_by}
+use Rattle.h5_clean.specs.DefaultPolicy.{keepings, keeps_by}
 use Rattle.h5_clean.proofs.NameLaws.{isnt_among}
 use Rattle.h5_clean.proofs.KeepingLaws.{isnt_kept}
-use Rattle.h5_clean.proofs.text_policy.is_kept_by.Goals as goal
+use Rattle.h5_clean.proofs.default_policy.is_kept_by.Goals as goal
 
 pub returns-in_default-matches : goal.returns-in_default-matches
 unfolding keepings
@@ -28,7 +28,7 @@ returns-in_default-matches-4 c =
 pub returns-in_default : goal.returns-in_default
 unfolding keepings
 returns-in_default c =
-    sym (isnt_kept c.args.element.now c.args.attribute.now keepings (c.in_default.not-a, (c.in_default.not-img, (c.in_default.not-td, (c.in_default.not-th, (c.in_default.not-col, (c.in_default.not-colgroup, (c.in_default.not-ol, (c.in_default.not-li, (c.in_default.not-time, (c.in_default.not-del, (c.in_default.not-ins, (c.in_default.not-data, tt)))))))))))))
+    sym (isnt_kept c.args.element.now c.args.attribute.now keepings (c.in_default.not-a, (c.in_default.not-img, (c.in_default.not-td, (c.in_default.not-th, (c.in_default.not-col, (c.in_default.not-colgroup, (c.in_default.not-ol, (c.in_default.not-li, (c.in_default.not-time, (c.in_default.not-del, (c.in_default.not-ins, (c.in_default.not-data, (c.in_default.not-details, (c.in_default.not-code, tt)))))))))))))))
 
 pub returns-in-time : goal.returns-in-time
 unfolding keepings
@@ -47,3 +47,21 @@ unfolding keepings
 returns-in-col c =
     let same : c.eq-in-col.result ≡ is_one_of (codes "span" ∷ []) c.args.attribute.now = search rules in
     elim c.in-col.is [ inl e ↦ same ∙ sym (ap (λ x. keeps_by keepings x c.args.attribute.now) e) | inr e ↦ same ∙ sym (ap (λ x. keeps_by keepings x c.args.attribute.now) e) ]
+
+pub returns-in-a : goal.returns-in-a
+unfolding keepings
+returns-in-a c =
+    let same : c.eq.result ≡ is_one_of (codes "href" ∷ []) c.args.attribute.now = search rules in
+    same ∙ sym (ap (λ x. keeps_by keepings x c.args.attribute.now) c.in-a.is)
+
+pub returns-in-details : goal.returns-in-details
+unfolding keepings
+returns-in-details c =
+    let same : c.eq-in-details.result ≡ is_one_of (codes "open" ∷ []) c.args.attribute.now = search rules in
+    same ∙ sym (ap (λ x. keeps_by keepings x c.args.attribute.now) c.in-details.is)
+
+pub returns-in-code : goal.returns-in-code
+unfolding keepings
+returns-in-code c =
+    let same : c.eq-in-code.result ≡ is_one_of (codes "class" ∷ []) c.args.attribute.now = search rules in
+    same ∙ sym (ap (λ x. keeps_by keepings x c.args.attribute.now) c.in-code.is)

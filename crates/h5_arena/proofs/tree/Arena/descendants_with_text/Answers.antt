@@ -2,7 +2,7 @@ use Rattle.std.proofs.Common.{ap, arith}
 use Rattle.std.proofs.lemmas.List.{nil_from_length}
 use Rattle.h5_arena.specs.ArenaModel.{child_view}
 use Rattle.h5_arena.proofs.BelowLaws.{begins, ends, enters, goes_up, less_entered, less_passed, less_up, node_entered, node_passed, passes, text_passed}
-use Rattle.h5_arena.proofs.tree.Arena.all_below.Goals as goal
+use Rattle.h5_arena.proofs.tree.Arena.descendants_with_text.Goals as goal
 
 pub loop-child-init : goal.loop-child-init
 loop-child-init c = rw c.new-found.ensures.items (rw c.new-waiting.ensures.items (begins c.args.self.now c.args.id c.children-rest.result.now c.children-rest.ensures.children c.children-rest.ensures.held))

@@ -1,7 +1,7 @@
 use Rattle.std.proofs.Common.{sym}
-use Rattle.h5_clean.specs.TextPolicy.{dropped_names}
+use Rattle.h5_clean.specs.DefaultPolicy.{dropped_names}
 use Rattle.h5_clean.proofs.NameLaws.{isnt_among}
-use Rattle.h5_clean.proofs.text_policy.is_dropped.Goals as goal
+use Rattle.h5_clean.proofs.default_policy.is_dropped.Goals as goal
 
 pub returns-in_default : goal.returns-in_default
 unfolding dropped_names

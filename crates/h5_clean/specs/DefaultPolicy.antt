@@ -1,18 +1,18 @@
--- The policy of texts: what a writer of comments, posts and pages needs.
-use Rattle.std.specs.Prelude.{ℕ, ◌==◌, nat_le, ◌&&◌, ◌||◌, Bool, true, false, not, List, [], ◌∷◌, ◌++◌, Option, Some, None, codes, if◌then◌else◌}
-use Rattle.std.specs.Char.{is_ascii_alphabetic, is_ascii_digit, to_ascii_lowercase}
+-- The policy for texts: what a writer of comments, posts and pages needs.
+use Rattle.std.specs.Prelude.{ℕ, ◌==◌, nat_eq, nat_le, ◌&&◌, ◌||◌, Bool, true, false, not, List, [], ◌∷◌, ◌++◌, Option, Some, None, codes, if◌then◌else◌}
+use Rattle.std.specs.Char.{is_ascii_alphabetic, is_ascii_digit, is_ascii_whitespace, to_ascii_lowercase}
+use Rattle.std.specs.List.{list_any, starts_with}
 use Rattle.h5_names.specs.AttributeText.{is_same_text}
 use Rattle.h5_tables.specs.TagSets.{is_one_of}
 use Rattle.h5_clean.specs.Kinds.{is_known, kind_of}
 use Rattle.h5_clean.specs.Policies.{Rules}
 
--- elements that have a kind and aren't named
+-- elements that have a kind and aren't allowed
 unfoldable pub unnamed : List (List ℕ)
 unnamed =
-    codes "center" ∷ codes "dialog" ∷ codes "dir" ∷ codes "fieldset" ∷ codes "big" ∷ codes "font" ∷ codes "strike" ∷ codes "tt" ∷
-    codes "label" ∷ codes "meter" ∷ codes "output" ∷ codes "progress" ∷ codes "menu" ∷ []
+    codes "center" ∷ codes "dialog" ∷ codes "dir" ∷ codes "fieldset" ∷ codes "big" ∷ codes "font" ∷ codes "label" ∷ codes "meter" ∷ codes "output" ∷ codes "progress" ∷ codes "menu" ∷ []
 
--- elements that go with all that they hold
+-- elements that are dropped with their content
 unfoldable pub dropped_names : List (List ℕ)
 dropped_names =
     codes "script" ∷ codes "style" ∷ codes "template" ∷ codes "iframe" ∷ codes "object" ∷ codes "embed" ∷ codes "applet" ∷
@@ -27,7 +27,7 @@ more_dropped_names =
 unfoldable pub global_names : List (List ℕ)
 global_names = codes "title" ∷ codes "lang" ∷ codes "dir" ∷ []
 
--- and those that some keep: an element, and attributes
+-- attributes that some elements keep: an element, and its attributes
 pub record Keeping : Type 0 where
   pub element : List ℕ
   pub attributes : List (List ℕ)
@@ -48,27 +48,43 @@ keepings =
     keeping (codes "time") (codes "datetime" ∷ []) ∷
     keeping (codes "del") (codes "datetime" ∷ []) ∷
     keeping (codes "ins") (codes "datetime" ∷ []) ∷
-    keeping (codes "data") (codes "value" ∷ []) ∷ []
+    keeping (codes "data") (codes "value" ∷ []) ∷
+    keeping (codes "details") (codes "open" ∷ []) ∷
+    keeping (codes "code") (codes "class" ∷ []) ∷ []
 
 abbrev pub keeps_by : List Keeping → (element attribute : List ℕ) → Bool
 keeps_by [] element attribute = false
 keeps_by (k ∷ ks) element attribute = if is_same_text k.element element then is_one_of k.attributes attribute else keeps_by ks element attribute
 
+-- elements that keep `align`, and elements that keep `cite`
+unfoldable pub aligned_names : List (List ℕ)
+aligned_names =
+    codes "td" ∷ codes "th" ∷ codes "p" ∷ codes "div" ∷ codes "img" ∷ codes "h1" ∷ codes "h2" ∷ codes "h3" ∷ codes "h4" ∷ codes "h5" ∷
+    codes "h6" ∷ []
+
+unfoldable pub citing_names : List (List ℕ)
+citing_names = codes "blockquote" ∷ codes "q" ∷ codes "del" ∷ codes "ins" ∷ []
+
+abbrev pub keeps_of_many : (element attribute : List ℕ) → Bool
+keeps_of_many element attribute =
+    if is_same_text attribute (codes "align") then is_one_of aligned_names element
+    else is_same_text attribute (codes "cite") && is_one_of citing_names element
+
 -- ---- URLs, as browsers read them (URL standard, section 4.4)
 
--- what stands behind C0 controls and spaces
+-- a URL without leading C0 controls and spaces
 abbrev pub behind_controls : List ℕ → List ℕ
 behind_controls [] = []
 behind_controls (b ∷ t) = if nat_le b 32 then behind_controls t else b ∷ t
 
--- TAB, LF and CR don't count
+-- TAB, LF and CR are skipped
 abbrev pub is_skipped : ℕ → Bool
 is_skipped b = (b == 9) || ((b == 10) || (b == 13))
 
 abbrev pub is_scheme_byte : ℕ → Bool
 is_scheme_byte b = is_ascii_alphabetic b || (is_ascii_digit b || ((b == 43) || ((b == 45) || (b == 46))))
 
--- the rest of a scheme, up to ':', behind what was read of it in lower case
+-- the scheme in lower case: what was read of it before, and the bytes up to ':'
 abbrev pub scheme_behind : (read : List ℕ) → List ℕ → Option (List ℕ)
 scheme_behind read [] = None
 scheme_behind read (b ∷ t) =
@@ -77,7 +93,7 @@ scheme_behind read (b ∷ t) =
     else (if is_scheme_byte b then scheme_behind (read ++ to_ascii_lowercase b ∷ []) t
     else None))
 
--- a scheme begins with a letter; where there is none the URL is relative
+-- a scheme begins with a letter; a URL without one is relative
 abbrev pub scheme_of_visible : List ℕ → Option (List ℕ)
 scheme_of_visible [] = None
 scheme_of_visible (b ∷ t) =
@@ -98,23 +114,30 @@ abbrev pub has_scheme_of : List (List ℕ) → Option (List ℕ) → Bool
 has_scheme_of schemes None = true
 has_scheme_of schemes (Some scheme) = is_one_of schemes scheme
 
--- where an attribute holds a URL, it is one that may be kept
-abbrev pub leads_well : (attribute value : List ℕ) → Bool
-leads_well attribute value =
-    if is_same_text attribute (codes "href") then has_scheme_of link_schemes (scheme_of value)
+-- a class that names the language of code: one word with this prefix
+abbrev pub is_language : List ℕ → Bool
+is_language value = starts_with nat_eq value (codes "language-") && not (list_any is_ascii_whitespace value)
+
+-- a URL has an allowed scheme; a class names a language
+abbrev pub is_good : (attribute value : List ℕ) → Bool
+is_good attribute value =
+    if is_same_text attribute (codes "href") || is_same_text attribute (codes "cite") then has_scheme_of link_schemes (scheme_of value)
     else (if is_same_text attribute (codes "src") then has_scheme_of image_schemes (scheme_of value)
-    else true)
+    else (if is_same_text attribute (codes "class") then is_language value
+    else true))
 
 abbrev pub keeps_attribute : (element attribute value : List ℕ) → Bool
-keeps_attribute element attribute value = (is_one_of global_names attribute || keeps_by keepings element attribute) && leads_well attribute value
+keeps_attribute element attribute value =
+    (is_one_of global_names attribute || (keeps_by keepings element attribute || keeps_of_many element attribute)) && is_good attribute value
 
--- what it says; `rel` keeps a page that is linked from the page that links it
-abbrev pub text_rules : Rules
-text_rules = record {
+-- the rules; `rel` separates a linked page from the page that links to it
+abbrev pub default_rules : Rules
+default_rules = record {
   names = λ name. is_known (kind_of name) && not (is_one_of unnamed name);
   drops = λ name. is_one_of dropped_names name || is_one_of more_dropped_names name;
   keeps = keeps_attribute;
   rel = Some (codes "noopener noreferrer");
   prefix = None;
+  around = record { in_p = false; in_heading = false; in_item = true; in_description = true; in_link = false };
   depth = 256;
 }

@@ -1,0 +1,29 @@
+//! The policy `github`.
+
+/// What GitHub allows in a README, after the list of its library `html-pipeline`, except elements that have no kind here (`ruby`, `rt`, `rp`).
+/// Ids and names get the prefix that GitHub gives them.
+pub const GITHUB: &str = r#"
+elements = ["h1", "h2", "h3", "h4", "h5", "h6", "br", "b", "i", "strong", "em", "a", "pre", "code", "img", "tt", "div",
+    "ins", "del", "sup", "sub", "p", "ol", "ul", "table", "thead", "tbody", "tfoot", "blockquote", "dl", "dt", "dd", "kbd",
+    "q", "samp", "var", "hr", "li", "tr", "td", "th", "s", "strike", "summary", "details", "caption", "figure",
+    "figcaption", "abbr", "bdo", "cite", "dfn", "mark", "small", "span", "time", "wbr"]
+attributes = ["abbr", "accept", "accept-charset", "accesskey", "action", "align", "alt", "aria-describedby", "aria-hidden",
+    "aria-label", "aria-labelledby", "axis", "border", "cellpadding", "cellspacing", "char", "charoff", "charset",
+    "checked", "clear", "cols", "colspan", "color", "compact", "coords", "datetime", "dir", "disabled", "enctype", "for",
+    "frame", "headers", "height", "hreflang", "hspace", "ismap", "label", "lang", "maxlength", "media", "method",
+    "multiple", "name", "nohref", "noshade", "nowrap", "open", "progress", "prompt", "readonly", "rel", "rev", "role",
+    "rows", "rowspan", "rules", "scope", "selected", "shape", "size", "span", "start", "summary", "tabindex", "target",
+    "title", "type", "valign", "value", "vspace", "width", "itemprop"]
+schemes = ["http", "https", "mailto", "xmpp", "github-windows", "github-mac", "irc", "ircs"]
+rel = "nofollow"
+prefix = "user-content-"
+
+[attributes-of]
+a = ["href"]
+img = ["src", "longdesc"]
+div = ["itemscope", "itemtype"]
+blockquote = ["cite"]
+del = ["cite"]
+ins = ["cite"]
+q = ["cite"]
+"#;
