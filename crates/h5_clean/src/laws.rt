@@ -11,11 +11,14 @@ ghost use Rattle.h5_rules.specs.Run.{View};
 ghost use Rattle.h5_rules.specs.Sound.{Fitting};
 ghost use Rattle.h5_plain.specs.Rebuilding.{HoldsDocument};
 ghost use Rattle.h5_plain.specs.Staying.{IsBox};
-ghost use Rattle.h5_round_trip.specs.Inside.{IsInData, StaysRead, text_before};
+ghost use Rattle.h5_round_trip.specs.Inside.{IsInData, ReadsOn, StaysRead, text_before};
+ghost use Rattle.h5_driver.specs.Boxes.{KeepsBox};
 ghost use Rattle.h5_driver.specs.Options.{default_options};
+ghost use Rattle.h5_driver.specs.Parsing.{IsParsing, Parsing, ProcessedAll, joined, text_of as text_read, view_of};
 ghost use Rattle.h5_driver.specs.PlainFragments.{FragmentStands, IsBodyContext};
 ghost use Rattle.h5_driver.specs.StandardTexts.{ParsesFragment};
 ghost use Rattle.h5_driver.specs.WholeTexts.{ParsesFragmentBy};
+ghost use Rattle.h5_driver.specs.Working.{after, replies};
 ghost use Rattle.h5_clean.specs.Cleaned.{BuildsFragment, IsClean, IsCleaned};
 ghost use Rattle.h5_standard.specs.Mark.{behind_mark};
 ghost use Rattle.h5_serialize.specs.Walk.{text_of_each};
@@ -31,7 +34,7 @@ ghost use Rattle.h5_clean.specs.Texts.{readable, without_marks};
 
 use h5_arena::laws::calls_stand_around_those_of_children;
 use h5_driver::Reader;
-use h5_driver::laws::{fragments_come_back, fragments_come_back_over};
+use h5_driver::laws::{fragments_come_back, fragments_come_back_over, pages_keep_boxes};
 use h5_round_trip::laws::standard::texts_stay_in_their_box;
 
 /// If a text is UTF-8, what is left of it is read back as it was written. If a text is read back like that, all of it
@@ -142,9 +145,25 @@ pub fn what_is_left_stays_in_its_box()
         (foreign : View → Bool) (place : ReaderPlace) (view : View) (box : IsBox (around (first_place rules)) view.world) (rest : List ℕ) →
         IsInData place → Fitting view.world → view.ended ≡ false → view.failed ≡ false → rest ≢ []
         → (text_before (cleaned rules cleaned_is.source) rest ≡ out ++ rest)
-        × StaysRead choices foreign place view (around (first_place rules)) box (cleaned rules cleaned_is.source) rest }
+        × StaysRead IsInData (ReadsOn (replies choices) (after choices) foreign) place view (around (first_place rules)) box (cleaned rules cleaned_is.source) rest }
 {
     texts_stay_in_their_box();
+}
+
+/// If `out` is what the rules leave of `html`, and a parser has taken the front of a page in any chunks, is in the data
+/// state, and its builder is at an element in which no more is open than the rules say (`IsBox`), then `out` changes
+/// nothing of the page but that element, which gets the allowed tree: what follows is built from the same open elements,
+/// mode and list of active formatting elements as without `out`. This holds for any `Reader`.
+pub fn what_is_left_stays_in_a_page<R: Reader>()
+    ensures { (rules : Rules) (html out : List ℕ) (cleaned_is : IsCleaned rules html out)
+        (chunks : List (List ℕ)) (first now : Parsing R) (box : IsBox (around (first_place rules)) (view_of R.Reader now).world) (rest : List ℕ) →
+        ProcessedAll R.Reader chunks first now → IsParsing R.Reader first → first.failed ≡ false → IsParsing R.Reader now → now.failed ≡ false → now.waiting ≡ []
+        → R.IsInData (text_read R.Reader now) → rest ≢ []
+        → (text_before (cleaned rules cleaned_is.source) rest ≡ out ++ rest)
+        × KeepsBox R.IsInData R.Readings R.Reads R.Sink.choices (text_read R.Reader first) (view_of R.Reader first) (first.waiting ++ joined chunks)
+        (text_read R.Reader now) (view_of R.Reader now) (around (first_place rules)) box (cleaned rules cleaned_is.source) rest }
+{
+    pages_keep_boxes::<R>();
 }
 
 /// If a result is cleaned again by the same rules, it doesn't change.

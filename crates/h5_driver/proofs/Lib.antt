@@ -1,4 +1,5 @@
 pub mod BeginningLaws
+pub mod BoxLaws
 pub mod ByteLaws
 pub mod FaultLaws
 pub mod FragmentLaws

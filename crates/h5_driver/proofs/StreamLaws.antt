@@ -10,10 +10,10 @@ use Rattle.h5_driver.proofs.ReadingLaws.{nothing_read, parses_behind, piece_take
 
 module _ {R S H O : Type 0} (reader : Ghosts R S H O) {choices : SinkChoices} (law : AreReadings choices reader.first reader.Readings reader.Reads) where
   -- what was read from a tokenizer, a view and an input, up to this parser
-  abbrev UpTo : reader.Text → View → List ℕ → Parsing R → Type 0
+  abbrev pub UpTo : reader.Text → View → List ℕ → Parsing R → Type 0
   UpTo r v xs p = Advances reader.Readings r v xs (text_of reader p) (view_of reader p) p.waiting
 
-  advance : (r : reader.Text) (v : View) (xs : List ℕ) (texts : List (List ℕ)) (old new : Parsing R) → UpTo r v xs old → ProcessedAll reader texts old new → UpTo r v (xs ++ joined texts) new
+  pub advance : (r : reader.Text) (v : View) (xs : List ℕ) (texts : List (List ℕ)) (old new : Parsing R) → UpTo r v xs old → ProcessedAll reader texts old new → UpTo r v (xs ++ joined texts) new
   advance r v xs [] old new a e = subst (λ ys. UpTo r v ys new) (sym (append-nil xs)) (subst (UpTo r v xs) e a)
   advance r v xs (text ∷ texts) old new a (now, (took, rest)) =
       subst (λ ys. UpTo r v ys new) (append_assoc xs text (joined texts)) (advance r v (xs ++ text) texts now new (piece_taken law text a took.advances took.none_waits) rest)

@@ -1,3 +1,4 @@
+pub mod Boxes
 pub mod Bytes
 pub mod Fragments
 pub mod KeptReadings

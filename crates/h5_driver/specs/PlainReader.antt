@@ -1,5 +1,5 @@
 -- The plain tokenizer over a builder.
-use Rattle.std.specs.Prelude.{ℕ, List, [], ◌++◌, length}
+use Rattle.std.specs.Prelude.{◌≡◌, ℕ, List, [], ◌++◌, length}
 use Rattle.h5_token.specs.TokenText.{TokenText}
 use Rattle.h5_interface.specs.SinkChoices.{SinkChoices}
 use Rattle.h5_rules.specs.Run.{View}
@@ -11,6 +11,7 @@ use Rattle.h5_tokenizer.specs.ReaderText.{ReaderText}
 use Rattle.h5_tokenizer.specs.Whole as whole
 use Rattle.h5_tokenizer.specs.declared.front.Mode.{Mode}
 use Rattle.h5_tokenizer.specs.declared.front.Mode.TheVariants.{RawData}
+use Rattle.h5_round_trip.specs.Inside.{IsInPlainData}
 use Rattle.h5_driver.specs.Working.{after, ended, foreign, replies}
 
 -- before it has read anything
@@ -24,6 +25,11 @@ IsRawMode mode = ⊥
 
 abbrev pub IsRaw : ReaderText → Type 0
 IsRaw r = IsRawMode r.place.mode
+
+-- in the data state, where a byte order mark would be text, and it holds nothing
+pub record IsInData (r : ReaderText) : Type 0 where
+  pub holds_none : r.held ≡ []
+  pub place : IsInPlainData r.place
 
 -- what it holds is undecided
 abbrev pub IsUndecided : ReaderText → View → Type 0

@@ -2,7 +2,6 @@
 use Rattle.std.specs.Prelude.{◌≡◌, ◌++◌, ℕ, List, [], Option, Some, None}
 use Rattle.std.proofs.Common.{refl, ap, sym, subst, ◌∙◌, append_assoc}
 use Rattle.std.proofs.lemmas.List.{append-nil}
-use Rattle.h5_token.specs.Reply.{Reply}
 use Rattle.h5_token.specs.TokenText.{TokenText}
 use Rattle.h5_interface.specs.SinkChoices.{SinkChoices}
 use Rattle.h5_rules.specs.Run.{IsFitting, View, after_all, run}
@@ -12,13 +11,17 @@ use Rattle.h5_plain.proofs.kept.FittingLaws.{token_fitting}
 use Rattle.h5_reading.specs.Lines.{line_behind}
 use Rattle.h5_tokenizer.specs.End.{settle}
 use Rattle.h5_tokenizer.specs.Front.{ReaderPlace}
-use Rattle.h5_tokenizer.specs.Read.{Read, Step, marked, nothing_read, read_on, switch_step, text_step, token_step, unmarked}
 use Rattle.h5_tokenizer.specs.Whole.{Readings, ReadsToEnd, after_closing, closing, more_reading, no_reading}
 use Rattle.h5_tokenizer.proofs.KeptLaws.{readings_agree}
 use Rattle.h5_tokenizer.proofs.WholeLaws.{readings_go_on}
+use Rattle.h5_tokenizer.specs.ReaderText.{ReaderText}
+use Rattle.h5_reading.proofs.AnswerLaws.{unrefused}
+use Rattle.h5_round_trip.proofs.InsideLaws.{read_runs, texts_stay}
 use Rattle.h5_round_trip.proofs.ReadingLaws.{document_read, fragment_read}
 use Rattle.h5_round_trip.proofs.ShapeLaws.{shape}
 use Rattle.h5_plain.specs.Plain.{fragment_tokens}
+use Rattle.h5_plain.specs.Staying.{standing, tokens_of}
+use Rattle.h5_round_trip.specs.Inside.{TextsStayRead, text_before}
 use Rattle.h5_driver.specs.PlainReader as reader
 use Rattle.h5_driver.specs.Reading.{AreReadings}
 use Rattle.h5_driver.specs.Working.{after, ended, foreign, replies}
@@ -28,19 +31,6 @@ abbrev ReadsAt : SinkChoices → ReaderPlace → View → List ℕ → List Toke
 ReadsAt choices p v xs ts n = ReadsToEnd (replies choices) (after choices) foreign (ended choices) p v xs ts n
 
 -- the meaning afterwards is what the run of the tokens leaves
-step_runs : (choices : SinkChoices) {p : ReaderPlace} {m : View} {xs : List ℕ} {ts : List TokenText} {reply : Reply} {q : ReaderPlace} {n : View} {ys : List ℕ} → Step (replies choices) (after choices) foreign p m xs ts reply q n ys → n ≡ after_all choices ts m
-unfolding run
-step_runs choices (marked e f) = refl
-step_runs choices (unmarked e f) = refl
-step_runs choices (token_step token e f) = refl
-step_runs choices (switch_step mode e f) = refl
-step_runs choices (text_step text e l b) = refl
-
-read_runs : (choices : SinkChoices) {p : ReaderPlace} {m : View} {xs : List ℕ} {ts : List TokenText} {reply : Reply} {q : ReaderPlace} {n : View} {ys : List ℕ} → Read (replies choices) (after choices) foreign p m xs ts reply q n ys → n ≡ after_all choices ts m
-unfolding run
-read_runs choices nothing_read = refl
-read_runs choices {m = m} (read_on {ts = ts} {us = us} r g s) = step_runs choices s ∙ ap (after_all choices us) (read_runs choices r) ∙ sym (view_joins choices ts us m)
-
 readings_run : (choices : SinkChoices) {p q : ReaderPlace} {m n : View} {xs ys : List ℕ} {ts : List TokenText} → Readings (replies choices) (after choices) foreign p m xs ts q n ys → n ≡ after_all choices ts m
 unfolding run
 readings_run choices no_reading = refl
@@ -92,3 +82,24 @@ are_readings choices = record {
   documents = λ d v readable answers. document_read (replies choices) (after choices) foreign (ended choices) d v readable answers;
   fragments = λ nodes v plain readable unmarked cuts answers. (fragment_tokens nodes, (refl, fragment_read (replies choices) (after choices) foreign (ended choices) nodes v (shape nodes plain) readable unmarked answers));
 }
+
+-- the text of nodes stays in its box
+pub texts_stay_here : (choices : SinkChoices) → TextsStayRead reader.IsInData (reader.Readings choices)
+texts_stay_here choices r v o b nodes rest h fits unended unfailed plain readable some =
+    let s = texts_stay choices foreign r.place v o b nodes rest h.place fits unended unfailed plain readable some in
+    let now : ReaderText = record { place = s.place; held = []; stage = r.stage } in
+    let text = text_before nodes rest in
+    record {
+      place = now;
+      is_in = record { holds_none = refl; place = s.is_in };
+      forest = s.forest;
+      ok = s.ok;
+      saved = s.saved;
+      reads =
+          subst (λ held. Readings (replies choices) (after choices) foreign r.place v (held ++ text) (tokens_of nodes) s.place (standing v s.forest s.ok s.saved) rest) (sym h.holds_none)
+          (more_reading no_reading s.reads.1.1 (unrefused s.reads.0 s.reads.1.0));
+      added = s.added;
+      looks = s.looks;
+      stands = s.stands;
+      changes = s.changes;
+    }

@@ -1,5 +1,5 @@
 -- The standard tokenizer over a builder.
-use Rattle.std.specs.Prelude.{ℕ, List, ◌++◌}
+use Rattle.std.specs.Prelude.{◌≡◌, ℕ, false, List, ◌++◌}
 use Rattle.h5_token.specs.TokenText.{TokenText}
 use Rattle.h5_interface.specs.SinkChoices.{SinkChoices}
 use Rattle.h5_rules.specs.Run.{View}
@@ -12,6 +12,7 @@ use Rattle.h5_standard.specs.Mark.{behind_mark}
 use Rattle.h5_standard.specs.Options.{first_place}
 use Rattle.h5_standard.specs.ReaderText.{ReaderText}
 use Rattle.h5_standard.specs.Weight.{weight}
+use Rattle.h5_round_trip.specs.Inside as inside
 use Rattle.h5_driver.specs.Working.{after, ended, foreign, replies}
 
 -- before it has read anything
@@ -21,6 +22,11 @@ first opts = record { at_start = opts.discard_bom; place = first_place opts; sta
 -- states in which everything is text except the end tag of the current raw element
 abbrev pub IsRaw : ReaderText → Type 0
 IsRaw r = states.IsRaw r.place.state
+
+-- in the data state, where a byte order mark would be text
+pub record IsInData (r : ReaderText) : Type 0 where
+  pub started : r.at_start ≡ false
+  pub place : inside.IsInData r.place
 
 -- it holds nothing
 abbrev pub IsUndecided : ReaderText → View → Type 0

@@ -1,21 +1,27 @@
 -- Laws of readings by the standard tokenizer over a builder.
-use Rattle.std.specs.Prelude.{◌≡◌, ◌++◌, ℕ, List, [], ◌∷◌}
+use Rattle.std.specs.Prelude.{◌≡◌, ◌++◌, ℕ, false, List, [], ◌∷◌}
 use Rattle.std.proofs.Common.{refl, ap, sym, subst, ◌∙◌, append_assoc, append-nil}
-use Rattle.h5_token.specs.Reply.{Reply}
 use Rattle.h5_token.specs.TokenText.{TokenText, EndOfFile}
 use Rattle.h5_interface.specs.SinkChoices.{SinkChoices}
 use Rattle.h5_rules.specs.Run.{IsFitting, View, after_all, after_token, run}
 use Rattle.h5_plain.proofs.cuts.JoinLaws.{view_joins}
 use Rattle.h5_plain.proofs.cuts.RunLaws.{token_cut}
 use Rattle.h5_plain.proofs.kept.FittingLaws.{token_fitting}
+use Rattle.h5_plain.specs.Staying.{standing, tokens_of}
+use Rattle.h5_reading.proofs.AnswerLaws.{unrefused}
 use Rattle.h5_reading.specs.Told as told
 use Rattle.h5_states.specs.End.{last_tokens}
 use Rattle.h5_states.specs.ReferenceTable.{references}
-use Rattle.h5_states.specs.Reading.{ReaderPlace, Step, quiet_step, text_step, token_step, ask_step, Read, nothing_read, read_on}
+use Rattle.h5_states.specs.Reading.{ReaderPlace}
 use Rattle.h5_states.specs.Whole.{Readings, ReadsToEnd, more_reading, no_reading}
+use Rattle.h5_round_trip.proofs.standard.InsideLaws.{read_runs, texts_stay}
 use Rattle.h5_round_trip.proofs.standard.ReadingLaws.{document_read, fragment_read}
 use Rattle.h5_round_trip.proofs.ShapeLaws.{shape}
+use Rattle.h5_round_trip.specs.Inside.{TextsStayRead, text_before}
+use Rattle.h5_standard.specs.Mark.{behind_mark}
 use Rattle.h5_standard.specs.Options.{first_place}
+use Rattle.h5_standard.specs.ReaderText.{ReaderText}
+use Rattle.h5_states.proofs.ReadLaws.{read_goes_on}
 use Rattle.h5_reading.specs.Options.{default_options}
 use Rattle.h5_driver.specs.KeptReadings.{readings_agree}
 use Rattle.h5_driver.specs.Reading.{AreReadings}
@@ -31,18 +37,6 @@ abbrev ReadsAt : SinkChoices → ReaderPlace → View → List ℕ → List Toke
 ReadsAt choices p v xs ts n = ReadsToEnd references (replies choices) (after choices) foreign (ended choices) p v xs ts n
 
 -- the meaning afterwards is what the run of the tokens leaves
-step_runs : (choices : SinkChoices) {p : ReaderPlace} {m : View} {xs : List ℕ} {ts : List TokenText} {reply : Reply} {q : ReaderPlace} {n : View} {ys : List ℕ} → Step references (replies choices) (after choices) foreign p m xs ts reply q n ys → n ≡ after_all choices ts m
-unfolding run
-step_runs choices (quiet_step h) = refl
-step_runs choices (text_step h) = refl
-step_runs choices (token_step token state d e) = refl
-step_runs choices (ask_step there error elsewhere d e) = refl
-
-read_runs : (choices : SinkChoices) {p : ReaderPlace} {m : View} {xs : List ℕ} {ts : List TokenText} {reply : Reply} {q : ReaderPlace} {n : View} {ys : List ℕ} → Read references (replies choices) (after choices) foreign p m xs ts reply q n ys → n ≡ after_all choices ts m
-unfolding run
-read_runs choices nothing_read = refl
-read_runs choices {m = m} (read_on {ts = ts} {us = us} r g s) = step_runs choices s ∙ ap (after_all choices us) (read_runs choices r) ∙ sym (view_joins choices ts us m)
-
 readings_run : (choices : SinkChoices) {p q : ReaderPlace} {m n : View} {xs ys : List ℕ} {ts : List TokenText} → ReadingsAt choices p m xs ts q n ys → n ≡ after_all choices ts m
 unfolding run
 readings_run choices no_reading = refl
@@ -102,3 +96,24 @@ are_readings choices = record {
       let r = fragment_read (replies choices) (after choices) foreign (ended choices) nodes v (shape nodes plain) readable cuts answers in
       (r.tokens, (r.joined, (r.meaning, subst (λ xs. ReadsAt choices (first_place default_options) v xs r.tokens r.meaning) (sym unmarked) r.reads)));
 }
+
+-- the text of nodes stays in its box, whatever follows the remainder
+pub texts_stay_here : (choices : SinkChoices) → TextsStayRead reader.IsInData (reader.Readings choices)
+texts_stay_here choices r v o b nodes rest h fits unended unfailed plain readable some =
+    let s = texts_stay choices foreign r.place v o b nodes rest h.place fits unended unfailed plain readable some in
+    let now : ReaderText = record { at_start = false; place = s.place; stage = r.stage } in
+    let text = text_before nodes rest in
+    record {
+      place = now;
+      is_in = record { started = refl; place = s.is_in };
+      forest = s.forest;
+      ok = s.ok;
+      saved = s.saved;
+      reads = λ more.
+          subst (λ b. ReadingsAt choices r.place v (behind_mark b (text ++ more)) (tokens_of nodes) s.place (standing v s.forest s.ok s.saved) (rest ++ more)) (sym h.started)
+          (more_reading no_reading (read_goes_on references (replies choices) (after choices) foreign more s.reads.1.1) (unrefused s.reads.0 s.reads.1.0));
+      added = s.added;
+      looks = s.looks;
+      stands = s.stands;
+      changes = s.changes;
+    }

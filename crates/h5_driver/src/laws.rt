@@ -4,6 +4,7 @@ ghost use Rattle.std.specs.Str.Lossy.{utf8_lossy};
 ghost use Rattle.h5_interface.specs.Seen.{Seen};
 ghost use Rattle.h5_interface.specs.SinkChoices.{SinkChoices};
 ghost use Rattle.h5_rules.specs.Run.{View};
+ghost use Rattle.h5_driver.specs.Boxes.{PagesKeepBoxes};
 ghost use Rattle.h5_driver.specs.Bytes.{ParsingBytes, ProcessedAllBytes};
 ghost use Rattle.h5_driver.specs.Parsing.{Parsing, ProcessedAll, joined, text_of, view_of};
 ghost use Rattle.h5_driver.specs.PlainDocuments.{BringsBack};
@@ -61,4 +62,13 @@ pub fn fragments_come_back()
 /// The law `fragments_come_back` for every tokenizer, including the plain one.
 pub fn fragments_come_back_over<R: Reader>()
     ensures { FragmentsComeBackBy R.Reads R.first R.Sink.choices }
+{}
+
+/// If a parser has taken the front of a page, it is in the data state, and its builder is at an element that takes nodes of
+/// flow (`IsBox`), then the text of nodes that fit there changes nothing of the page but that element: without and with the
+/// text, what is built from the page is what is built from the remainder, which must not be empty, by a tokenizer in the
+/// data state over the same open elements, mode and list of active formatting elements. With the text, the nodes follow
+/// that element's children. This holds for any chunks.
+pub fn pages_keep_boxes<R: Reader>()
+    ensures { PagesKeepBoxes R.Reader R.Sink.choices }
 {}

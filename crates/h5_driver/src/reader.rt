@@ -6,6 +6,7 @@ ghost use Rattle.h5_reading.specs.declared.stage.Stage.{Stage};
 ghost use Rattle.h5_reading.specs.declared.stage.Stage.TheVariants.{Reading};
 ghost use Rattle.h5_rules.specs.Run.{View};
 ghost use Rattle.h5_tree_builder.specs.Builder.{Building};
+ghost use Rattle.h5_round_trip.specs.Inside.{TextsStayRead};
 ghost use Rattle.h5_driver.specs.Reading.{Advances, AreReadings, IsReadToEnd};
 ghost use Rattle.h5_driver.specs.Working.{IsWorking};
 
@@ -36,6 +37,9 @@ pub trait Reader {
 
     // It emits only texts, and then the end tag of the current raw element.
     ghost IsRaw: { Text → Type 0 };
+
+    // It is in the data state, right after a tag, say: it holds no input, and a byte order mark would be text.
+    ghost IsInData: { Text → Type 0 };
 
     // The input that it holds isn't decided yet.
     ghost IsUndecided: { Text → View → Type 0 };
@@ -85,4 +89,7 @@ pub trait Reader {
         ensures text { text self.new ≡ text self.old };
 
     ghost lawful: { AreReadings Self.Sink.choices first Readings Reads };
+
+    // The text of nodes that fit into an element of a page stays in it.
+    ghost texts_stay: { TextsStayRead IsInData Readings };
 }

@@ -42,7 +42,7 @@ impl<Handle: Drop, Sink: TreeSink<Handle = Handle> + Drop> Reader
     ghost use Rattle.h5_tree_builder.specs.Held as held;
     ghost use Rattle.h5_standard.specs.ReaderText.{ReaderText};
     ghost use Rattle.h5_driver.specs.StandardReader as reader;
-    ghost use Rattle.h5_driver.specs.StandardReaderLaws.{are_readings};
+    ghost use Rattle.h5_driver.specs.StandardReaderLaws.{are_readings, texts_stay_here};
 
     type Sink = Sink;
 
@@ -58,6 +58,8 @@ impl<Handle: Drop, Sink: TreeSink<Handle = Handle> + Drop> Reader
 
     ghost IsRaw = { reader.IsRaw };
 
+    ghost IsInData = { reader.IsInData };
+
     ghost IsUndecided = { reader.IsUndecided };
 
     ghost Readings = { reader.Readings Sink.choices };
@@ -67,6 +69,8 @@ impl<Handle: Drop, Sink: TreeSink<Handle = Handle> + Drop> Reader
     ghost left = { reader.left };
 
     ghost lawful = { are_readings Sink.choices };
+
+    ghost texts_stay = { texts_stay_here Sink.choices };
 
     fn feed(&mut self, input: &mut BufferQueue) -> Result<TokenizerResult<Handle>, BuildFault> {
         is_whole(input);

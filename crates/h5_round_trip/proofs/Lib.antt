@@ -8,6 +8,7 @@ pub mod DoubledLaws
 mod MarkLaws
 pub mod ReadingLaws
 pub mod JoinedLaws
+pub mod InsideLaws
 pub mod WrittenLaws
 pub mod TellsLaws
 pub mod standard

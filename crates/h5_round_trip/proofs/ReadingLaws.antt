@@ -280,3 +280,21 @@ module _ {M : Type 0} (reply_to : M → TokenText → Reply) (after : M → Toke
   pub fragment_read : {b : Bool} (ns : Nodes) (m : M) → Shape b ns → CanBeRead ns → behind_mark true (written_fragment ns) ≡ written_fragment ns → Answers reply_to after m (fragment_tokens ns)
       → (n : M) × ReadsToEnd reply_to after foreign ended (first_place default_options) m (written_fragment ns) (fragment_tokens ns) n
   fragment_read ns m shape readable same answers = nodes_read (as_written ns) m (shape_written shape) (read_written ns readable) same answers
+
+  -- in the middle of an input, the text of nodes is read as their tokens, from data to data
+  pub nodes_inside : {b : Bool} (ns : Nodes) (p : ReaderPlace) (m : M) (rest : List ℕ) → Shape b ns → CanBeRead ns → In false p → Answers reply_to after m (tokens_before ns [])
+      → Reached p m (written_before ns rest) (tokens_before ns []) false [] rest
+  nodes_inside ns p m rest shape readable is answers =
+      let xs = written_before ns rest in
+      let first : Reached p m xs (tokens_before ns []) false (tokens_before ns []) xs = record {
+        place = p;
+        meaning = m;
+        handed = [];
+        reply = Continues;
+        goes = refl;
+        read = nothing_read;
+        is_in = is;
+        answers = answers;
+        whole = refl;
+      } in
+      nodes_taken p m xs (tokens_before ns []) ns [] rest shape readable first

@@ -2,6 +2,7 @@
 ghost use Rattle.std.specs.Prelude.{◌≡◌, ℕ, true, false, None, List};
 ghost use Rattle.h5_token.specs.Joins.{join};
 ghost use Rattle.h5_interface.specs.Forest.{Forest, IsForest};
+ghost use Rattle.h5_interface.specs.SinkChoices.{SinkChoices};
 ghost use Rattle.h5_markup.specs.Text.{text_of};
 ghost use Rattle.h5_reading.specs.Options.{default_options};
 ghost use Rattle.h5_tokenizer.specs.Options.{first_place};
@@ -15,6 +16,7 @@ ghost use Rattle.h5_arena.specs.NodeCalls.{walk_of};
 ghost use Rattle.h5_plain.specs.Plain.{Flow, IsPlain, Nodes, PlainDocument, document_tokens, fragment_tokens, nothing_open, root_of};
 ghost use Rattle.h5_plain.specs.Rebuilding.{DocumentStands};
 ghost use Rattle.h5_round_trip.specs.Answers.{Answers};
+ghost use Rattle.h5_round_trip.specs.Inside.{PlainTextsStay};
 ghost use Rattle.h5_round_trip.specs.Readable.{CanBeRead, IsReadable, IsReadableDocument};
 ghost use Rattle.h5_round_trip.specs.Written.{KeepsNewlines, serialized_of, written_fragment, written_of};
 
@@ -63,4 +65,11 @@ pub fn fragments_are_read<S: TokenSink>()
     ensures { (nodes : Nodes) (m : S.Meaning) → IsPlain true (Flow false nothing_open) nodes → CanBeRead nodes
         → behind_mark true (written_fragment nodes) ≡ written_fragment nodes → Answers S.reply_to S.after m (fragment_tokens nodes)
         → (n : S.Meaning) × ReadsToEnd S.reply_to S.after S.is_foreign S.ended (first_place default_options) m (written_fragment nodes) (fragment_tokens nodes) n }
+{}
+
+/// If the plain tokenizer is in the data state, over a builder in the middle of a page at an element that takes nodes of
+/// flow, it reads the text of nodes that fit there up to the remainder, which must not be empty. It is then in the data
+/// state, and the builder is as before, except that the nodes follow that element's children.
+pub fn texts_stay_in_their_box()
+    ensures { (choices : SinkChoices) → PlainTextsStay choices }
 {}
