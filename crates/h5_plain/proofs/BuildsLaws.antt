@@ -108,7 +108,7 @@ hidden locals n names i s =
     ∙ ap (λ x. cond x None (newest_item locals names)) s
 
 -- inside of an element through which items are seen, and of one that hides them
-fits_within : {at_root : Option Role} (o : Around) (m : InsertionMode) (name : List ℕ) (names : List QualName) → IsSeen false name → FitsFlow at_root o m names → FitsFlow at_root (within o) m (html_name name ∷ names)
+pub fits_within : {at_root : Option Role} (o : Around) (m : InsertionMode) (name : List ℕ) (names : List QualName) → IsSeen false name → FitsFlow at_root o m names → FitsFlow at_root (within o) m (html_name name ∷ names)
 fits_within o m name names k f = record {
   goes = f.goes;
   resets = resets_below (html_name name) names k.role f.resets;
@@ -119,7 +119,7 @@ fits_within o m name names k f = record {
   unselected = more_select (html_name name) names k.no_select f.unselected;
 }
 
-fits_behind : {at_root : Option Role} (o : Around) (m : InsertionMode) (name : List ℕ) (names : List QualName) → IsSeen true name → FitsFlow at_root o m names → FitsFlow at_root (behind o) m (html_name name ∷ names)
+pub fits_behind : {at_root : Option Role} (o : Around) (m : InsertionMode) (name : List ℕ) (names : List QualName) → IsSeen true name → FitsFlow at_root o m names → FitsFlow at_root (behind o) m (html_name name ∷ names)
 fits_behind o m name names k f = record {
   goes = f.goes;
   resets = resets_below (html_name name) names k.role f.resets;
@@ -176,7 +176,7 @@ fits_in_heading o m name names k f =
     }
 
 -- of a `li`, and of a `dd` or `dt`
-fits_in_item : {at_root : Option Role} (o : Around) (m : InsertionMode) (names : List QualName) → FitsFlow at_root o m names → FitsFlow at_root (record (behind o) { in_item = true }) m (html_name (codes "li") ∷ names)
+pub fits_in_item : {at_root : Option Role} (o : Around) (m : InsertionMode) (names : List QualName) → FitsFlow at_root o m names → FitsFlow at_root (record (behind o) { in_item = true }) m (html_name (codes "li") ∷ names)
 fits_in_item o m names f =
     let n = html_name (codes "li") in
     let s = item_seen in
@@ -190,7 +190,7 @@ fits_in_item o m names f =
       unselected = more_select n names s.1.1.1.1.0 f.unselected;
     }
 
-fits_in_term : {at_root : Option Role} (o : Around) (m : InsertionMode) (name : List ℕ) (names : List QualName) → IsTermName name → FitsFlow at_root o m names → FitsFlow at_root (record (behind o) { in_description = true }) m (html_name name ∷ names)
+pub fits_in_term : {at_root : Option Role} (o : Around) (m : InsertionMode) (name : List ℕ) (names : List QualName) → IsTermName name → FitsFlow at_root o m names → FitsFlow at_root (record (behind o) { in_description = true }) m (html_name name ∷ names)
 fits_in_term o m name names k f =
     let n = html_name name in
     record {
@@ -215,16 +215,16 @@ body_fits at_root m e = subst (λ k. Fits at_root (Flow false nothing_open) k (b
     (record { goes = TheBody; resets = λ s q. refl; no_p = λ q. refl; no_heading = λ q. refl; no_item = λ q. refl; no_description = λ q. refl; unselected = refl })
 
 -- what a table and its parts hold may come in them
-in_table : (at_root : Option Role) (names : List QualName) → Fits at_root (Part false Sections) InTable (html_name (codes "table") ∷ names)
+pub in_table : (at_root : Option Role) (names : List QualName) → Fits at_root (Part false Sections) InTable (html_name (codes "table") ∷ names)
 unfolding is_table_scope html_namespace table_scope_names is_table_outer table_outer_names
 in_table at_root names = (refl, (refl, refl))
 
-in_row : (at_root : Option Role) (names : List QualName) → Fits at_root (Part false Cells) InRow (html_name (codes "tr") ∷ names)
+pub in_row : (at_root : Option Role) (names : List QualName) → Fits at_root (Part false Cells) InRow (html_name (codes "tr") ∷ names)
 unfolding is_table_row_context html_namespace table_row_context_names is_table_outer table_outer_names
 in_row at_root names = (refl, (refl, refl))
 
 -- nodes of flow may come in a cell, in which nothing is open: it ends the scope of a `p`, and hides items
-in_a_cell : (at_root : Option Role) (name : List ℕ) (names : List QualName) → IsCellName name → first_passes is_table_row_context names ≡ true → Fits at_root (Flow false nothing_open) InCell (html_name name ∷ names)
+pub in_a_cell : (at_root : Option Role) (name : List ℕ) (names : List QualName) → IsCellName name → first_passes is_table_row_context names ≡ true → Fits at_root (Flow false nothing_open) InCell (html_name name ∷ names)
 in_a_cell at_root name names k h =
     let n = html_name name in
     record {
@@ -239,7 +239,7 @@ in_a_cell at_root name names k h =
           ∙ ap (λ b. cond b false (no_select names)) k.ends_default;
     }
 
-in_a_caption : (at_root : Option Role) (names : List QualName) → first_passes is_table_scope names ≡ true → Fits at_root (Flow false nothing_open) InCaption (html_name (codes "caption") ∷ names)
+pub in_a_caption : (at_root : Option Role) (names : List QualName) → first_passes is_table_scope names ≡ true → Fits at_root (Flow false nothing_open) InCaption (html_name (codes "caption") ∷ names)
 in_a_caption at_root names h =
     let n = html_name (codes "caption") in
     let k = caption in

@@ -194,7 +194,7 @@ module _ (choices : SinkChoices) (w : World) (p : ℕ) (d : Face) (name : List �
     pub unlisted : (n : ℕ) → is_in n (nodes_of w.formatting) ≡ false → n ≢ new → is_in n (nodes_of l) ≡ false
 
   module _ {at_root : Option Role} {names : List QualName} {path : List OpenFormat} {under : List ℕ} {base : List Entry} (c : Calm at_root w p d names path under base) (o : Opens) where
-    calm_inside : Calm at_root inside new (face name attrs) (html_name name ∷ names) path1 under1 base1
+    pub calm_inside : Calm at_root inside new (face name attrs) (html_name name ∷ names) path1 under1 base1
     calm_inside =
         let below = calm_below choices c name attrs o.no_template in
         record {

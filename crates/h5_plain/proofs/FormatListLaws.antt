@@ -6,7 +6,7 @@ use Rattle.h5_token.specs.TokenText.{TagText}
 use Rattle.h5_rules.specs.formatting.Adoption.{newest_named}
 use Rattle.h5_rules.specs.formatting.FormattingList.{ElementEntry, Entry, MarkerEntry, count_alike, is_alike, nodes_of, push_formatting, without_earliest}
 use Rattle.h5_rules.specs.stack.Order.{is_in}
-use Rattle.h5_plain.proofs.ListedLaws.{AtMarker, Bottom, Entries, Fewer, IsBase, Kept, Lost, NoEntry, Other, Passed, OpenFormat, Formats, has_link}
+use Rattle.h5_plain.proofs.ListedLaws.{AtMarker, Bottom, Entries, Fewer, IsBase, Kept, Lost, NoEntry, Passed, OpenFormat, Formats, has_link}
 use Rattle.h5_plain.proofs.RuleLaws.{start}
 use Rattle.h5_rules.proofs.BoolLaws.{neither_of}
 

@@ -1,29 +1,25 @@
 -- Whitespace texts in tables, which are buffered: a list that leads somewhere leads there token by token.
-use Rattle.std.proofs.Common.{◌≡◌, ◌∙◌, ℕ, Bool, true, false, List, [], ◌∷◌, ◌++◌, Option, Some, None, cond, refl, ap, sym, subst}
+use Rattle.std.proofs.Common.{◌≡◌, ◌∙◌, ℕ, Bool, true, false, List, [], ◌∷◌, ◌++◌, Option, Some, None, cond, refl, ap, sym}
 use Rattle.h5_token.specs.TokenText.{TagText, TokenText, TagIs, Characters, CommentIs, DoctypeIs, EndOfFile, NullCharacter, ParseErrorIs}
-use Rattle.h5_interface.specs.Changes.{append_text as append_text_to}
 use Rattle.h5_interface.specs.Forest.{ChildText}
 use Rattle.h5_interface.specs.SinkChoices.{SinkChoices}
-use Rattle.h5_tables.specs.TurnText.{TagTurn, TextTurn, TurnText}
+use Rattle.h5_tables.specs.TurnText.{TagTurn, TextTurn}
 use Rattle.h5_tables.specs.declared.modes.InsertionMode.{InsertionMode}
-use Rattle.h5_tables.specs.declared.modes.InsertionMode.TheVariants.{InTable, InTableBody, InRow, InTableText}
+use Rattle.h5_tables.specs.declared.modes.InsertionMode.TheVariants.{InTableText}
 use Rattle.h5_tables.specs.declared.modes.SplitStatus.TheVariants.{NotSplit}
-use Rattle.h5_rules.specs.Blanks.{all_blank}
-use Rattle.h5_rules.specs.Changes.{append_pending_text, append_text, save_mode, set_mode, take_pending_text}
-use Rattle.h5_rules.specs.insertion.Foreign.{adjusted_current_node, adjusted_of}
+use Rattle.h5_rules.specs.Changes.{append_pending_text, append_text, set_mode, take_pending_text}
+use Rattle.h5_rules.specs.insertion.Foreign.{adjusted_current_node}
 use Rattle.h5_rules.specs.insertion.Place.{LastChild, Place, appropriate_place, place, put}
 use Rattle.h5_rules.specs.modes.ForeignContent.{dispatch}
 use Rattle.h5_rules.specs.modes.InBody.{in_body}
-use Rattle.h5_rules.specs.modes.InTable.{keeps_text}
 use Rattle.h5_rules.specs.modes.InTableText.{in_table_text_else, pending_text, saved_mode}
-use Rattle.h5_rules.specs.modes.Modes.{rule}
 use Rattle.h5_rules.specs.modes.Tables.{foster}
 use Rattle.h5_rules.specs.Rows.{AgainBy, AppendText, IsDone, Row, TakePendingText, changed_by, choose, next_mode, row}
 use Rattle.h5_rules.specs.Run.{step, taken, text_step, without_lf}
 use Rattle.h5_rules.specs.Settle.{Settled, goes_on_to, settle}
 use Rattle.h5_rules.specs.Sound.{Fitting}
 use Rattle.h5_rules.specs.Text.{fostered_text, text_in, text_in_table, text_rule}
-use Rattle.h5_rules.specs.World.{World, names_of}
+use Rattle.h5_rules.specs.World.{World}
 use Rattle.h5_plain.proofs.cuts.CutLaws.{by_mode}
 use Rattle.h5_plain.proofs.cuts.RunLaws.{taken_same, takes_text}
 use Rattle.h5_plain.proofs.kept.FittingLaws.{taken_fitting}
@@ -31,7 +27,7 @@ use Rattle.h5_plain.proofs.modes.ForeignModeLaws.{IsHtmlAt, html_not_foreign}
 use Rattle.h5_plain.proofs.modes.ForeignRowLaws.{dispatch_html}
 use Rattle.h5_plain.proofs.turns.SettleLaws.{settle-again}
 use Rattle.h5_plain.proofs.CutGoesLaws.{fitting_takes}
-use Rattle.h5_plain.proofs.GoesLaws.{BeginsWithTag, Blanks, Goes, InColumns, IsTableMode, KeptBack, Leads, Runs, Straight, Takes, TheRow, TheSection, TheTable, steps_aside, steps_of, taken_so}
+use Rattle.h5_plain.proofs.GoesLaws.{Blanks, Goes, InColumns, IsTableMode, KeptBack, Runs, Straight, Takes, TheRow, TheSection, TheTable, steps_aside, steps_of, taken_so}
 use Rattle.h5_plain.proofs.HtmlLaws.{AtHtml, taken_html}
 
 module _ (choices : SinkChoices) (b : ℕ) (t : List ℕ) (w v : World) (x : Blanks (b ∷ t) w v) where

@@ -18,6 +18,7 @@ mod TableBuildsLaws
 mod TableRuleLaws
 mod TableStepLaws
 mod TitleLaws
+pub mod BoxLaws
 pub mod CutGoesLaws
 pub mod FragmentLaws
 pub mod GoesLaws

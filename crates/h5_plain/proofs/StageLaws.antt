@@ -302,7 +302,7 @@ body_next choices a b c h w s =
     }
 
 -- the body is filled
-at_body : (a b c : List AttributeText) (h : Nodes) (w : World) (s : AtBody a b c h w) → Calm None w s.with_body.content (face (codes "body") c) (body ∷ html ∷ []) [] w.stack []
+pub at_body : (a b c : List AttributeText) (h : Nodes) (w : World) (s : AtBody a b c h w) → Calm None w s.with_body.content (face (codes "body") c) (body ∷ html ∷ []) [] w.stack []
 at_body a b c h w s =
     let t = s.with_body in
     record {

@@ -1,5 +1,5 @@
 -- Lists of tokens that differ in how their texts are split.
-use Rattle.std.specs.Prelude.{◌≡◌, ◌≢◌, ℕ, Bool, true, false, List, [], ◌∷◌}
+use Rattle.std.specs.Prelude.{◌≡◌, ℕ, Bool, true, false, List, [], ◌∷◌}
 use Rattle.h5_token.specs.Joins.{join}
 use Rattle.h5_token.specs.Reply.{Reply}
 use Rattle.h5_token.specs.TokenText.{TokenText, Characters}

@@ -1,3 +1,4 @@
+pub mod Boxes
 pub mod Cuts
 pub mod Plain
 pub mod Rebuilding

@@ -3,6 +3,7 @@ ghost use Rattle.std.specs.Prelude.{◌≡◌, List};
 ghost use Rattle.h5_token.specs.TokenText.{TokenText};
 ghost use Rattle.h5_interface.specs.SinkChoices.{SinkChoices};
 ghost use Rattle.h5_rules.specs.Run.{View};
+ghost use Rattle.h5_plain.specs.Boxes.{BodiesAreBoxes, StartTagsLeadToBoxes};
 ghost use Rattle.h5_plain.specs.Rebuilding.{RebuildsAll, RebuildsFragments};
 ghost use Rattle.h5_plain.specs.Staying.{StayInBox};
 
@@ -37,4 +38,18 @@ pub fn fragments_are_rebuilt()
 /// active formatting elements. In the forest only that element has changed: these nodes follow its children.
 pub fn nodes_stay_in_their_box()
     ensures { (choices : SinkChoices) (tokens : List TokenText) (view : View) → StayInBox choices tokens view }
+{}
+
+/// If a builder is in the middle of a page at an element that takes nodes of flow (`IsBox`), the start tags of phrases,
+/// blocks, items, terms, and of a table, its sections, rows and cells or its caption, each of them where it closes nothing
+/// (`held_behind`), lead to an element that takes nodes of flow.
+pub fn start_tags_lead_to_boxes()
+    ensures { (choices : SinkChoices) → StartTagsLeadToBoxes choices }
+{}
+
+/// The tokens of a document up to the start tag of its body, in whose head there is nothing or a `title` of one text, lead
+/// from a new builder, over a sink with its document alone, to an element that takes nodes of flow, in which nothing is
+/// open: the body.
+pub fn bodies_are_boxes()
+    ensures { (choices : SinkChoices) → BodiesAreBoxes choices }
 {}
