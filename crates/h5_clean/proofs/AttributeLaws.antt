@@ -1,6 +1,6 @@
 -- What is left of attributes.
-use Rattle.std.proofs.Common.{◌≡◌, ℕ, ◌&&◌, Bool, true, false, not, List, [], ◌∷◌, ◌++◌, None, Some, is_some, codes, if◌then◌else◌, string_bytes, refl, sym, ap, ap₂, ◌∙◌, subst, append_assoc, append-nil}
-use Rattle.std.proofs.lemmas.Bool.{and_from, and_left, and_parts, and_right, cond_both, cond-false, cond-true, false≢true, not-true, or_from, or_parts}
+use Rattle.std.proofs.Common.{◌≡◌, ℕ, ◌&&◌, ◌||◌, Bool, true, false, not, List, [], ◌∷◌, ◌++◌, None, Some, is_some, codes, if◌then◌else◌, string_bytes, refl, sym, ap, ap₂, ◌∙◌, subst, append_assoc, append-nil}
+use Rattle.std.proofs.lemmas.Bool.{and_from, and_left, and_parts, and_right, cond_both, cond-false, cond-true, false≢true, not-true, or_from, or_left, or_parts}
 use Rattle.std.proofs.lemmas.Cmp.{nat_list_eq_equiv}
 use Rattle.std.proofs.lemmas.List.{map-append}
 use Rattle.std.proofs.lemmas.List.Folds.{list_any-append}
@@ -14,9 +14,11 @@ use Rattle.h5_names.specs.declared.qualified.QualName.{QualName}
 use Rattle.h5_interface.specs.Changes.{has_attribute}
 use Rattle.h5_tables.specs.TagSets.{is_one_of}
 use Rattle.h5_plain.specs.Plain.{ArePlain}
-use Rattle.h5_clean.specs.Policies.{ArePrefixed, MayStay, Rules, acting_names, as_left, attributes_left, bare, id_list_names, id_names, is_name, is_refused, left_behind, may_act, may_stay, named_behind, prefix_of, refused_names, rel_of, sets, stays, value_left}
+use Rattle.h5_clean.specs.Policies.{ArePrefixed, MayStay, Rules, RunNoScripts, acting_names, as_left, attributes_left, bare, id_list_names, id_names, is_name, is_refused, keeps, left_behind, may_act, may_stay, named_behind, prefix_of, refused_names, rel_of, sets, stays, value_left}
 use Rattle.h5_round_trip.specs.Readable.{AreNameBytes, AreReadable, IsName, IsReadable, is_name_byte}
+use Rattle.h5_clean.specs.AllowLists.{LeadWell, Table, holds_url, is_listed, has_classes, keeps_listed, leads_well, table_rules}
 use Rattle.h5_clean.specs.Texts.{readable}
+use Rattle.h5_clean.specs.Urls.{is_script, is_url_name, more_url_names, scheme_of, url_names}
 use Rattle.h5_clean.proofs.PrefixLaws.{value_begins, value_named, value_reads, value_same}
 use Rattle.h5_clean.proofs.TextLaws.{readable_reads, reads_utf8}
 
@@ -24,9 +26,9 @@ use Rattle.h5_clean.proofs.TextLaws.{readable_reads, reads_utf8}
 
 -- it stays by these tests
 pub stays_by : (r : Rules) (e : List ℕ) (before : List AttributeText) (a : AttributeText) → is_same_text a.name.ns [] ≡ true → may_stay r a.name.local ≡ true → is_utf8 (value_left r a.name.local a.value) ≡ true
-    → r.keeps e a.name.local (value_left r a.name.local a.value) ≡ true → sets r e a.name.local ≡ false → has_attribute (bare a.name.local) before ≡ false → stays r e before a ≡ true
-stays_by r e before a space named utf8 keeps unset none =
-    and_from _ _ space (and_from _ _ named (and_from _ _ utf8 (and_from _ _ keeps (and_from _ _ (ap not unset) (ap not none)))))
+    → keeps r e a.name.local (value_left r a.name.local a.value) ≡ true → sets r e a.name.local ≡ false → has_attribute (bare a.name.local) before ≡ false → stays r e before a ≡ true
+stays_by r e before a space named utf8 kept unset none =
+    and_from _ _ space (and_from _ _ named (and_from _ _ utf8 (and_from _ _ kept (and_from _ _ (ap not unset) (ap not none)))))
 
 pub put_last : (xs ys : List Attribute) (x : Attribute) (name : QualName) (value : List ℕ) → ys ≡ xs ++ x ∷ [] → x.name ≡ name → string_bytes x.value ≡ value
     → attribute_texts ys ≡ attribute_texts xs ++ record { name = name; value = value } ∷ []
@@ -64,9 +66,9 @@ record Kept (r : Rules) (e : List ℕ) (a : AttributeText) : Type 0 where
   bare_name : a.name ≡ bare a.name.local
   may : may_stay r a.name.local ≡ true
   reads : IsReadable a.value
-  behind : named_behind (prefix_of r.prefix) a.name.local a.value ≡ a.value
+  behind : named_behind (prefix_of r.prefix) r.classes a.name.local a.value ≡ a.value
   begins : is_one_of id_names a.name.local ≡ true → starts_with nat_eq a.value (prefix_of r.prefix) ≡ true
-  keeps : r.keeps e a.name.local a.value ≡ true
+  stays_kept : keeps r e a.name.local a.value ≡ true
   unset : sets r e a.name.local ≡ false
 
 abbrev AreKept : Rules → List ℕ → List AttributeText → Type 0
@@ -96,8 +98,8 @@ one_more r e before a l h =
     let space = and_parts (is_same_text a.name.ns []) _ h in
     let name = and_parts (may_stay r a.name.local) _ space.1 in
     let utf8 = and_parts (is_utf8 (value_left r a.name.local a.value)) _ name.1 in
-    let keeps = and_parts (r.keeps e a.name.local (value_left r a.name.local a.value)) _ utf8.1 in
-    let unset = and_parts (not (sets r e a.name.local)) _ keeps.1 in
+    let kept = and_parts (keeps r e a.name.local (value_left r a.name.local a.value)) _ utf8.1 in
+    let unset = and_parts (not (sets r e a.name.local)) _ kept.1 in
     record {
       kept = kept_more r e before (as_left r a) l.kept
           (record {
@@ -106,7 +108,7 @@ one_more r e before a l h =
             reads = value_reads r a.name.local a.value utf8.0;
             behind = value_named r a.name.local a.value;
             begins = value_begins r a.name.local a.value;
-            keeps = keeps.0;
+            stays_kept = kept.0;
             unset = not-true _ unset.0;
           });
       plain = plain_more before (as_left r a) l.plain refl refl (not-true _ unset.1);
@@ -174,9 +176,9 @@ rel_is_none : is_one_of id_names (codes "rel") ≡ false
 unfolding id_names
 rel_is_none = refl
 
-rel_is_as_it_is : (p value : List ℕ) → named_behind p (codes "rel") value ≡ value
+rel_is_as_it_is : (p : List ℕ) (o : Option (List (List ℕ))) (value : List ℕ) → named_behind p o (codes "rel") value ≡ value
 unfolding id_names id_list_names
-rel_is_as_it_is p value = refl
+rel_is_as_it_is p o value = refl
 
 rel_may_act : (p : List ℕ) → may_act p (codes "rel") ≡ true
 unfolding acting_names
@@ -199,7 +201,7 @@ left_prefixed r e attrs =
     let l = front r e attrs in
     ending r e (left_behind r e [] attrs) (ArePrefixed r)
     (subst (ArePrefixed r) (append-nil (left_behind r e [] attrs)) (prefixed_with r e (left_behind r e [] attrs) [] l.kept tt))
-    (λ value h s u. prefixed_with r e (left_behind r e [] attrs) (rel value ∷ []) l.kept ((λ i. absurd (false≢true (sym rel_is_none ∙ i))), (rel_is_as_it_is (prefix_of r.prefix) (readable value), tt)))
+    (λ value h s u. prefixed_with r e (left_behind r e [] attrs) (rel value ∷ []) l.kept ((λ i. absurd (false≢true (sym rel_is_none ∙ i))), (rel_is_as_it_is (prefix_of r.prefix) r.classes (readable value), tt)))
 
 may_with : (r : Rules) (e : List ℕ) (before more : List AttributeText) → AreKept r e before → MayStay r more → MayStay r (before ++ more)
 may_with r e [] more k m = m
@@ -211,6 +213,45 @@ left_may r e attrs =
     ending r e (left_behind r e [] attrs) (MayStay r)
     (subst (MayStay r) (append-nil (left_behind r e [] attrs)) (may_with r e (left_behind r e [] attrs) [] l.kept tt))
     (λ value h s u. may_with r e (left_behind r e [] attrs) (rel value ∷ []) l.kept (rel_may_stay r, tt))
+
+-- ---- URLs
+
+rel_holds_none : is_url_name (codes "rel") ≡ false
+unfolding url_names more_url_names
+rel_holds_none = refl
+
+no_script_with : (r : Rules) (e : List ℕ) (before more : List AttributeText) → AreKept r e before → RunNoScripts more → RunNoScripts (before ++ more)
+no_script_with r e [] more k m = m
+no_script_with r e (a ∷ before) more k m =
+    (not-true _ (and_parts (not (is_url_name a.name.local && is_script (scheme_of a.value))) _ k.0.stays_kept).0, no_script_with r e before more k.1 m)
+
+pub left_no_script : (r : Rules) (e : List ℕ) (attrs : List AttributeText) → RunNoScripts (attributes_left r e attrs)
+left_no_script r e attrs =
+    let l = front r e attrs in
+    ending r e (left_behind r e [] attrs) RunNoScripts
+    (subst RunNoScripts (append-nil (left_behind r e [] attrs)) (no_script_with r e (left_behind r e [] attrs) [] l.kept tt))
+    (λ value h s u. no_script_with r e (left_behind r e [] attrs) (rel value ∷ []) l.kept (and_left _ _ rel_holds_none, tt))
+
+-- by a table, each leads where the table says
+one_leads : (t : Table) (e local value : List ℕ) → keeps_listed t e local value ≡ true → is_url_name local ≡ true → leads_well t.relative t.schemes value ≡ true
+one_leads t e local value k u = by (holds_url t local) (or_left _ _ u) (and_parts (has_classes t local value) _ (and_parts (is_listed t e local) _ k).1).1
+  where
+    by : (holds : Bool) → holds ≡ true → (not holds || leads_well t.relative t.schemes value) ≡ true → leads_well t.relative t.schemes value ≡ true
+    by true h g = g
+    by false h g = absurd (false≢true h)
+
+leads_with : (t : Table) (e : List ℕ) (before more : List AttributeText) → AreKept (table_rules t) e before → LeadWell t more → LeadWell t (before ++ more)
+leads_with t e [] more k m = m
+leads_with t e (a ∷ before) more k m =
+    ((λ u. one_leads t e a.name.local a.value (and_parts (not (is_url_name a.name.local && is_script (scheme_of a.value))) _ k.0.stays_kept).1 u), leads_with t e before more k.1 m)
+
+pub left_leads : (t : Table) (e : List ℕ) (attrs : List AttributeText) → LeadWell t (attributes_left (table_rules t) e attrs)
+left_leads t e attrs =
+    let r = table_rules t in
+    let l = front r e attrs in
+    ending r e (left_behind r e [] attrs) (LeadWell t)
+    (subst (LeadWell t) (append-nil (left_behind r e [] attrs)) (leads_with t e (left_behind r e [] attrs) [] l.kept tt))
+    (λ value h s u. leads_with t e (left_behind r e [] attrs) (rel value ∷ []) l.kept ((λ i. absurd (false≢true (sym rel_holds_none ∙ i))), tt))
 
 -- ---- what was left is left again
 
@@ -233,7 +274,7 @@ none_before (b ∷ before) a attrs p =
 stays_again : (r : Rules) (e : List ℕ) (before : List AttributeText) (a : AttributeText) → Kept r e a → has_attribute a.name before ≡ false → stays r e before a ≡ true
 stays_again r e before a k none =
     stays_by r e before a (ap (λ (n : QualName). is_same_text n.ns []) k.bare_name) k.may (ap is_utf8 (kept_value r e a k) ∙ reads_utf8 a.value k.reads)
-    (ap (r.keeps e a.name.local) (kept_value r e a k) ∙ k.keeps) k.unset (ap (λ n. has_attribute n before) (sym k.bare_name) ∙ none)
+    (ap (keeps r e a.name.local) (kept_value r e a k) ∙ k.stays_kept) k.unset (ap (λ n. has_attribute n before) (sym k.bare_name) ∙ none)
 
 all_again : (r : Rules) (e : List ℕ) (before attrs : List AttributeText) → AreKept r e attrs → ArePlain (before ++ attrs) → left_behind r e before attrs ≡ before ++ attrs
 all_again r e before [] k p = sym (append-nil before)
@@ -248,7 +289,7 @@ all_again r e before (a ∷ attrs) k p =
 rel_goes : (r : Rules) (e value : List ℕ) (before : List AttributeText) → is_same_text e (codes "a") ≡ true → r.rel ≡ Some value → left_behind r e before (rel value ∷ []) ≡ before
 rel_goes r e value before h s =
     let goes : stays r e before (rel value) ≡ false =
-    and_right (may_stay r (codes "rel")) _ (and_right (is_utf8 (value_left r (codes "rel") (readable value))) _ (and_right (r.keeps e (codes "rel") (value_left r (codes "rel") (readable value))) _ (and_left _ _ (ap not (and_from _ _ h (ap is_some s)))))) in
+    and_right (may_stay r (codes "rel")) _ (and_right (is_utf8 (value_left r (codes "rel") (readable value))) _ (and_right (keeps r e (codes "rel") (value_left r (codes "rel") (readable value))) _ (and_left _ _ (ap not (and_from _ _ h (ap is_some s)))))) in
     cond-false (stays r e before (rel value)) (before ++ as_left r (rel value) ∷ []) before goes
 
 pub left_again : (r : Rules) (e : List ℕ) (attrs : List AttributeText) → attributes_left r e (attributes_left r e attrs) ≡ attributes_left r e attrs

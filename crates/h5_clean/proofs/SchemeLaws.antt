@@ -7,8 +7,9 @@ use Rattle.std.specs.Option.{option_eq}
 use Rattle.std.specs.Char.{is_ascii_alphabetic, is_ascii_digit, to_ascii_lowercase}
 use Rattle.h5_names.specs.AttributeText.{is_same_text}
 use Rattle.h5_clean.proofs.ListLaws.{any_of_map}
-use Rattle.h5_clean.specs.AllowLists.{leads_well}
-use Rattle.h5_clean.specs.DefaultPolicy.{has_scheme_of, image_schemes, is_scheme_byte, is_skipped, link_schemes, scheme_behind, scheme_of_visible}
+use Rattle.h5_clean.specs.AllowLists.{leads_by}
+use Rattle.h5_clean.specs.DefaultPolicy.{has_scheme_of, image_schemes, link_schemes}
+use Rattle.h5_clean.specs.Urls.{is_script, script_schemes, is_scheme_byte, is_skipped, scheme_behind, scheme_of_visible}
 
 -- bytes of a scheme up to ':'
 abbrev pub has_end : List ℕ → Bool
@@ -161,13 +162,33 @@ listed text url names h =
     ∙ (ap (λ v. not v || list_any (λ n. is_named n url) (map text names)) h ∙ any_of_map (λ n. is_named n url) text names)
 
 -- where URLs may be relative or not, one with a scheme leads where its scheme does
-pub where_some : (relative : Bool) (names : List (List ℕ)) (o : Option (List ℕ)) → is_some o ≡ true → leads_well relative names o ≡ has_scheme_of names o
+pub where_some : (relative : Bool) (names : List (List ℕ)) (o : Option (List ℕ)) → is_some o ≡ true → leads_by relative names o ≡ has_scheme_of names o
 where_some relative names None h = absurd (false≢true h)
 where_some relative names (Some s) h = refl
 
-pub where_none : (relative : Bool) (names : List (List ℕ)) (o : Option (List ℕ)) → is_some o ≡ false → leads_well relative names o ≡ relative
+pub where_none : (relative : Bool) (names : List (List ℕ)) (o : Option (List ℕ)) → is_some o ≡ false → leads_by relative names o ≡ relative
 where_none relative names None h = refl
 where_none relative names (Some s) h = absurd (false≢true (sym h))
+
+-- a scheme of a script
+script_some : (o : Option (List ℕ)) → is_some o ≡ true → is_script o ≡ has_scheme_of script_schemes o
+script_some None h = absurd (false≢true h)
+script_some (Some s) h = refl
+
+pub script_none : (o : Option (List ℕ)) → is_some o ≡ false → is_script o ≡ false
+script_none None h = refl
+script_none (Some s) h = absurd (false≢true (sym h))
+
+pub scripts : (url : List ℕ) → is_some (scheme_of_visible url) ≡ true → is_script (scheme_of_visible url) ≡ (is_named (codes "javascript") url || is_named (codes "vbscript") url)
+unfolding script_schemes
+scripts url h =
+    script_some (scheme_of_visible url) h ∙ by_names url script_schemes
+    ∙ (ap (λ v. not v || list_any (λ n. is_named n url) script_schemes) h ∙ by (is_named (codes "javascript") url) (is_named (codes "vbscript") url))
+  where
+    by : (x y : Bool) → (x || (y || false)) ≡ (x || y)
+    by true y = refl
+    by false true = refl
+    by false false = refl
 
 or_three : (a x y z : Bool) → (a || (x || (y || (z || false)))) ≡ ((a || (x || (y || false))) || z)
 or_three true x y z = refl

@@ -1,11 +1,12 @@
 -- The policy for texts: what a writer of comments, posts and pages needs.
-use Rattle.std.specs.Prelude.{ℕ, ◌==◌, nat_eq, nat_le, ◌&&◌, ◌||◌, Bool, true, false, not, List, [], ◌∷◌, ◌++◌, Option, Some, None, codes, if◌then◌else◌}
-use Rattle.std.specs.Char.{is_ascii_alphabetic, is_ascii_digit, is_ascii_whitespace, to_ascii_lowercase}
+use Rattle.std.specs.Prelude.{ℕ, nat_eq, ◌&&◌, ◌||◌, Bool, true, false, not, List, [], ◌∷◌, Option, Some, None, codes, if◌then◌else◌}
+use Rattle.std.specs.Char.{is_ascii_whitespace}
 use Rattle.std.specs.List.{list_any, starts_with}
 use Rattle.h5_names.specs.AttributeText.{is_same_text}
 use Rattle.h5_tables.specs.TagSets.{is_one_of}
 use Rattle.h5_clean.specs.Kinds.{is_known, kind_of}
 use Rattle.h5_clean.specs.Policies.{Rules}
+use Rattle.h5_clean.specs.Urls.{scheme_of}
 
 -- elements that have a kind and aren't allowed
 unfoldable pub unnamed : List (List ℕ)
@@ -70,38 +71,7 @@ keeps_of_many element attribute =
     if is_same_text attribute (codes "align") then is_one_of aligned_names element
     else is_same_text attribute (codes "cite") && is_one_of citing_names element
 
--- ---- URLs, as browsers read them (URL standard, section 4.4)
-
--- a URL without leading C0 controls and spaces
-abbrev pub behind_controls : List ℕ → List ℕ
-behind_controls [] = []
-behind_controls (b ∷ t) = if nat_le b 32 then behind_controls t else b ∷ t
-
--- TAB, LF and CR are skipped
-abbrev pub is_skipped : ℕ → Bool
-is_skipped b = (b == 9) || ((b == 10) || (b == 13))
-
-abbrev pub is_scheme_byte : ℕ → Bool
-is_scheme_byte b = is_ascii_alphabetic b || (is_ascii_digit b || ((b == 43) || ((b == 45) || (b == 46))))
-
--- the scheme in lower case: what was read of it before, and the bytes up to ':'
-abbrev pub scheme_behind : (read : List ℕ) → List ℕ → Option (List ℕ)
-scheme_behind read [] = None
-scheme_behind read (b ∷ t) =
-    if is_skipped b then scheme_behind read t
-    else (if b == 58 then Some read
-    else (if is_scheme_byte b then scheme_behind (read ++ to_ascii_lowercase b ∷ []) t
-    else None))
-
--- a scheme begins with a letter; a URL without one is relative
-abbrev pub scheme_of_visible : List ℕ → Option (List ℕ)
-scheme_of_visible [] = None
-scheme_of_visible (b ∷ t) =
-    if is_skipped b then scheme_of_visible t
-    else (if is_ascii_alphabetic b then scheme_behind (to_ascii_lowercase b ∷ []) t else None)
-
-abbrev pub scheme_of : List ℕ → Option (List ℕ)
-scheme_of url = scheme_of_visible (behind_controls url)
+-- ---- URLs
 
 unfoldable pub link_schemes : List (List ℕ)
 link_schemes = codes "http" ∷ codes "https" ∷ codes "mailto" ∷ []
@@ -138,6 +108,7 @@ default_rules = record {
   keeps = keeps_attribute;
   rel = Some (codes "noopener noreferrer");
   prefix = None;
+  classes = None;
   around = record { in_p = false; in_heading = false; in_item = true; in_description = true; in_link = false };
   depth = 256;
 }

@@ -4,6 +4,7 @@ pub mod Places
 pub mod Source
 pub mod DefaultPolicy
 pub mod Texts
+pub mod Urls
 pub mod Policies
 pub mod Pass
 pub mod AllowLists

@@ -1,7 +1,7 @@
 -- What a policy says about elements and attributes, and what is left of attributes.
-use Rattle.std.specs.Prelude.{◌≡◌, ℕ, ◌==◌, nat_eq, ◌&&◌, ◌||◌, Bool, true, false, not, List, [], ◌∷◌, ◌++◌, Option, Some, None, codes, is_some, if◌then◌else◌}
+use Rattle.std.specs.Prelude.{◌≡◌, ℕ, ◌==◌, nat_eq, nat_le, ◌&&◌, ◌||◌, Bool, true, false, not, List, [], ◌∷◌, ◌++◌, Option, Some, None, codes, is_some, if◌then◌else◌}
 use Rattle.std.specs.Char.{is_ascii_whitespace}
-use Rattle.std.specs.List.{list_all, starts_with}
+use Rattle.std.specs.List.{list_all, list_any, starts_with}
 use Rattle.std.specs.Str.{is_utf8}
 use Rattle.h5_names.specs.AttributeText.{AttributeText, is_same_text}
 use Rattle.h5_names.specs.declared.qualified.QualName.{QualName}
@@ -10,16 +10,19 @@ use Rattle.h5_tables.specs.TagSets.{is_one_of}
 use Rattle.h5_round_trip.specs.Readable.{is_name_byte}
 use Rattle.h5_clean.specs.declared.place.Around.{Around}
 use Rattle.h5_clean.specs.Texts.{readable}
+use Rattle.h5_clean.specs.Urls.{is_script, is_url_name, scheme_of}
 
 -- the elements that it allows, by local name; those that it drops with their content; the attributes that an element
 -- keeps, by the element's name, the attribute's, and the value that would be left; the `rel` of each `a`, if it is set;
--- the prefix of ids, if it is set; what may be open around the text; and the maximal depth
+-- the prefix of ids, if it is set; the prefixes of the classes that are left, if each class is left or dropped by itself;
+-- what may be open around the text; and the maximal depth
 pub record Rules : Type 0 where
   pub names : List ℕ → Bool
   pub drops : List ℕ → Bool
   pub keeps : List ℕ → List ℕ → List ℕ → Bool
   pub rel : Option (List ℕ)
   pub prefix : Option (List ℕ)
+  pub classes : Option (List (List ℕ))
   pub around : Around
   pub depth : ℕ
 
@@ -97,30 +100,67 @@ abbrev pub fragment_prefixed : (prefix text : List ℕ) → List ℕ
 fragment_prefixed prefix (b ∷ c ∷ t) = if b == 35 then b ∷ prefixed prefix (c ∷ t) else b ∷ c ∷ t
 fragment_prefixed prefix t = t
 
--- the value of an attribute, prefixed if the attribute has an id or refers to some
-abbrev pub named_behind : (prefix local text : List ℕ) → List ℕ
-named_behind prefix local text =
+-- a link like that: browsers skip C0 controls and spaces before it
+abbrev pub link_prefixed : (prefix text : List ℕ) → List ℕ
+link_prefixed prefix [] = []
+link_prefixed prefix (b ∷ t) = if nat_le b 32 then b ∷ link_prefixed prefix t else fragment_prefixed prefix (b ∷ t)
+
+-- ---- classes
+
+-- the parts of a text between ASCII whitespace, some of which may be empty; `word` was read before
+abbrev pub parts_of : (word text : List ℕ) → List (List ℕ)
+parts_of word [] = word ∷ []
+parts_of word (b ∷ t) = if is_ascii_whitespace b then word ∷ parts_of [] t else parts_of (word ++ b ∷ []) t
+
+-- a class that begins with one of the prefixes
+abbrev pub is_left_class : (prefixes : List (List ℕ)) → List ℕ → Bool
+is_left_class prefixes [] = false
+is_left_class prefixes (b ∷ class) = list_any (starts_with nat_eq (b ∷ class)) prefixes
+
+-- classes, and another one after a space
+abbrev pub with_class : (classes class : List ℕ) → List ℕ
+with_class [] class = class
+with_class (b ∷ classes) class = b ∷ classes ++ 32 ∷ class
+
+-- classes, and those of these that are left
+abbrev pub with_classes : (prefixes : List (List ℕ)) → (classes : List ℕ) → List (List ℕ) → List ℕ
+with_classes prefixes classes [] = classes
+with_classes prefixes classes (class ∷ more) = with_classes prefixes (if is_left_class prefixes class then with_class classes class else classes) more
+
+-- what is left of the classes of an element
+abbrev pub classes_left : Option (List (List ℕ)) → List ℕ → List ℕ
+classes_left None text = text
+classes_left (Some prefixes) text = with_classes prefixes [] (parts_of [] text)
+
+-- the value of an attribute, prefixed if the attribute has an id or refers to some, and with the classes that are left
+abbrev pub named_behind : (prefix : List ℕ) → (classes : Option (List (List ℕ))) → (local text : List ℕ) → List ℕ
+named_behind prefix classes local text =
     if is_one_of id_names local then prefixed prefix text
     else (if is_one_of id_list_names local then words_prefixed prefix true text
-    else (if is_same_text local (codes "href") then fragment_prefixed prefix text
-    else text))
+    else (if is_same_text local (codes "href") then link_prefixed prefix text
+    else (if is_same_text local (codes "class") then classes_left classes text
+    else text)))
 
 -- ---- what is left
 
 -- what is left of an attribute's value
 abbrev pub value_left : Rules → (local value : List ℕ) → List ℕ
-value_left r local value = named_behind (prefix_of r.prefix) local (readable value)
+value_left r local value = named_behind (prefix_of r.prefix) r.classes local (readable value)
 
 -- an attribute may stay if it isn't refused, its name can be read, and it acts on no element outside the text
 abbrev pub may_stay : Rules → List ℕ → Bool
 may_stay r local = is_name local && (not (is_refused local) && may_act (prefix_of r.prefix) local)
+
+-- the rules keep an attribute whose value isn't a script
+abbrev pub keeps : Rules → (element local value : List ℕ) → Bool
+keeps r element local value = not (is_url_name local && is_script (scheme_of value)) && r.keeps element local value
 
 -- an attribute that stays: it has no namespace, its value is UTF-8, the rules keep it and don't set it, and no
 -- attribute before it has its name
 abbrev pub stays : Rules → (element : List ℕ) → (before : List AttributeText) → AttributeText → Bool
 stays r element before a =
     is_same_text a.name.ns [] && (may_stay r a.name.local && (is_utf8 (value_left r a.name.local a.value)
-    && (r.keeps element a.name.local (value_left r a.name.local a.value) && (not (sets r element a.name.local) && not (has_attribute (bare a.name.local) before)))))
+    && (keeps r element a.name.local (value_left r a.name.local a.value) && (not (sets r element a.name.local) && not (has_attribute (bare a.name.local) before)))))
 
 abbrev pub as_left : Rules → AttributeText → AttributeText
 as_left r a = record { name = bare a.name.local; value = value_left r a.name.local a.value }
@@ -140,14 +180,19 @@ abbrev pub attributes_left : Rules → (element : List ℕ) → List AttributeTe
 attributes_left r element attrs = left_behind r element [] attrs ++ (if is_same_text element (codes "a") then rel_of r.rel else [])
 
 -- each value that has or refers to an id begins with the prefix; so does each word of those that refer to several, and
--- the remainder after a leading '#'
+-- the remainder after a leading '#'; and each class begins with a prefix of classes, if there are any
 abbrev pub ArePrefixed : Rules → List AttributeText → Type 0
 ArePrefixed r [] = Unit {0}
 ArePrefixed r (a ∷ attrs) =
     (is_one_of id_names a.name.local ≡ true → starts_with nat_eq a.value (prefix_of r.prefix) ≡ true)
-    × ((named_behind (prefix_of r.prefix) a.name.local a.value ≡ a.value) × ArePrefixed r attrs)
+    × ((named_behind (prefix_of r.prefix) r.classes a.name.local a.value ≡ a.value) × ArePrefixed r attrs)
 
 -- each attribute may stay
 abbrev pub MayStay : Rules → List AttributeText → Type 0
 MayStay r [] = Unit {0}
 MayStay r (a ∷ attrs) = (may_stay r a.name.local ≡ true) × MayStay r attrs
+
+-- no URL is a script
+abbrev pub RunNoScripts : List AttributeText → Type 0
+RunNoScripts [] = Unit {0}
+RunNoScripts (a ∷ attrs) = ((is_url_name a.name.local && is_script (scheme_of a.value)) ≡ false) × RunNoScripts attrs

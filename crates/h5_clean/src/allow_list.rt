@@ -1,13 +1,12 @@
 //! A policy that is a table.
 ghost use Rattle.std.specs.Prelude.{◌≡◌, ◌∷◌, ◌++◌, [], None, Some, OnOk, OnErr, true, false};
-ghost use Rattle.h5_tables.specs.TagSets.{is_one_of};
-ghost use Rattle.h5_clean.specs.AllowLists.{holds_url, is_listed, keeps_listed, leads_well, more_url_names, table_rules, url_names};
-ghost use Rattle.h5_clean.specs.DefaultPolicy.{keeping, scheme_of};
+ghost use Rattle.h5_clean.specs.AllowLists.{has_classes, holds_url, is_listed, keeps_listed, leads_well, table_rules};
+ghost use Rattle.h5_clean.specs.DefaultPolicy.{keeping};
 
 use super::name_list::{AttributeList, NameList, any_keeps};
 use super::place::Around;
 use super::policy::Policy;
-use super::urls::leads_well;
+use super::urls::{is_url_name, leads_well};
 use std::alloc::{AllocError, Global};
 use std::marker::Model;
 
@@ -21,7 +20,9 @@ pub struct AllowList {
     elements: NameList,
     dropped: NameList,
     attributes: NameList,
+    attribute_prefixes: NameList,
     attributes_of: Vec<AttributeList>,
+    classes: NameList,
     urls: NameList,
     schemes: NameList,
     relative: bool,
@@ -38,7 +39,9 @@ impl Drop for AllowList {
             elements: _elements,
             dropped: _dropped,
             attributes: _attributes,
+            attribute_prefixes: _attribute_prefixes,
             attributes_of: _attributes_of,
+            classes: _classes,
             urls: _urls,
             schemes: _schemes,
             relative: _relative,
@@ -61,7 +64,9 @@ impl Model for AllowList {
       elements = list.elements;
       dropped = list.dropped;
       attributes = list.attributes;
+      attribute_prefixes = list.attribute_prefixes;
       attributes_of = list.attributes_of.items;
+      classes = list.classes;
       urls = list.urls;
       schemes = list.schemes;
       relative = list.relative;
@@ -72,36 +77,6 @@ impl Model for AllowList {
     } };
 }
 
-// The attribute always holds a URL.
-#[tactic(auto, unfolding(crate::specs::AllowLists::url_names))]
-fn is_url_name(attribute: &str) -> bool
-    ensures { result ≡ is_one_of url_names attribute.now }
-{
-    matches!(
-        attribute,
-        "href"
-            | "src"
-            | "cite"
-            | "action"
-            | "background"
-            | "classid"
-            | "codebase"
-            | "data"
-            | "dynsrc"
-            | "formaction"
-    )
-}
-
-#[tactic(auto, unfolding(crate::specs::AllowLists::more_url_names))]
-fn is_another_url_name(attribute: &str) -> bool
-    ensures { result ≡ is_one_of more_url_names attribute.now }
-{
-    matches!(
-        attribute,
-        "icon" | "itemid" | "itemtype" | "longdesc" | "lowsrc" | "manifest" | "poster" | "profile"
-    )
-}
-
 impl AllowList {
     /// Returns a table that lists nothing, allows relative URLs, sets neither `rel` nor a prefix, allows list items
     /// open around the text (`Around::items`), and elements nested 256 deep.
@@ -110,7 +85,9 @@ impl AllowList {
           elements = [];
           dropped = [];
           attributes = [];
+          attribute_prefixes = [];
           attributes_of = [];
+          classes = [];
           urls = [];
           schemes = [];
           relative = true;
@@ -125,7 +102,9 @@ impl AllowList {
             elements: NameList::new(alloc),
             dropped: NameList::new(alloc),
             attributes: NameList::new(alloc),
+            attribute_prefixes: NameList::new(alloc),
             attributes_of: Vec::new(alloc),
+            classes: NameList::new(alloc),
             urls: NameList::new(alloc),
             schemes: NameList::new(alloc),
             relative: true,
@@ -160,6 +139,25 @@ impl AllowList {
         self.attributes.push(self.alloc, name)
     }
 
+    /// Allows attributes whose names begin with this prefix for any element: with `data-`, those of scripts. Fails with
+    /// `AllocError` if an allocation fails.
+    pub fn add_attribute_prefix(&mut self, prefix: &str) -> Result<(), AllocError>
+        ensures ok { OnOk result (self.new ≡ record self.old { attribute_prefixes = self.old.attribute_prefixes ++ prefix.now ∷ [] }) }
+        ensures err { OnErr result (self.new ≡ self.old) }
+    {
+        self.attribute_prefixes.push(self.alloc, prefix)
+    }
+
+    /// Keeps the classes that begin with this prefix wherever `class` is allowed. From the first call on, each class that begins
+    /// with no prefix is dropped, and so is a `class` of which no class is left. Fails with `AllocError` if an allocation
+    /// fails.
+    pub fn add_class_prefix(&mut self, prefix: &str) -> Result<(), AllocError>
+        ensures ok { OnOk result (self.new ≡ record self.old { classes = self.old.classes ++ prefix.now ∷ [] }) }
+        ensures err { OnErr result (self.new ≡ self.old) }
+    {
+        self.classes.push(self.alloc, prefix)
+    }
+
     /// Allows attributes of a name for the elements of another. Fails with `AllocError` if an allocation fails.
     pub fn add_attribute_for(&mut self, element: &str, name: &str) -> Result<(), AllocError>
         ensures ok { OnOk result (self.new ≡ record self.old {
@@ -190,7 +188,7 @@ impl AllowList {
         self.schemes.push(self.alloc, name)
     }
 
-    /// Allows no relative URLs.
+    /// Allows no relative URLs, except those of places in the page, which begin with '#'.
     pub fn deny_relative(&mut self)
         ensures { self.new ≡ record self.old { relative = false } }
     {
@@ -238,6 +236,7 @@ impl AllowList {
         ensures { result ≡ is_listed self.now element.now attribute.now }
     {
         self.attributes.has(attribute)
+            || self.attribute_prefixes.begins(attribute)
             || any_keeps(self.attributes_of.as_slice(), element, attribute)
     }
 
@@ -245,12 +244,19 @@ impl AllowList {
     fn holds_url(&self, attribute: &str) -> bool
         ensures { result ≡ holds_url self.now attribute.now }
     {
-        is_url_name(attribute) || is_another_url_name(attribute) || self.urls.has(attribute)
+        is_url_name(attribute) || self.urls.has(attribute)
     }
 
-    // The URL is relative, if that is allowed, or has a listed scheme.
+    // A class is left, if the attribute has classes and each is left or dropped by itself.
+    fn has_classes(&self, attribute: &str, value: &str) -> bool
+        ensures { result ≡ has_classes self.now attribute.now value.now }
+    {
+        !value.is_empty() || attribute != "class" || self.classes.is_empty()
+    }
+
+    // The URL is relative, if that is allowed, or has a listed scheme, or begins with '#'.
     fn may_lead_to(&self, value: &str) -> bool
-        ensures { result ≡ leads_well self.now.relative self.now.schemes (scheme_of value.now) }
+        ensures { result ≡ leads_well self.now.relative self.now.schemes value.now }
     {
         leads_well(value, self.relative, self.schemes.as_slice())
     }
@@ -268,7 +274,9 @@ impl Policy for AllowList {
     }
 
     fn keeps_attribute(&self, element: &str, attribute: &str, value: &str) -> bool {
-        self.lists(element, attribute) && (!self.holds_url(attribute) || self.may_lead_to(value))
+        self.lists(element, attribute)
+            && self.has_classes(attribute, value)
+            && (!self.holds_url(attribute) || self.may_lead_to(value))
     }
 
     fn rel(&self) -> Option<&str> {
@@ -282,6 +290,14 @@ impl Policy for AllowList {
         match &self.prefix {
             Some(prefix) => Some(prefix.as_str()),
             None => None,
+        }
+    }
+
+    fn class_prefixes(&self) -> Option<&[String]> {
+        if self.classes.is_empty() {
+            None
+        } else {
+            Some(self.classes.as_slice())
         }
     }
 

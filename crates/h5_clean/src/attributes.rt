@@ -6,11 +6,13 @@ ghost use Rattle.h5_names.specs.AttributeText.{attribute_text, attribute_texts, 
 ghost use Rattle.h5_interface.specs.Changes.{has_attribute};
 ghost use Rattle.h5_tables.specs.TagSets.{is_one_of};
 ghost use Rattle.h5_round_trip.specs.Readable.{is_name_byte};
-ghost use Rattle.h5_clean.specs.Policies.{acting_names, as_left, attributes_left, bare, fragment_prefixed, id_list_names, id_names, is_name, is_prefix_byte, is_refused, left_behind, may_act, may_stay, named_behind, prefix_of, prefixed, refused_names, rel_of, sets, stays, value_left, words_prefixed};
+ghost use Rattle.h5_clean.specs.Policies.{acting_names, as_left, attributes_left, bare, classes_left, fragment_prefixed, id_list_names, id_names, is_name, is_prefix_byte, is_refused, keeps, left_behind, link_prefixed, may_act, may_stay, named_behind, prefix_of, prefixed, refused_names, rel_of, sets, stays, value_left, with_classes, words_prefixed};
 ghost use Rattle.h5_clean.specs.Texts.{readable};
 
+use super::name_list::begins_with;
 use super::policy::Policy;
 use super::texts::{readable, text_of_bytes};
+use super::urls::is_script;
 use h5_names::{Attribute, LocalName, Namespace, QualName};
 use h5_serialize::AttrRef;
 use std::alloc::{AllocError, Global};
@@ -212,45 +214,136 @@ fn words_prefixed(alloc: Global, prefix: &[u8], mut rest: &[u8]) -> Result<Vec<u
     Ok(made)
 }
 
-// The text with the remainder after a leading '#' prefixed, if the remainder isn't empty.
-fn fragment_prefixed(alloc: Global, prefix: &str, text: &str) -> Result<String, AllocError>
-    ensures { IfOk result (λ made. string_bytes made ≡ fragment_prefixed prefix.now text.now) }
+// Adds a link with the remainder after a leading '#' prefixed, if the remainder isn't empty.
+fn push_fragment(made: &mut Vec<u8>, prefix: &[u8], link: &[u8]) -> Result<(), AllocError>
+    ensures { OnOk result (made.new.items ≡ made.old.items ++ fragment_prefixed prefix.now link.now) }
 {
-    match text.strip_prefix('#') {
-        Some(id) if !id.is_empty() => {
-            let mut made = String::from_str(alloc, "#")?;
-            let id = prefixed(alloc, prefix, id)?;
-            made.push_str(id.as_str())?;
-            Ok(made)
+    if let [first, id @ ..] = link
+        && *first == b'#'
+        && !id.is_empty()
+        && !id.starts_with(prefix)
+    {
+        made.push(*first)?;
+        made.extend_from_slice(prefix)?;
+        made.extend_from_slice(id)?;
+        return Ok(());
+    }
+    made.extend_from_slice(link)?;
+    Ok(())
+}
+
+// The link, prefixed like that behind leading C0 controls and spaces.
+fn link_prefixed(alloc: Global, prefix: &[u8], mut rest: &[u8]) -> Result<Vec<u8>, AllocError>
+    ensures { IfOk result (λ made. made.items ≡ link_prefixed prefix.now rest.entry.now) }
+{
+    let mut made = Vec::new(alloc);
+    while let [first, behind @ ..] = rest
+        && *first <= b' '
+    {
+        made.push(*first)?;
+        rest = behind;
+    }
+    push_fragment(&mut made, prefix, rest)?;
+    Ok(made)
+}
+
+// Adds a class, if it is left.
+fn push_class(
+    made: &mut Vec<u8>,
+    prefixes: &[String],
+    class: &[u8],
+) -> Result<(), AllocError>
+    ensures { OnOk result
+        (made.new.items ≡ with_classes (map string_bytes prefixes.now) made.old.items (class.now ∷ [])) }
+{
+    if class.is_empty() || !begins_with(prefixes, class) {
+        return Ok(());
+    }
+    if !made.is_empty() {
+        made.push(b' ')?;
+    }
+    made.extend_from_slice(class)?;
+    Ok(())
+}
+
+// The classes that begin with one of the prefixes, with a space between them.
+fn classes_with(
+    alloc: Global,
+    prefixes: &[String],
+    mut rest: &[u8],
+) -> Result<Vec<u8>, AllocError>
+    ensures { IfOk result (λ made. made.items ≡ classes_left (Some (map string_bytes prefixes.now)) rest.entry.now) }
+{
+    let mut made = Vec::new(alloc);
+    let mut class = Vec::new(alloc);
+    while let [first, behind @ ..] = rest {
+        if first.is_ascii_whitespace() {
+            push_class(&mut made, prefixes, class.as_slice())?;
+            class.clear();
+        } else {
+            class.push(*first)?;
         }
-        _ => String::from_str(alloc, text),
+        rest = behind;
+    }
+    push_class(&mut made, prefixes, class.as_slice())?;
+    Ok(made)
+}
+
+// What a policy leaves of the classes of an element.
+fn classes_left<P: Policy>(alloc: Global, policy: &P, text: &str) -> Result<String, AllocError>
+    ensures { IfOk result (λ made. string_bytes made ≡ classes_left (P.rules policy.now).classes text.now) }
+{
+    match policy.class_prefixes() {
+        Some(prefixes) => text_of_bytes(classes_with(alloc, prefixes, text.as_bytes())?),
+        None => String::from_str(alloc, text),
     }
 }
 
-// The value, prefixed if the attribute has an id or refers to some.
-fn named_behind(alloc: Global, prefix: &str, local: &str, text: &str) -> Result<String, AllocError>
-    ensures { IfOk result (λ made. string_bytes made ≡ named_behind prefix.now local.now text.now) }
+// The value, prefixed if the attribute has an id or refers to some, and with the classes that are left.
+fn named_behind<P: Policy>(
+    alloc: Global,
+    policy: &P,
+    prefix: &str,
+    local: &str,
+    text: &str,
+) -> Result<String, AllocError>
+    ensures { IfOk result (λ made. string_bytes made ≡ named_behind prefix.now (P.rules policy.now).classes local.now text.now) }
 {
     if is_id_name(local) {
         prefixed(alloc, prefix, text)
     } else if is_id_list_name(local) {
         text_of_bytes(words_prefixed(alloc, prefix.as_bytes(), text.as_bytes())?)
     } else if local == "href" {
-        fragment_prefixed(alloc, prefix, text)
+        text_of_bytes(link_prefixed(alloc, prefix.as_bytes(), text.as_bytes())?)
+    } else if local == "class" {
+        classes_left(alloc, policy, text)
     } else {
         String::from_str(alloc, text)
     }
 }
 
 // What is left of an attribute's value.
-fn value_left(alloc: Global, prefix: &str, local: &str, value: &str) -> Result<String, AllocError>
-    ensures { IfOk result (λ made. string_bytes made ≡ named_behind prefix.now local.now (readable value.now)) }
+fn value_left<P: Policy>(
+    alloc: Global,
+    policy: &P,
+    prefix: &str,
+    local: &str,
+    value: &str,
+) -> Result<String, AllocError>
+    ensures { IfOk result (λ made. string_bytes made ≡ named_behind prefix.now (P.rules policy.now).classes local.now (readable value.now)) }
 {
     let text = readable(alloc, value)?;
-    if prefix.is_empty() {
+    if prefix.is_empty() && local != "class" {
         return Ok(text);
     }
-    named_behind(alloc, prefix, local, text.as_str())
+    named_behind(alloc, policy, prefix, local, text.as_str())
+}
+
+// The policy keeps an attribute whose value isn't a script.
+fn keeps<P: Policy>(policy: &P, element: &str, local: &str, value: &str) -> bool
+    ensures { result ≡ keeps (P.rules policy.now) element.now local.now value.now }
+{
+    !is_script(local, value) && policy.keeps_attribute(element, local, value)
 }
 
 // Adds an attribute, if it stays.
@@ -270,8 +363,8 @@ fn keep<P: Policy, T: AttrRef>(
     if name.ns != Namespace::none() || !may_stay(prefix, local) {
         return Ok(());
     }
-    let value = value_left(alloc, prefix, local, attr.value())?;
-    if policy.keeps_attribute(element, local, value.as_str())
+    let value = value_left(alloc, policy, prefix, local, attr.value())?;
+    if keeps(policy, element, local, value.as_str())
         && !sets(policy, element, local)
         && !has_name(left.as_slice(), &name.local)
     {

@@ -186,6 +186,11 @@ impl Policy for DefaultPolicy {
         None
     }
 
+    // A class of code names a language, as a whole.
+    fn class_prefixes(&self) -> Option<&[String]> {
+        None
+    }
+
     // Comments and posts are often list items.
     fn around(&self) -> Around {
         Around::items()

@@ -1,9 +1,9 @@
 //! Lists of names.
-ghost use Rattle.std.specs.Prelude.{◌≡◌, ◌∷◌, ◌++◌, [], OnOk, OnErr, IfOk, map, string_bytes};
-ghost use Rattle.std.specs.List.{list_any};
+ghost use Rattle.std.specs.Prelude.{◌≡◌, ◌∷◌, ◌++◌, [], OnOk, OnErr, IfOk, is_some, map, nat_eq, not, string_bytes};
+ghost use Rattle.std.specs.List.{list_any, starts_with};
 ghost use Rattle.h5_names.specs.AttributeText.{is_same_text};
 ghost use Rattle.h5_tables.specs.TagSets.{is_one_of};
-ghost use Rattle.h5_clean.specs.AllowLists.{is_listed_for};
+ghost use Rattle.h5_clean.specs.AllowLists.{class_rule, is_listed_for};
 ghost use Rattle.h5_clean.specs.DefaultPolicy.{keeping};
 
 use std::alloc::{AllocError, Global};
@@ -14,6 +14,22 @@ fn is_among(names: &[String], name: &str) -> bool
     ensures { result ≡ list_any (λ other. is_same_text (string_bytes other) name.now) names.now }
 {
     names.iter().any(|other| other.as_str() == name)
+}
+
+// The text begins with one of these.
+fn begins_with_one(prefixes: &[String], text: &[u8]) -> bool
+    ensures { result ≡ list_any (λ prefix. starts_with nat_eq text.now (string_bytes prefix)) prefixes.now }
+{
+    prefixes
+        .iter()
+        .any(|prefix| text.starts_with(prefix.as_bytes()))
+}
+
+/// Returns true if a text begins with one of these prefixes.
+pub fn begins_with(prefixes: &[String], text: &[u8]) -> bool
+    ensures { result ≡ list_any (starts_with nat_eq text.now) (map string_bytes prefixes.now) }
+{
+    begins_with_one(prefixes, text)
 }
 
 /// Names, in the order in which they were added.
@@ -55,6 +71,20 @@ impl NameList {
         ensures { result ≡ is_one_of self.now name.now }
     {
         is_among(self.names.as_slice(), name)
+    }
+
+    /// Returns true if a text begins with a name of the list.
+    pub fn begins(&self, text: &str) -> bool
+        ensures { result ≡ list_any (starts_with nat_eq text.now) self.now }
+    {
+        begins_with(self.names.as_slice(), text.as_bytes())
+    }
+
+    /// Returns true if the list has no name.
+    pub fn is_empty(&self) -> bool
+        ensures { is_some (class_rule self.now) ≡ not result }
+    {
+        self.names.is_empty()
     }
 
     /// Returns all names.

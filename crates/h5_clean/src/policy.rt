@@ -1,5 +1,6 @@
 //! The policy: what is allowed.
-ghost use Rattle.std.specs.Prelude.{◌≡◌, option_copied};
+ghost use Rattle.std.specs.Prelude.{◌≡◌, map, option_copied, string_bytes};
+ghost use Rattle.std.specs.Option.{option_map};
 
 use super::place::Around;
 
@@ -7,8 +8,8 @@ use super::place::Around;
 /// arguments.
 ///
 /// Regardless of the policy, an element whose name has no kind is never allowed, nor is an attribute with a namespace,
-/// one whose name begins with `on`, or another one that `is_refused`. Without a prefix, `for` and other attributes by
-/// which an element acts on another one aren't allowed.
+/// one whose name begins with `on`, or another one that `is_refused`, nor a URL with the scheme `javascript` or
+/// `vbscript`. Without a prefix, `for` and other attributes by which an element acts on another one aren't allowed.
 pub trait Policy {
     ghost use Rattle.h5_clean.specs.Policies.{Rules};
 
@@ -38,6 +39,11 @@ pub trait Policy {
     /// ignored.
     fn prefix(&self) -> Option<&str>
         ensures { option_copied result ≡ (rules self.now).prefix };
+
+    /// Returns the prefixes of the classes that are left, if each class of an element is left or dropped by itself: a class
+    /// that begins with none of them is dropped. Otherwise `class` is kept or not as a whole.
+    fn class_prefixes(&self) -> Option<&[String]>
+        ensures { option_map (map string_bytes) (option_copied result) ≡ (rules self.now).classes };
 
     /// Returns what may be open around the text at the place that it is put into. At the top, an element that would
     /// close it isn't allowed.

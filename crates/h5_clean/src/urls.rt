@@ -1,10 +1,12 @@
 //! The schemes of URLs, as browsers read them (URL standard, section 4.4).
-ghost use Rattle.std.specs.Prelude.{◌≡◌, ◌++◌, List, Some, [], is_some, map, string_bytes, ℕ};
+ghost use Rattle.std.specs.Prelude.{◌≡◌, ◌&&◌, ◌++◌, List, Some, [], is_some, map, string_bytes, ℕ};
 ghost use Rattle.std.specs.List.{list_any};
 ghost use Rattle.std.specs.Option.{option_eq};
 ghost use Rattle.h5_names.specs.AttributeText.{is_same_text};
+ghost use Rattle.h5_tables.specs.TagSets.{is_one_of};
 ghost use Rattle.h5_clean.specs.AllowLists.{leads_well};
-ghost use Rattle.h5_clean.specs.DefaultPolicy.{behind_controls, has_scheme_of, image_schemes, is_scheme_byte, is_skipped, link_schemes, scheme_behind, scheme_of, scheme_of_visible};
+ghost use Rattle.h5_clean.specs.DefaultPolicy.{has_scheme_of, image_schemes, link_schemes};
+ghost use Rattle.h5_clean.specs.Urls.{behind_controls, is_fragment_first, is_scheme_byte, is_script, is_skipped, is_url_name, more_url_names, scheme_behind, scheme_of, scheme_of_visible, url_names};
 
 // A byte that is skipped in a URL: TAB, LF and CR.
 fn is_skipped(byte: u8) -> bool
@@ -122,14 +124,74 @@ fn spells_one(url: &[u8], names: &[String]) -> bool
     names.iter().any(|name| spells(url, name.as_bytes()))
 }
 
-/// Returns true if the URL has one of these schemes, or has none and may be relative.
+// A URL without leading C0 controls and spaces begins with '#'.
+fn is_fragment_first(url: &[u8]) -> bool
+    ensures { result ≡ is_fragment_first url.now }
+{
+    matches!(url, [first, ..] if *first == b'#')
+}
+
+/// Returns true if the URL has one of these schemes, or has none and may be relative, or begins with '#'.
 pub fn leads_well(url: &str, relative: bool, schemes: &[String]) -> bool
-    ensures { result ≡ leads_well relative (map string_bytes schemes.now) (scheme_of url.now) }
+    ensures { result ≡ leads_well relative (map string_bytes schemes.now) url.now }
 {
     let visible = behind_controls(url.as_bytes());
-    if has_scheme(visible) {
+    if is_fragment_first(visible) {
+        true
+    } else if has_scheme(visible) {
         spells_one(visible, schemes)
     } else {
         relative
     }
+}
+
+// The attribute holds a URL.
+#[tactic(auto, unfolding(crate::specs::Urls::url_names))]
+fn is_early_url_name(attribute: &str) -> bool
+    ensures { result ≡ is_one_of url_names attribute.now }
+{
+    matches!(
+        attribute,
+        "href"
+            | "src"
+            | "cite"
+            | "action"
+            | "background"
+            | "classid"
+            | "codebase"
+            | "data"
+            | "dynsrc"
+            | "formaction"
+    )
+}
+
+#[tactic(auto, unfolding(crate::specs::Urls::more_url_names))]
+fn is_late_url_name(attribute: &str) -> bool
+    ensures { result ≡ is_one_of more_url_names attribute.now }
+{
+    matches!(
+        attribute,
+        "icon" | "itemid" | "itemtype" | "longdesc" | "lowsrc" | "manifest" | "poster" | "profile"
+    )
+}
+
+/// Returns true if an attribute of this name holds a URL in HTML.
+pub fn is_url_name(attribute: &str) -> bool
+    ensures { result ≡ is_url_name attribute.now }
+{
+    is_early_url_name(attribute) || is_late_url_name(attribute)
+}
+
+// A URL without leading C0 controls and spaces has a scheme by which a browser runs it as a script.
+fn has_script_scheme(url: &[u8]) -> bool
+    ensures { result ≡ is_script (scheme_of_visible url.now) }
+{
+    has_scheme(url) && (spells(url, b"javascript") || spells(url, b"vbscript"))
+}
+
+/// Returns true if a browser would run the URL that an attribute holds as a script.
+pub fn is_script(attribute: &str, value: &str) -> bool
+    ensures { result ≡ (is_url_name attribute.now && is_script (scheme_of value.now)) }
+{
+    is_url_name(attribute) && has_script_scheme(behind_controls(value.as_bytes()))
 }

@@ -1,7 +1,7 @@
 //! A policy in TOML.
 use super::checks::check;
 use super::fault::PolicyFault;
-use super::github::GITHUB;
+use super::named::{GITHUB, TEXT};
 use html_tree_builder::clean::{AllowList, Around, Kind, is_prefix, is_refused, kind_of};
 use std::alloc::{AllocError, Global};
 use toml::{Table, Value};
@@ -28,6 +28,54 @@ const DROPPED: &[&str] = &[
     "audio",
     "video",
     "canvas",
+];
+
+// The other elements of HTML that can't be allowed.
+const OTHERS: &[&str] = &[
+    "acronym",
+    "area",
+    "base",
+    "basefont",
+    "bgsound",
+    "blink",
+    "body",
+    "button",
+    "command",
+    "datalist",
+    "form",
+    "frame",
+    "html",
+    "image",
+    "input",
+    "isindex",
+    "keygen",
+    "legend",
+    "link",
+    "listing",
+    "map",
+    "marquee",
+    "math",
+    "menuitem",
+    "meta",
+    "multicol",
+    "nextid",
+    "nobr",
+    "optgroup",
+    "option",
+    "param",
+    "picture",
+    "rb",
+    "rp",
+    "rt",
+    "rtc",
+    "ruby",
+    "search",
+    "selectedcontent",
+    "slot",
+    "source",
+    "spacer",
+    "svg",
+    "track",
 ];
 
 // The greatest depth of elements, which leaves room for the elements of a page: browsers flatten what is nested deeper than 512.
@@ -108,6 +156,27 @@ fn add_element(alloc: Global, policy: &mut AllowList, name: &str) -> Result<(), 
     Ok(policy.add_element(name)?)
 }
 
+// Returns true if a name is one of these.
+fn is_one_of(names: &[&str], name: &str) -> bool {
+    names.iter().any(|other| *other == name)
+}
+
+// Returns true if a name is that of an element of HTML, or of a custom element, which has a hyphen.
+fn is_element(name: &str) -> bool {
+    kind_of(name) != Kind::Unknown
+        || name.contains('-')
+        || is_one_of(DROPPED, name)
+        || is_one_of(OTHERS, name)
+}
+
+// Drops an element with its content, if HTML has it.
+fn drop_element(alloc: Global, policy: &mut AllowList, name: &str) -> Result<(), PolicyFault> {
+    if !is_element(name) {
+        return Err(wrong(format!(in alloc; "unknown element \"{name}\"")));
+    }
+    Ok(policy.drop_element(name)?)
+}
+
 // Refuses an attribute that no policy allows.
 fn ask_for_attribute(alloc: Global, name: &str) -> Result<(), PolicyFault> {
     if is_refused(name) {
@@ -116,8 +185,30 @@ fn ask_for_attribute(alloc: Global, name: &str) -> Result<(), PolicyFault> {
     Ok(())
 }
 
-// Allows an attribute on each element.
+// Returns true if no attribute that begins so has a meaning in HTML that a page could suffer from.
+fn is_harmless_prefix(prefix: &str) -> bool {
+    prefix.starts_with("data-") || prefix.starts_with("aria-")
+}
+
+// Allows the attributes of a pattern, such as `data-*`, on each element.
+fn add_attribute_prefix(
+    alloc: Global,
+    policy: &mut AllowList,
+    prefix: &str,
+) -> Result<(), PolicyFault> {
+    if !is_harmless_prefix(prefix) {
+        return Err(wrong(format!(in alloc;
+            "attributes \"{prefix}*\" can't be allowed: expected data-* or aria-*"
+        )));
+    }
+    Ok(policy.add_attribute_prefix(prefix)?)
+}
+
+// Allows an attribute on each element, or all of a pattern.
 fn add_attribute(alloc: Global, policy: &mut AllowList, name: &str) -> Result<(), PolicyFault> {
+    if let Some(prefix) = name.strip_suffix('*') {
+        return add_attribute_prefix(alloc, policy, prefix);
+    }
     ask_for_attribute(alloc, name)?;
     Ok(policy.add_attribute(name)?)
 }
@@ -130,8 +221,11 @@ fn is_scheme(name: &str) -> bool {
         })
 }
 
-// Allows a scheme of URLs.
+// Allows a scheme of URLs, unless it is one of scripts.
 fn add_scheme(alloc: Global, policy: &mut AllowList, name: &str) -> Result<(), PolicyFault> {
+    if matches!(name, "javascript" | "vbscript") {
+        return Err(wrong(format!(in alloc; "scheme \"{name}\" can't be allowed")));
+    }
     if !is_scheme(name) {
         return Err(wrong(format!(in alloc;
             "invalid scheme \"{name}\": expected a name such as https"
@@ -149,7 +243,7 @@ fn add_name(
 ) -> Result<(), PolicyFault> {
     match list {
         NameKey::Elements => add_element(alloc, policy, name),
-        NameKey::Dropped => Ok(policy.drop_element(name)?),
+        NameKey::Dropped => drop_element(alloc, policy, name),
         NameKey::Attributes => add_attribute(alloc, policy, name),
         NameKey::Urls => Ok(policy.add_url_attribute(name)?),
         NameKey::Schemes => add_scheme(alloc, policy, name),
@@ -209,6 +303,25 @@ fn add_attributes_of(
     };
     for (element, attributes) in table {
         add_attributes(alloc, policy, element.as_str(), attributes)?;
+    }
+    Ok(())
+}
+
+// Adds the prefixes of classes. A class may have capitals, but no whitespace.
+fn add_classes(alloc: Global, policy: &mut AllowList, value: &Value) -> Result<(), PolicyFault> {
+    for item in items_of(alloc, "classes", value)? {
+        match item {
+            Value::String(prefix) if !prefix.is_empty() && is_prefix(prefix.as_str()) => {
+                policy.add_class_prefix(prefix.as_str())?;
+            }
+            _ => {
+                return Err(mismatch(
+                    alloc,
+                    "classes",
+                    "an array of strings that aren't empty and have no whitespace",
+                ));
+            }
+        }
     }
     Ok(())
 }
@@ -293,6 +406,7 @@ fn set(alloc: Global, policy: &mut AllowList, key: &str, value: &Value) -> Resul
         "urls" => add_names(alloc, policy, NameKey::Urls, key, value),
         "schemes" => add_names(alloc, policy, NameKey::Schemes, key, value),
         "attributes-of" => add_attributes_of(alloc, policy, value),
+        "classes" => add_classes(alloc, policy, value),
         "relative" => set_relative(alloc, policy, value),
         "rel" => set_rel(alloc, policy, value),
         "prefix" => set_id_prefix(alloc, policy, value),
@@ -382,6 +496,7 @@ pub fn policy_of(alloc: Global, text: &[u8]) -> Result<AllowList, PolicyFault> {
 pub fn policy_named(alloc: Global, name: &str) -> Result<Option<AllowList>, PolicyFault> {
     match name {
         "github" => Ok(Some(policy_of(alloc, GITHUB.as_bytes())?)),
+        "text" => Ok(Some(policy_of(alloc, TEXT.as_bytes())?)),
         _ => Ok(None),
     }
 }

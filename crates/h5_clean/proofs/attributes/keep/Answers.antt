@@ -5,7 +5,7 @@ use Rattle.std.specs.Str.{is_utf8}
 use Rattle.h5_names.specs.AttributeText.{attribute_texts, is_same_text}
 use Rattle.h5_names.specs.declared.qualified.QualName.{QualName}
 use Rattle.h5_interface.specs.Changes.{has_attribute}
-use Rattle.h5_clean.specs.Policies.{as_left, bare, is_name, is_refused, may_act, may_stay, named_behind, sets, stays, value_left}
+use Rattle.h5_clean.specs.Policies.{as_left, bare, is_name, is_refused, may_act, may_stay, keeps, named_behind, sets, stays, value_left}
 use Rattle.h5_clean.specs.Texts.{readable}
 use Rattle.h5_clean.proofs.AttributeLaws.{put_last, stays_by}
 use Rattle.h5_clean.proofs.attributes.keep.Goals as goal
@@ -24,13 +24,13 @@ returns-in_ok-push g c =
     let own : c.name-name.result.now.local ≡ a.name.local = ap (λ (n : QualName). n.local) c.name-name.ensures in
     let local = c.as_str-local.ensures ∙ own in
     let value : string_bytes c.in_ok-value.value ≡ value_left r a.name.local a.value =
-    c.in_ok-value.ensures ∙ ap (λ p. named_behind p c.as_str-local.result.now (readable c.value.result.now)) c.prefix_of-prefix.ensures ∙ ap₂ (value_left r) local c.value.ensures in
+    c.in_ok-value.ensures ∙ ap (λ p. named_behind p r.classes c.as_str-local.result.now (readable c.value.result.now)) c.prefix_of-prefix.ensures ∙ ap₂ (value_left r) local c.value.ensures in
     let space : is_same_text a.name.ns [] ≡ true = search rules in
     let stays_here : stays r e before a ≡ true =
     stays_by r e before a space
     (ap₂ (λ l p. is_name l && (not (is_refused l) && may_act p l)) (sym local) (sym c.prefix_of-prefix.ensures) ∙ sym c.may_stay.ensures ∙ c.if-not-may_stay.false)
     (is_utf8-from_IsUtf8 (value_left r a.name.local a.value) (subst IsUtf8 (c.as_str.ensures.value ∙ value) c.as_str.utf8))
-    (kept_by (r.keeps e) c.as_str-local.result.now a.name.local c.as_str.result.now (value_left r a.name.local a.value) c.keeps.result true
+    (kept_by (keeps r e) c.as_str-local.result.now a.name.local c.as_str.result.now (value_left r a.name.local a.value) c.keeps.result true
     local (c.as_str.ensures.value ∙ value) c.keeps.ensures c.if-keeps.true)
     (ap (sets r e) (sym local) ∙ sym c.sets.ensures ∙ c.if-not-sets.true)
     (ap₂ (λ l xs. has_attribute (bare l) (attribute_texts xs)) (sym own) (sym c.as_slice.ensures.value) ∙ sym c.has_name.ensures ∙ c.if-not-has_name.true) in
@@ -50,16 +50,16 @@ returns-else-keeps g c =
     let own : c.name-name.result.now.local ≡ a.name.local = ap (λ (n : QualName). n.local) c.name-name.ensures in
     let local : c.as_str-local.result.now ≡ a.name.local = c.as_str-local.ensures ∙ own in
     let value : string_bytes c.in_ok-value.value ≡ left =
-    c.in_ok-value.ensures ∙ ap (λ p. named_behind p c.as_str-local.result.now (readable c.value.result.now)) c.prefix_of-prefix.ensures ∙ ap₂ (value_left r) local c.value.ensures in
-    let last : (r.keeps e a.name.local left && (not (sets r e a.name.local) && not (has_attribute (bare a.name.local) before))) ≡ false =
+    c.in_ok-value.ensures ∙ ap (λ p. named_behind p r.classes c.as_str-local.result.now (readable c.value.result.now)) c.prefix_of-prefix.ensures ∙ ap₂ (value_left r) local c.value.ensures in
+    let last : (keeps r e a.name.local left && (not (sets r e a.name.local) && not (has_attribute (bare a.name.local) before))) ≡ false =
     elim c.else-keeps.branch [
       | else-keeps-via-then-keeps+then-not-sets+else-not-has_name w ↦
-          and_right (r.keeps e a.name.local left) _ (and_right (not (sets r e a.name.local)) _
+          and_right (keeps r e a.name.local left) _ (and_right (not (sets r e a.name.local)) _
           (ap not (ap₂ (λ l xs. has_attribute (bare l) (attribute_texts xs)) (sym own) (sym w.as_slice.ensures.value) ∙ sym w.has_name.ensures ∙ w.if-not-has_name.false)))
       | else-keeps-via-then-keeps+else-not-sets w ↦
-          and_right (r.keeps e a.name.local left) _ (and_left _ _ (ap not (ap (sets r e) (sym local) ∙ sym w.sets.ensures ∙ w.if-not-sets.false)))
+          and_right (keeps r e a.name.local left) _ (and_left _ _ (ap not (ap (sets r e) (sym local) ∙ sym w.sets.ensures ∙ w.if-not-sets.false)))
       | else-keeps-via-else-keeps w ↦
-          and_left _ _ (kept_by (r.keeps e) c.as_str-local.result.now a.name.local c.as_str.result.now left c.keeps.result false
+          and_left _ _ (kept_by (keeps r e) c.as_str-local.result.now a.name.local c.as_str.result.now left c.keeps.result false
           local (c.as_str.ensures.value ∙ value) c.keeps.ensures w.if-keeps.false)
     ] in
     let goes : stays r e before a ≡ false =

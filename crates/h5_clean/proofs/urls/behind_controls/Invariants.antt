@@ -1,5 +1,5 @@
 use Rattle.std.proofs.Common.{◌≡◌, length}
-use Rattle.h5_clean.specs.DefaultPolicy.{behind_controls}
+use Rattle.h5_clean.specs.Urls.{behind_controls}
 use Rattle.h5_clean.proofs.urls.behind_controls.Given as goal
 
 abbrev pub invariant-loop-url : goal.invariant-loop-url

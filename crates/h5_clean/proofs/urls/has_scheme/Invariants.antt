@@ -1,5 +1,5 @@
 use Rattle.std.proofs.Common.{◌≡◌, is_some, length}
-use Rattle.h5_clean.specs.DefaultPolicy.{scheme_of_visible}
+use Rattle.h5_clean.specs.Urls.{scheme_of_visible}
 use Rattle.h5_clean.proofs.urls.has_scheme.Given as goal
 
 abbrev pub invariant-loop-url : goal.invariant-loop-url

@@ -1,5 +1,6 @@
 use Rattle.std.proofs.Common.{◌||◌, ◌∙◌, [], ap, codes, sym}
-use Rattle.h5_clean.specs.DefaultPolicy.{behind_controls, has_scheme_of, link_schemes, scheme_of_visible}
+use Rattle.h5_clean.specs.DefaultPolicy.{has_scheme_of, link_schemes}
+use Rattle.h5_clean.specs.Urls.{behind_controls, scheme_of_visible}
 use Rattle.h5_clean.proofs.SchemeLaws.{is_named, links}
 use Rattle.h5_clean.proofs.urls.is_link.Goals as goal
 

@@ -1,4 +1,4 @@
-//! The policy `github`.
+//! The policies with a name.
 
 /// What GitHub allows in a README, after the list of its library `html-pipeline`, except elements that have no kind here (`ruby`, `rt`, `rp`).
 /// Ids and names get the prefix that GitHub gives them.
@@ -26,4 +26,43 @@ blockquote = ["cite"]
 del = ["cite"]
 ins = ["cite"]
 q = ["cite"]
+"#;
+
+/// The default policy, key by key: what comments, posts and pages need.
+pub const TEXT: &str = r#"
+elements = ["a", "abbr", "address", "article", "aside", "b", "bdi", "bdo", "blockquote", "br", "caption", "cite", "code", "col",
+    "colgroup", "data", "dd", "del", "details", "dfn", "div", "dl", "dt", "em", "figcaption", "figure", "footer", "h1", "h2",
+    "h3", "h4", "h5", "h6", "header", "hgroup", "hr", "i", "img", "ins", "kbd", "li", "main", "mark", "nav", "ol", "p", "pre",
+    "q", "s", "samp", "section", "small", "span", "strike", "strong", "sub", "summary", "sup", "table", "tbody", "td", "tfoot",
+    "th", "thead", "time", "tr", "tt", "u", "ul", "var", "wbr"]
+attributes = ["title", "lang", "dir"]
+classes = ["language-"]
+schemes = ["http", "https", "mailto"]
+rel = "noopener noreferrer"
+
+[attributes-of]
+a = ["href"]
+blockquote = ["cite"]
+code = ["class"]
+col = ["span"]
+colgroup = ["span"]
+data = ["value"]
+del = ["cite", "datetime"]
+details = ["open"]
+div = ["align"]
+h1 = ["align"]
+h2 = ["align"]
+h3 = ["align"]
+h4 = ["align"]
+h5 = ["align"]
+h6 = ["align"]
+img = ["src", "alt", "width", "height", "align"]
+ins = ["cite", "datetime"]
+li = ["value"]
+ol = ["start", "reversed", "type"]
+p = ["align"]
+q = ["cite"]
+td = ["colspan", "rowspan", "headers", "align"]
+th = ["colspan", "rowspan", "headers", "scope", "align"]
+time = ["datetime"]
 "#;

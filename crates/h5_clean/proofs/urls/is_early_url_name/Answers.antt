@@ -1,7 +1,7 @@
 use Rattle.std.proofs.Common.{sym}
-use Rattle.h5_clean.specs.AllowLists.{url_names}
+use Rattle.h5_clean.specs.Urls.{url_names}
 use Rattle.h5_clean.proofs.NameLaws.{isnt_among}
-use Rattle.h5_clean.proofs.allow_list.is_url_name.Goals as goal
+use Rattle.h5_clean.proofs.urls.is_early_url_name.Goals as goal
 
 pub returns-in_default : goal.returns-in_default
 unfolding url_names
