@@ -321,6 +321,7 @@ box_at w o a =
       no_heading = λ u. ap (first_passes _) names ∙ f.no_heading u;
       no_item = λ u. ap (newest_item list_item_names) names ∙ f.no_item u;
       no_description = λ u. ap (newest_item description_names) names ∙ f.no_description u;
+      in_ruby = λ u. ap (first_passes _) names ∙ f.in_ruby u;
       no_select = ap no_select names ∙ f.unselected;
       none_listed = none_behind w.formatting a.calm.is_base;
       ignore_lf = a.calm.ignore_lf;

@@ -18,7 +18,7 @@ use Rattle.h5_rules.specs.Blanks.{all_blank}
 use Rattle.h5_rules.specs.stack.Closing.{ends_item_search, is_html_among, newest_item, passed_names}
 use Rattle.h5_rules.specs.modes.InBody.{description_names, list_item_names}
 use Rattle.h5_rules.specs.World.{World, names_of}
-use Rattle.h5_plain.specs.Plain.{Around, Barrier, Blank, Break, Caption, Cell, Cells, Column, ColumnBlank, ColumnGroup, Columns, Describing, Division, ElementThen, End, Flow, Formatted, Heading, IsPlain, Item, Link, Nodes, Nothing, Paragraph, Part, Phrase, Preformatted, Rows, Ruled, Section, Sections, Sort, Table, TablePart, TableRow, TextThen, Words, as_written, behind, end_tag, has_end_tag, held_as_written, nothing_open, start_tag, tokens_before, with_doubled, within}
+use Rattle.h5_plain.specs.Plain.{Around, Barrier, Blank, Break, Caption, Cell, Cells, Column, ColumnBlank, ColumnGroup, Columns, Describing, Division, ElementThen, End, Flow, Formatted, Heading, IsPlain, Item, Link, Nodes, Nothing, Paragraph, Part, Phrase, Preformatted, Rows, Ruby, RubyText, Ruled, Section, Sections, Sort, Table, TablePart, TableRow, TextThen, Words, as_written, behind, end_tag, has_end_tag, held_as_written, nothing_open, start_tag, tokens_before, with_doubled, within}
 use Rattle.h5_rules.specs.formatting.FormattingList.{Entry, MarkerEntry, clear_to_marker, push_formatting}
 use Rattle.h5_plain.proofs.ListedLaws.{Entries, Fewer, Formats, Kept, Lost, OpenFormat, Other, Passed, has_link, passed}
 use Rattle.h5_plain.proofs.BodyRuleLaws.{IsHeadingName, IsHolder, IsSeen, is_barrier, is_heading_name, is_open_block, p_holds, p_outside, p_rule, pre}
@@ -35,8 +35,8 @@ use Rattle.h5_plain.proofs.ListRuleLaws.{IsTermName, is_term, item_holds, item_o
 use Rattle.h5_plain.proofs.ListStepLaws.{ends_item, ends_term, starts_item}
 use Rattle.h5_plain.proofs.LooksLaws.{ends_in_node, ends_in_text, unlike}
 use Rattle.h5_plain.proofs.ModeLaws.{GoesByBody, ResetsTo, TheBody, TheCaption, TheCell, resets_below, resets_to_caption, resets_to_cell}
-use Rattle.h5_plain.proofs.PhraseRuleLaws.{is_mark, is_phrase}
-use Rattle.h5_plain.proofs.PhraseStepLaws.{ends_phrase, marks, rules_off, starts_phrase}
+use Rattle.h5_plain.proofs.PhraseRuleLaws.{is_mark, is_phrase, is_ruby_text, ruby}
+use Rattle.h5_plain.proofs.PhraseStepLaws.{ends_phrase, is_ruby, marks, rules_off, starts_phrase, starts_ruby_text}
 use Rattle.h5_plain.proofs.RuleLaws.{start}
 use Rattle.h5_plain.proofs.TableBuildsLaws.{in_marked, in_part, marked_case, part_case}
 use Rattle.h5_plain.proofs.TableRuleLaws.{IsCellName, caption, column_is_void, group_holds, group_rule, is_cell_name, is_part_name, row_holds, row_rule, table_holds}
@@ -49,6 +49,10 @@ Free b found = b ≡ false → found ≡ false
 abbrev pub NoneOf : Bool → List (List ℕ) → List QualName → Type 0
 NoneOf b locals names = b ≡ false → newest_item locals names ≡ None
 
+-- if the parent is said to be one, it is one
+abbrev pub Needs : Bool → Bool → Type 0
+Needs b found = b ≡ true → found ≡ true
+
 abbrev pub no_select : List QualName → Bool
 no_select = in_scope (is_html_named (codes "select")) is_default_scope
 
@@ -60,6 +64,7 @@ pub record FitsFlow (at_root : Option Role) (o : Around) (m : InsertionMode) (na
   pub no_heading : Free o.in_heading (first_passes is_heading names)
   pub no_item : NoneOf o.in_item list_item_names names
   pub no_description : NoneOf o.in_description description_names names
+  pub in_ruby : Needs o.in_ruby (first_passes is_ruby names)
   pub unselected : no_select names ≡ false
 
 -- where such nodes may come
@@ -116,6 +121,7 @@ fits_within o m name names k f = record {
   no_heading = λ e. k.no_heading;
   no_item = seen_through list_item_names o.in_item (html_name name) names k.no_item k.search f.no_item;
   no_description = seen_through description_names o.in_description (html_name name) names k.no_description k.search f.no_description;
+  in_ruby = λ e. absurd (cc);
   unselected = more_select (html_name name) names k.no_select f.unselected;
 }
 
@@ -127,6 +133,7 @@ fits_behind o m name names k f = record {
   no_heading = λ e. k.no_heading;
   no_item = λ e. hidden list_item_names (html_name name) names k.no_item k.search;
   no_description = λ e. hidden description_names (html_name name) names k.no_description k.search;
+  in_ruby = λ e. absurd (cc);
   unselected = more_select (html_name name) names k.no_select f.unselected;
 }
 
@@ -139,6 +146,20 @@ fits_in_link o m names f = let g = fits_within o m (codes "a") names a_formats.s
   no_heading = g.no_heading;
   no_item = g.no_item;
   no_description = g.no_description;
+  in_ruby = g.in_ruby;
+  unselected = g.unselected;
+}
+
+-- of a `ruby`
+fits_in_ruby : {at_root : Option Role} (o : Around) (m : InsertionMode) (names : List QualName) → FitsFlow at_root o m names → FitsFlow at_root (record (within o) { in_ruby = true }) m (html_name (codes "ruby") ∷ names)
+fits_in_ruby o m names f = let g = fits_within o m (codes "ruby") names ruby.seen f in record {
+  goes = g.goes;
+  resets = g.resets;
+  no_p = g.no_p;
+  no_heading = g.no_heading;
+  no_item = g.no_item;
+  no_description = g.no_description;
+  in_ruby = λ e. ruby.itself;
   unselected = g.unselected;
 }
 
@@ -158,6 +179,7 @@ fits_in_p o m names f =
       no_heading = λ e. s.1.0;
       no_item = seen_through list_item_names o.in_item n names s.1.1.1.0 s.1.1.1.1.1 f.no_item;
       no_description = seen_through description_names o.in_description n names s.1.1.1.1.0 s.1.1.1.1.1 f.no_description;
+      in_ruby = λ e. absurd (cc);
       unselected = more_select n names s.1.1.0 f.unselected;
     }
 
@@ -172,6 +194,7 @@ fits_in_heading o m name names k f =
       no_heading = λ e. absurd (cc);
       no_item = λ e. hidden list_item_names n names k.no_item k.search;
       no_description = λ e. hidden description_names n names k.no_description k.search;
+      in_ruby = λ e. absurd (cc);
       unselected = more_select n names k.no_select f.unselected;
     }
 
@@ -187,6 +210,7 @@ fits_in_item o m names f =
       no_heading = λ e. s.1.1.0;
       no_item = λ e. absurd (cc);
       no_description = λ e. hidden description_names n names s.1.1.1.1.1.0 s.1.1.1.1.1.1;
+      in_ruby = λ e. absurd (cc);
       unselected = more_select n names s.1.1.1.1.0 f.unselected;
     }
 
@@ -200,6 +224,7 @@ fits_in_term o m name names k f =
       no_heading = λ e. k.no_heading;
       no_item = λ e. hidden list_item_names n names k.no_item k.search;
       no_description = λ e. absurd (cc);
+      in_ruby = λ e. absurd (cc);
       unselected = more_select n names k.no_select f.unselected;
     }
 
@@ -212,7 +237,7 @@ hr_is_void = (refl, refl)
 pub body_fits : (at_root : Option Role) (m : InsertionMode) → m ≡ InBody → Fits at_root (Flow false nothing_open) m (body ∷ html ∷ [])
 unfolding is_html_named is_button_scope is_default_scope is_foreign_special is_heading html_namespace mathml_namespace svg_namespace scope_names button_scope_names heading_names role_of role_of_local is_special special_names passed_names list_item_names description_names
 body_fits at_root m e = subst (λ k. Fits at_root (Flow false nothing_open) k (body ∷ html ∷ [])) (sym e)
-    (record { goes = TheBody; resets = λ s q. refl; no_p = λ q. refl; no_heading = λ q. refl; no_item = λ q. refl; no_description = λ q. refl; unselected = refl })
+    (record { goes = TheBody; resets = λ s q. refl; no_p = λ q. refl; no_heading = λ q. refl; no_item = λ q. refl; no_description = λ q. refl; in_ruby = λ q. absurd (cc); unselected = refl })
 
 -- what a table and its parts hold may come in them
 pub in_table : (at_root : Option Role) (names : List QualName) → Fits at_root (Part false Sections) InTable (html_name (codes "table") ∷ names)
@@ -235,6 +260,7 @@ in_a_cell at_root name names k h =
       no_heading = λ e. k.no_heading;
       no_item = λ e. hidden list_item_names n names k.no_item k.search;
       no_description = λ e. hidden description_names n names k.no_description k.search;
+      in_ruby = λ e. absurd (cc);
       unselected = ap (λ b. cond b true (cond (is_default_scope n) false (no_select names))) k.no_select
           ∙ ap (λ b. cond b false (no_select names)) k.ends_default;
     }
@@ -251,6 +277,7 @@ in_a_caption at_root names h =
       no_heading = λ e. k.no_heading;
       no_item = λ e. hidden list_item_names n names k.no_item k.search;
       no_description = λ e. hidden description_names n names k.no_description k.search;
+      in_ruby = λ e. absurd (cc);
       unselected = ap (λ b. cond b true (cond (is_default_scope n) false (no_select names))) k.no_select
           ∙ ap (λ b. cond b false (no_select names)) k.ends_default;
     }
@@ -579,6 +606,19 @@ builds choices {at_root} (Phrase {a} {o} {name} {attrs} {inner} {rest} h y i r) 
     let n = choices.fresh w.forest in
     let x = is_phrase name h in
     block_case choices c name attrs inner rest x.holds (starts_phrase choices c name attrs x f.goes)
+    (λ q. builds choices i (in_block choices c name attrs) n (face name attrs) (html_name name ∷ names) (Other n ∷ path) under base (fits_within o w.mode name names x.seen f) refl l q)
+    (λ v m k j e. ends_phrase choices v names (subst GoesByBody (sym m) f.goes) k j name x e)
+    (λ g k b y1 q. builds choices r (after w g k b y1) p (more d (ChildNode n ∷ [])) names path under base f (ends_in_node n d.children) l q)
+builds choices {at_root} (Ruby {a} {o} {attrs} {inner} {rest} y i r) w p d names path under base f z l c =
+    let n = choices.fresh w.forest in
+    block_case choices c (codes "ruby") attrs inner rest ruby.holds (starts_phrase choices c (codes "ruby") attrs ruby f.goes)
+    (λ q. builds choices i (in_block choices c (codes "ruby") attrs) n (face (codes "ruby") attrs) (html_name (codes "ruby") ∷ names) (Other n ∷ path) under base (fits_in_ruby o w.mode names f) refl l q)
+    (λ v m k j e. ends_phrase choices v names (subst GoesByBody (sym m) f.goes) k j (codes "ruby") ruby e)
+    (λ g k b y1 q. builds choices r (after w g k b y1) p (more d (ChildNode n ∷ [])) names path under base f (ends_in_node n d.children) l q)
+builds choices {at_root} (RubyText {a} {o} {name} {attrs} {inner} {rest} h u y i r) w p d names path under base f z l c =
+    let n = choices.fresh w.forest in
+    let x = is_ruby_text name h in
+    block_case choices c name attrs inner rest x.holds (starts_ruby_text choices c name attrs x f.goes (f.in_ruby u))
     (λ q. builds choices i (in_block choices c name attrs) n (face name attrs) (html_name name ∷ names) (Other n ∷ path) under base (fits_within o w.mode name names x.seen f) refl l q)
     (λ v m k j e. ends_phrase choices v names (subst GoesByBody (sym m) f.goes) k j name x e)
     (λ g k b y1 q. builds choices r (after w g k b y1) p (more d (ChildNode n ∷ [])) names path under base f (ends_in_node n d.children) l q)

@@ -66,6 +66,7 @@ module _ (w : World) (s : IsFragmentStart w) where
     no_heading = λ e. refl;
     no_item = λ e. refl;
     no_description = λ e. refl;
+    in_ruby = λ e. absurd (cc);
     unselected = refl;
   }
 

@@ -1,26 +1,30 @@
--- What a tag of an element without a rule of its own, or without an end tag, does in the body, or in a cell.
-use Rattle.std.proofs.Common.{◌≡◌, ◌∙◌, ℕ, true, false, ◌&&◌, ◌||◌, not, cond, List, [], ◌∷◌, None, codes, refl, ap, Option}
+-- What a tag of an element without a rule of its own, of a text of a `ruby`, or of an element without an end tag does in
+-- the body, or in a cell.
+use Rattle.std.proofs.Common.{◌≡◌, ◌∙◌, ℕ, Bool, true, false, ◌&&◌, ◌||◌, not, cond, List, [], ◌∷◌, None, codes, refl, ap, Option}
+use Rattle.std.specs.List.{list_any}
 use Rattle.h5_names.specs.AttributeText.{AttributeText}
 use Rattle.h5_names.specs.declared.qualified.QualName.{QualName}
+use Rattle.h5_token.specs.TokenText.{TagText}
 use Rattle.h5_interface.specs.SinkChoices.{SinkChoices}
-use Rattle.h5_tables.specs.TagSets.{is_default_scope, is_html_named, is_implied, is_special}
+use Rattle.h5_tables.specs.TagSets.{implied_names, is_default_scope, is_html_named, is_implied, is_one_of, is_special}
 use Rattle.h5_rules.specs.formatting.FormattingList.{Entry}
 use Rattle.h5_rules.specs.formatting.FormattingNames.{html_name}
 use Rattle.h5_rules.specs.stack.Scope.{drop_while, first_passes, has_p_in_button_scope, in_scope, is_implied_but}
 use Rattle.h5_rules.specs.Changes.{insert_and_pop_element, insert_element, new_element, pop_until_named, set_frameset_not_ok}
 use Rattle.h5_rules.specs.stack.Closing.{generate_implied_end_tags, generate_implied_end_in_select}
-use Rattle.h5_rules.specs.modes.InBody.{has_option_in_scope, in_body_end_other, is_expected_rule}
+use Rattle.h5_rules.specs.modes.InBody.{has_option_in_scope, in_body_end_other, in_body_start_hr, in_body_start_other, in_body_start_ruby_text, is_expected_rule, is_ruby_or_rtc}
 use Rattle.h5_rules.specs.insertion.Place.{place}
-use Rattle.h5_rules.specs.Rows.{Change, ClosePElementInButtonScope, GenerateImpliedEndExcept, GenerateImpliedEndInSelect, InsertAndPopElement, InsertElement, IsAcknowledged, IsDone, PopUntilNamed, ReconstructActiveFormattingElements, SetFramesetNotOk, choose, ignored, row_if}
+use Rattle.h5_rules.specs.Rows.{Change, ClosePElementInButtonScope, GenerateImpliedEndExcept, GenerateImpliedEndInSelect, InsertAndPopElement, InsertElement, IsAcknowledged, IsDone, PopUntilNamed, ReconstructActiveFormattingElements, Row, SetFramesetNotOk, choose, errs, ignored, row_if}
 use Rattle.h5_rules.specs.fitting.Roles.{Role}
 use Rattle.h5_rules.specs.World.{World, names_of}
+use Rattle.h5_rules.proofs.changes.ClosingLaws.{named_not_implied}
 use Rattle.h5_rules.proofs.changes.FormattingLaws.{reconstruct_none}
 use Rattle.h5_rules.proofs.changes.PopLaws.{implied_none}
 use Rattle.h5_plain.specs.Plain.{end_tag, start_tag}
 use Rattle.h5_plain.proofs.BodyStepLaws.{cut_at, insert_is, left, no_p, none_closed}
 use Rattle.h5_plain.proofs.CalmLaws.{Calm, after, calm_closed, calm_html, names_are, opened, place_is, unowned}
 use Rattle.h5_plain.proofs.FilledLaws.{Face}
-use Rattle.h5_rules.specs.stack.Expected.{is_expected, names_behind_p}
+use Rattle.h5_rules.specs.stack.Expected.{is_expected, is_expected_p, names_behind_p}
 use Rattle.h5_rules.proofs.changes.ExpectedLaws.{current_expected, no_p_behind, no_p_expected}
 use Rattle.h5_plain.proofs.GoesLaws.{Moves, moves_acknowledged, moves_row}
 use Rattle.h5_plain.proofs.GrowthLaws.{with_element}
@@ -34,13 +38,58 @@ no_select_expected : (ns : List QualName) → in_scope (is_html_named (codes "se
 unfolding is_expected_rule
 no_select_expected ns h = ap (λ b. not b || not (has_option_in_scope (drop_while is_implied ns))) h
 
+-- if the current node is a `ruby`, one is in scope, and its end tag isn't implied
+abbrev pub is_ruby : QualName → Bool
+is_ruby = is_html_named (codes "ruby")
+
+no_ruby_implied : list_any (is_one_of implied_names) (codes "ruby" ∷ []) ≡ false
+unfolding implied_names
+no_ruby_implied = refl
+
+ruby_not_implied : (n : QualName) → is_ruby n ≡ true → is_implied_but (codes "rtc") n ≡ false
+ruby_not_implied n h = at (is_implied n) refl
+  where
+    at : (b : Bool) → is_implied n ≡ b → (b && not (is_html_named (codes "rtc") n)) ≡ false
+    at true e = absurd (let other = named_not_implied (codes "ruby" ∷ []) (codes "ruby") n no_ruby_implied refl e in cc)
+    at false e = refl
+
+ruby_in_scope : (ns : List QualName) → first_passes is_ruby ns ≡ true → in_scope is_ruby is_default_scope ns ≡ true
+ruby_in_scope [] h = absurd (cc)
+ruby_in_scope (n ∷ ns) h = ap (λ b. cond b true (cond (is_default_scope n) false (in_scope is_ruby is_default_scope ns))) h
+
+ruby_stays : (ns : List QualName) → first_passes is_ruby ns ≡ true → first_passes (is_implied_but (codes "rtc")) ns ≡ false
+ruby_stays [] h = refl
+ruby_stays (n ∷ ns) h = ruby_not_implied n h
+
+ruby_expected : (ns : List QualName) → first_passes is_ruby ns ≡ true → is_expected (is_implied_but (codes "rtc")) is_ruby_or_rtc ns ≡ true
+ruby_expected [] h = absurd (cc)
+ruby_expected (n ∷ ns) h = current_expected (is_implied_but (codes "rtc")) is_ruby_or_rtc n ns (ruby_not_implied n h) (at (is_html_named (codes "rtc") n))
+  where
+    at : (b : Bool) → (b || is_ruby n) ≡ true
+    at true = refl
+    at false = h
+
 module _ (choices : SinkChoices) {at_root : Option Role} {w : World} {p : ℕ} {d : Face} {names : List QualName} {path : List OpenFormat} {under : List ℕ} {base : List Entry} (c : Calm at_root w p d names path under base) where
   -- the start tag of an element without a rule: a new element below the current node
-  pub starts_phrase : (name : List ℕ) (attrs : List AttributeText) → IsPhraseName name → GoesByBody w.mode → Moves choices (start_tag name attrs) w (opened choices w p name attrs w.mode w.formatting w.frameset_ok)
+  pub starts_phrase : (name : List ℕ) (attrs : List AttributeText) → IsPhraseName in_body_start_other name → GoesByBody w.mode → Moves choices (start_tag name attrs) w (opened choices w p name attrs w.mode w.formatting w.frameset_ok)
   starts_phrase name attrs k m =
       moves_row choices (start name attrs) w (opened choices w p name attrs w.mode w.formatting w.frameset_ok) w.mode (ReconstructActiveFormattingElements ∷ InsertElement name attrs false ∷ []) refl c.ignore_lf (calm_html c)
       (start_by_body m name attrs w k.outside.no_structure ∙ k.starts attrs w) refl k.holds.no_title
       (ap (insert_element choices name attrs false) (reconstruct_none choices w (calm_closed c)) ∙ insert_is choices c name attrs)
+
+  -- the start tag of an `rp` or `rt` if the current node is a `ruby`: the same, as nothing is closed
+  pub starts_ruby_text : (name : List ℕ) (attrs : List AttributeText) → IsPhraseName in_body_start_ruby_text name → GoesByBody w.mode → first_passes is_ruby names ≡ true
+      → Moves choices (start_tag name attrs) w (opened choices w p name attrs w.mode w.formatting w.frameset_ok)
+  starts_ruby_text name attrs k m h =
+      let put : List Change = InsertElement name attrs false ∷ [] in
+      let changes : List Change = GenerateImpliedEndExcept (codes "rtc") ∷ put in
+      let here : first_passes is_ruby (names_of w) ≡ true = ap (first_passes is_ruby) (names_are w c.named) ∙ h in
+      moves_row choices (start name attrs) w (opened choices w p name attrs w.mode w.formatting w.frameset_ok) w.mode changes refl c.ignore_lf (calm_html c)
+      (start_by_body m name attrs w k.outside.no_structure
+      ∙ k.starts attrs w
+      ∙ ap (λ b. choose b (row_if (is_expected (is_implied_but (codes "rtc")) is_ruby_or_rtc (names_of w)) changes IsDone) (row_if (first_passes is_ruby_or_rtc (names_of w)) put IsDone)) (ruby_in_scope (names_of w) here)
+      ∙ ap (λ b. row_if b changes IsDone) (ruby_expected (names_of w) here)) refl k.holds.no_title
+      (ap (insert_element choices name attrs false) (implied_none choices (codes "rtc") w (ruby_stays (names_of w) here)) ∙ insert_is choices c name attrs)
 
   -- an element without an end tag
   abbrev pub marked : List ℕ → List AttributeText → World
@@ -76,8 +125,8 @@ module _ (choices : SinkChoices) {at_root : Option Role} {w : World} {p : ℕ} {
       ∙ ap (λ v. set_frameset_not_ok (insert_and_pop_element choices (codes "hr") attrs false v)) (none_implied i)
       ∙ mark_is (codes "hr") attrs)
 
--- the end tag of an element without a rule: the current node leaves the stack
-pub ends_phrase : (choices : SinkChoices) (w : World) (names : List QualName) (m : GoesByBody w.mode) (i : w.ignore_lf ≡ false) (j : AtHtml w) (name : List ℕ) → IsPhraseName name → names_of w ≡ html_name name ∷ names
+-- the end tag of an element without a rule for it: the current node leaves the stack
+pub ends_phrase : (choices : SinkChoices) {starts_by : TagText → World → Row} (w : World) (names : List QualName) (m : GoesByBody w.mode) (i : w.ignore_lf ≡ false) (j : AtHtml w) (name : List ℕ) → IsPhraseName starts_by name → names_of w ≡ html_name name ∷ names
     → Moves choices (end_tag name) w (left choices w names m i j)
 unfolding in_body_end_other pop_until_named
 ends_phrase choices w names m i j name k e =

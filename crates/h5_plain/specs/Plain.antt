@@ -79,6 +79,10 @@ phrase_names =
     codes "kbd" ∷ codes "label" ∷ codes "mark" ∷ codes "meter" ∷ codes "output" ∷ codes "progress" ∷ codes "q" ∷ codes "samp" ∷
     codes "span" ∷ codes "sub" ∷ codes "sup" ∷ codes "time" ∷ codes "var" ∷ []
 
+-- the text of a `ruby`, and a parenthesis around it
+unfoldable pub ruby_text_names : List (List ℕ)
+ruby_text_names = codes "rp" ∷ codes "rt" ∷ []
+
 -- blocks that don't end the search for a list item, and blocks that end it
 unfoldable pub open_block_names : List (List ℕ)
 open_block_names = codes "address" ∷ codes "dialog" ∷ codes "div" ∷ []
@@ -101,23 +105,25 @@ unfoldable pub part_names : List (List ℕ)
 part_names = codes "tbody" ∷ codes "tfoot" ∷ codes "thead" ∷ []
 
 -- what is open around nodes, as far as the rules of "in body" need it: a `p`; a heading as the parent; an `li`, and a
--- `dd` or `dt`, unless another element ends the search for it; an `a`
+-- `dd` or `dt`, unless another element ends the search for it; an `a`; a `ruby` as the parent. Only the last one
+-- allows more nodes
 pub record Around : Type 0 where
   pub in_p : Bool
   pub in_heading : Bool
   pub in_item : Bool
   pub in_description : Bool
   pub in_link : Bool
+  pub in_ruby : Bool
 
 abbrev pub nothing_open : Around
-nothing_open = record { in_p = false; in_heading = false; in_item = false; in_description = false; in_link = false }
+nothing_open = record { in_p = false; in_heading = false; in_item = false; in_description = false; in_link = false; in_ruby = false }
 
 -- inside an element that doesn't end the search for a list item; and inside one that ends it
 abbrev pub within : Around → Around
-within o = record o { in_heading = false }
+within o = record o { in_heading = false; in_ruby = false }
 
 abbrev pub behind : Around → Around
-behind o = record o { in_heading = false; in_item = false; in_description = false }
+behind o = record o { in_heading = false; in_item = false; in_description = false; in_ruby = false }
 
 -- a table, its sections and its rows, by their content
 pub data TablePart : Type 0 where
@@ -168,6 +174,13 @@ pub data IsPlain (blanks : Bool) : Sort → Nodes → Type 0 where
   Formatted : {a : Bool} {o : Around} {name : List ℕ} {attrs : List AttributeText} {inner rest : Nodes} → is_one_of inline_names name ≡ true → ArePlain attrs
       → IsPlain blanks (Flow false (within o)) inner → IsPlain blanks (Flow false o) rest → IsPlain blanks (Flow a o) (ElementThen name attrs inner rest)
   Phrase : {a : Bool} {o : Around} {name : List ℕ} {attrs : List AttributeText} {inner rest : Nodes} → is_one_of phrase_names name ≡ true → ArePlain attrs
+      → IsPlain blanks (Flow false (within o)) inner → IsPlain blanks (Flow false o) rest → IsPlain blanks (Flow a o) (ElementThen name attrs inner rest)
+  -- a `ruby`; and an `rp` or `rt`, if the parent is a `ruby`: its start tag then closes nothing. It may hold what a `span`
+  -- may hold: its end tag can be implied, but not by a tag inside it, since a start tag implies end tags only to close a `p`
+  -- or an item, and an end tag only those inside its element
+  Ruby : {a : Bool} {o : Around} {attrs : List AttributeText} {inner rest : Nodes} → ArePlain attrs
+      → IsPlain blanks (Flow false (record (within o) { in_ruby = true })) inner → IsPlain blanks (Flow false o) rest → IsPlain blanks (Flow a o) (ElementThen (codes "ruby") attrs inner rest)
+  RubyText : {a : Bool} {o : Around} {name : List ℕ} {attrs : List AttributeText} {inner rest : Nodes} → is_one_of ruby_text_names name ≡ true → o.in_ruby ≡ true → ArePlain attrs
       → IsPlain blanks (Flow false (within o)) inner → IsPlain blanks (Flow false o) rest → IsPlain blanks (Flow a o) (ElementThen name attrs inner rest)
   -- an `a`, not inside another
   Link : {a : Bool} {o : Around} {attrs : List AttributeText} {inner rest : Nodes} → o.in_link ≡ false → ArePlain attrs
