@@ -16,7 +16,7 @@ const KINDS = {
     'summary ul',
   break: 'br img wbr', heading: 'h1 h2 h3 h4 h5 h6', describing: 'dd dt', section: 'tbody tfoot thead', cell: 'td th', link: 'a',
   paragraph: 'p', item: 'li', row: 'tr', preformatted: 'pre', ruled: 'hr', table: 'table', caption: 'caption', columns: 'colgroup',
-  column: 'col',
+  column: 'col', ruby: 'ruby', rubyText: 'rp rt',
 };
 const KIND_OF = new Map(Object.entries(KINDS).flatMap(([kind, names]) => words(names).map(name => [name, kind])));
 const UNNAMED = setOf('center dialog dir fieldset big font label meter output progress menu');
@@ -34,20 +34,22 @@ const KEPT = {
 const KEPT_BY = {align: setOf('td th p div img h1 h2 h3 h4 h5 h6'), cite: setOf('blockquote q del ins')};
 const SCHEMES = {href: setOf('http https mailto'), cite: setOf('http https mailto'), src: setOf('http https')};
 
-// What may stand in parts of tables, what may stand in flow whatever is open, and what a `p` in the way forbids.
+// What may stand in parts of tables, what may stand in flow whatever is open, and what a `p` in the way forbids. Beside these, the text
+// of a `ruby` may stand right in one.
 const PARTS = {table: setOf('caption columns section'), columns: setOf('column'), section: setOf('row'), row: setOf('cell')};
-const ANYWHERE = setOf('phrase formatted break link');
+const ANYWHERE = setOf('phrase formatted break ruby link');
 const NOT_IN_P = setOf('division barrier preformatted paragraph heading item describing ruled table');
 // Which kinds are open to what they hold, each of which forbids itself; and through which an item is seen.
 const OPENS = {paragraph: 'paragraph', heading: 'heading', item: 'item', describing: 'describing', link: 'link'};
-const SEEN_THROUGH = setOf('division paragraph formatted phrase link');
-const NOTHING_OPEN = {spot: 'flow', paragraph: false, heading: false, item: false, describing: false, link: false};
+const SEEN_THROUGH = setOf('division paragraph formatted phrase ruby rubyText link');
+const NOTHING_OPEN = {spot: 'flow', paragraph: false, heading: false, item: false, describing: false, link: false, ruby: false};
 const FIRST = {...NOTHING_OPEN, item: true, describing: true, room: DEPTH};
 
 // Whether an element of a kind may begin at a place.
 function fits(kind, place) {
   if (place.room === 0) return false;
   if (place.spot !== 'flow') return place.spot in PARTS && PARTS[place.spot].has(kind);
+  if (kind === 'rubyText') return place.ruby;
   if (place[OPENS[kind]]) return false;
   return ANYWHERE.has(kind) || (NOT_IN_P.has(kind) && !place.paragraph);
 }
@@ -57,7 +59,7 @@ function inside(kind, place) {
   const room = place.room - 1;
   if (kind in PARTS) return {...place, spot: kind, room};
   if (kind === 'caption' || kind === 'cell') return {...NOTHING_OPEN, room};
-  const inner = {...place, spot: 'flow', heading: false, room};
+  const inner = {...place, spot: 'flow', heading: false, ruby: kind === 'ruby', room};
   if (!SEEN_THROUGH.has(kind)) inner.item = inner.describing = false;
   if (kind in OPENS) inner[OPENS[kind]] = true;
   return inner;

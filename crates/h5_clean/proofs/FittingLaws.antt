@@ -16,7 +16,7 @@ use Rattle.h5_clean.specs.declared.kind.Kind.TheVariants as kind
 use Rattle.h5_clean.specs.declared.place.Place.{Place}
 use Rattle.h5_clean.specs.declared.place.Spot.{Spot}
 use Rattle.h5_clean.specs.declared.place.Spot.TheVariants as spot
-use Rattle.h5_clean.proofs.KindLaws.{HasKind, has_kind, barrier_kind, break_kind, caption_kind, cell_kind, column_kind, describing_kind, division_kind, formatted_kind, group_kind, heading_kind, item_kind, link_kind, paragraph_kind, phrase_kind, pre_kind, row_kind, ruled_kind, section_kind, table_kind}
+use Rattle.h5_clean.proofs.KindLaws.{HasKind, has_kind, barrier_kind, break_kind, caption_kind, cell_kind, column_kind, describing_kind, division_kind, formatted_kind, group_kind, heading_kind, item_kind, link_kind, paragraph_kind, phrase_kind, pre_kind, row_kind, ruby_kind, ruby_text_kind, ruled_kind, section_kind, table_kind}
 
 abbrev pub is_filled : List ℕ → Bool
 is_filled [] = false
@@ -87,6 +87,8 @@ element_plain kind.Ruled spot.InFlow a x name attrs inner rest n h e p i l = ren
 element_plain kind.Break spot.InFlow a x name attrs inner rest n h e p i l = emptied (sort_at a spot.InFlow (around x)) name attrs inner rest (e refl) (plain.Break n p l)
 element_plain kind.Formatted spot.InFlow a x name attrs inner rest n h e p i l = plain.Formatted n p i l
 element_plain kind.Phrase spot.InFlow a x name attrs inner rest n h e p i l = plain.Phrase n p i l
+element_plain kind.Ruby spot.InFlow a x name attrs inner rest n h e p i l = renamed (sort_at a spot.InFlow (around x)) (codes "ruby") name attrs inner rest n (plain.Ruby p i l)
+element_plain kind.RubyText spot.InFlow a x name attrs inner rest n h e p i l = plain.RubyText n h p i l
 element_plain kind.Link spot.InFlow a x name attrs inner rest n h e p i l = renamed (sort_at a spot.InFlow (around x)) (codes "a") name attrs inner rest n (plain.Link (not_true x.in_link h) p i l)
 element_plain kind.Table spot.InFlow a x name attrs inner rest n h e p i l = renamed (sort_at a spot.InFlow (around x)) (codes "table") name attrs inner rest n (plain.Table (not_true x.in_p h) p i l)
 element_plain kind.Caption spot.InTable a x name attrs inner rest n h e p i l = renamed (sort_at a spot.InTable (around x)) (codes "caption") name attrs inner rest n (plain.Caption p i l)
@@ -183,6 +185,10 @@ opened spot.InFlow a x name attrs inner rest w (plain.Formatted n p i l) =
     subst (λ k. Opened k spot.InFlow x attrs inner rest) (sym (formatted_kind name n)) (record { fitting = refl; empty = λ e. absurd (cc); is_plain = p; holds = i; goes_on = l })
 opened spot.InFlow a x name attrs inner rest w (plain.Phrase n p i l) =
     subst (λ k. Opened k spot.InFlow x attrs inner rest) (sym (phrase_kind name n)) (record { fitting = refl; empty = λ e. absurd (cc); is_plain = p; holds = i; goes_on = l })
+opened spot.InFlow a x _ attrs inner rest w (plain.Ruby p i l) =
+    subst (λ k. Opened k spot.InFlow x attrs inner rest) (sym ruby_kind) (record { fitting = refl; empty = λ e. absurd (cc); is_plain = p; holds = i; goes_on = l })
+opened spot.InFlow a x name attrs inner rest w (plain.RubyText n o p i l) =
+    subst (λ k. Opened k spot.InFlow x attrs inner rest) (sym (ruby_text_kind name n)) (record { fitting = o; empty = λ e. absurd (cc); is_plain = p; holds = i; goes_on = l })
 opened spot.InFlow a x _ attrs inner rest w (plain.Link o p i l) =
     subst (λ k. Opened k spot.InFlow x attrs inner rest) (sym link_kind) (record { fitting = ap not o; empty = λ e. absurd (cc); is_plain = p; holds = i; goes_on = l })
 opened spot.InFlow a x _ attrs inner rest w (plain.Table o p i l) =

@@ -4,10 +4,11 @@ use Rattle.std.proofs.lemmas.Slice.Eq.{bytes_eq-Decides}
 use Rattle.h5_names.specs.AttributeText.{is_same_text}
 use Rattle.h5_tables.specs.TagSets.{cell_names, heading_names, is_one_of}
 use Rattle.h5_rules.proofs.rows.ByNameLaws.{HoldsOfAll, of_one}
-use Rattle.h5_plain.specs.Plain.{barrier_names, inline_names, mark_names, open_block_names, part_names, phrase_names, term_names}
+use Rattle.h5_plain.specs.Plain.{barrier_names, inline_names, mark_names, open_block_names, part_names, phrase_names, ruby_text_names, term_names}
 use Rattle.h5_clean.specs.Kinds.{Row, kind_in, kind_of, lone_rows, set_rows}
 use Rattle.h5_clean.specs.declared.kind.Kind.{Kind}
 use Rattle.h5_clean.specs.declared.kind.Kind.TheVariants as kind
+use Rattle.h5_clean.proofs.NameLaws.{AreOthers, isnt_among}
 
 -- the names of a kind
 abbrev pub HasKind : Kind → List ℕ → Type 0
@@ -20,6 +21,7 @@ HasKind kind.Cell name = is_one_of cell_names name ≡ true
 HasKind kind.Heading name = is_one_of heading_names name ≡ true
 HasKind kind.Describing name = is_one_of term_names name ≡ true
 HasKind kind.Section name = is_one_of part_names name ≡ true
+HasKind kind.RubyText name = is_one_of ruby_text_names name ≡ true
 HasKind kind.Link name = name ≡ codes "a"
 HasKind kind.Paragraph name = name ≡ codes "p"
 HasKind kind.Item name = name ≡ codes "li"
@@ -30,6 +32,7 @@ HasKind kind.Table name = name ≡ codes "table"
 HasKind kind.Caption name = name ≡ codes "caption"
 HasKind kind.ColumnGroup name = name ≡ codes "colgroup"
 HasKind kind.Column name = name ≡ codes "col"
+HasKind kind.Ruby name = name ≡ codes "ruby"
 HasKind kind.Unknown name = Unit {0}
 
 -- each row has names of its kind
@@ -54,47 +57,60 @@ one_name n name h = at (is_same_text n name) refl h
 
 are_right : AreRight (set_rows ++ lone_rows)
 unfolding set_rows lone_rows
-are_right = (λ name h. h, (λ name h. h, (λ name h. h, (λ name h. h, (λ name h. h, (λ name h. h, (λ name h. h, (λ name h. h, (λ name h. h, (one_name (codes "a"), (one_name (codes "p"), (one_name (codes "li"), (one_name (codes "tr"), (one_name (codes "pre"), (one_name (codes "hr"), (one_name (codes "table"), (one_name (codes "caption"), (one_name (codes "colgroup"), (one_name (codes "col"), tt)))))))))))))))))))
+are_right = (λ name h. h, (λ name h. h, (λ name h. h, (λ name h. h, (λ name h. h, (λ name h. h, (λ name h. h, (λ name h. h, (λ name h. h, (λ name h. h, (one_name (codes "a"), (one_name (codes "p"), (one_name (codes "li"), (one_name (codes "tr"), (one_name (codes "pre"), (one_name (codes "hr"), (one_name (codes "table"), (one_name (codes "caption"), (one_name (codes "colgroup"), (one_name (codes "col"), (one_name (codes "ruby"), tt)))))))))))))))))))))
 
 pub has_kind : (name : List ℕ) → HasKind (kind_of name) name
 has_kind name = in_rows (set_rows ++ lone_rows) are_right name
 
+-- a name that is in no row has no kind
+abbrev pub IsOutside : List ℕ → List Row → Type 0
+IsOutside name [] = Unit {0}
+IsOutside name (r ∷ rs) = AreOthers name r.names × IsOutside name rs
+
+pub kind_outside : (name : List ℕ) (rs : List Row) → IsOutside name rs → kind_in rs name ≡ kind.Unknown
+kind_outside name [] h = refl
+kind_outside name (r ∷ rs) h = ap (λ b. if b then r.kind else kind_in rs name) (isnt_among name r.names h.0) ∙ kind_outside name rs h.1
+
 -- a name of a kind has it
 all_phrase : HoldsOfAll (λ n. kind_of n ≡ kind.Phrase) phrase_names
-unfolding set_rows lone_rows phrase_names inline_names open_block_names barrier_names mark_names cell_names heading_names term_names part_names
+unfolding set_rows lone_rows phrase_names inline_names open_block_names barrier_names mark_names cell_names heading_names term_names part_names ruby_text_names
 all_phrase = (refl, (refl, (refl, (refl, (refl, (refl, (refl, (refl, (refl, (refl, (refl, (refl, (refl, (refl, (refl, (refl, (refl, (refl, (refl, (refl, (refl, tt)))))))))))))))))))))
 
 all_formatted : HoldsOfAll (λ n. kind_of n ≡ kind.Formatted) inline_names
-unfolding set_rows lone_rows phrase_names inline_names open_block_names barrier_names mark_names cell_names heading_names term_names part_names
+unfolding set_rows lone_rows phrase_names inline_names open_block_names barrier_names mark_names cell_names heading_names term_names part_names ruby_text_names
 all_formatted = (refl, (refl, (refl, (refl, (refl, (refl, (refl, (refl, (refl, (refl, (refl, (refl, tt))))))))))))
 
 all_division : HoldsOfAll (λ n. kind_of n ≡ kind.Division) open_block_names
-unfolding set_rows lone_rows phrase_names inline_names open_block_names barrier_names mark_names cell_names heading_names term_names part_names
+unfolding set_rows lone_rows phrase_names inline_names open_block_names barrier_names mark_names cell_names heading_names term_names part_names ruby_text_names
 all_division = (refl, (refl, (refl, tt)))
 
 all_barrier : HoldsOfAll (λ n. kind_of n ≡ kind.Barrier) barrier_names
-unfolding set_rows lone_rows phrase_names inline_names open_block_names barrier_names mark_names cell_names heading_names term_names part_names
+unfolding set_rows lone_rows phrase_names inline_names open_block_names barrier_names mark_names cell_names heading_names term_names part_names ruby_text_names
 all_barrier = (refl, (refl, (refl, (refl, (refl, (refl, (refl, (refl, (refl, (refl, (refl, (refl, (refl, (refl, (refl, (refl, (refl, (refl, (refl, (refl, tt))))))))))))))))))))
 
 all_break : HoldsOfAll (λ n. kind_of n ≡ kind.Break) mark_names
-unfolding set_rows lone_rows phrase_names inline_names open_block_names barrier_names mark_names cell_names heading_names term_names part_names
+unfolding set_rows lone_rows phrase_names inline_names open_block_names barrier_names mark_names cell_names heading_names term_names part_names ruby_text_names
 all_break = (refl, (refl, (refl, tt)))
 
 all_cell : HoldsOfAll (λ n. kind_of n ≡ kind.Cell) cell_names
-unfolding set_rows lone_rows phrase_names inline_names open_block_names barrier_names mark_names cell_names heading_names term_names part_names
+unfolding set_rows lone_rows phrase_names inline_names open_block_names barrier_names mark_names cell_names heading_names term_names part_names ruby_text_names
 all_cell = (refl, (refl, tt))
 
 all_heading : HoldsOfAll (λ n. kind_of n ≡ kind.Heading) heading_names
-unfolding set_rows lone_rows phrase_names inline_names open_block_names barrier_names mark_names cell_names heading_names term_names part_names
+unfolding set_rows lone_rows phrase_names inline_names open_block_names barrier_names mark_names cell_names heading_names term_names part_names ruby_text_names
 all_heading = (refl, (refl, (refl, (refl, (refl, (refl, tt))))))
 
 all_describing : HoldsOfAll (λ n. kind_of n ≡ kind.Describing) term_names
-unfolding set_rows lone_rows phrase_names inline_names open_block_names barrier_names mark_names cell_names heading_names term_names part_names
+unfolding set_rows lone_rows phrase_names inline_names open_block_names barrier_names mark_names cell_names heading_names term_names part_names ruby_text_names
 all_describing = (refl, (refl, tt))
 
 all_section : HoldsOfAll (λ n. kind_of n ≡ kind.Section) part_names
-unfolding set_rows lone_rows phrase_names inline_names open_block_names barrier_names mark_names cell_names heading_names term_names part_names
+unfolding set_rows lone_rows phrase_names inline_names open_block_names barrier_names mark_names cell_names heading_names term_names part_names ruby_text_names
 all_section = (refl, (refl, (refl, tt)))
+
+all_ruby_text : HoldsOfAll (λ n. kind_of n ≡ kind.RubyText) ruby_text_names
+unfolding set_rows lone_rows phrase_names inline_names open_block_names barrier_names mark_names cell_names heading_names term_names part_names ruby_text_names
+all_ruby_text = (refl, (refl, tt))
 
 pub phrase_kind : (name : List ℕ) → is_one_of phrase_names name ≡ true → kind_of name ≡ kind.Phrase
 phrase_kind name h = of_one (λ n. kind_of n ≡ kind.Phrase) phrase_names name all_phrase h
@@ -123,45 +139,52 @@ describing_kind name h = of_one (λ n. kind_of n ≡ kind.Describing) term_names
 pub section_kind : (name : List ℕ) → is_one_of part_names name ≡ true → kind_of name ≡ kind.Section
 section_kind name h = of_one (λ n. kind_of n ≡ kind.Section) part_names name all_section h
 
+pub ruby_text_kind : (name : List ℕ) → is_one_of ruby_text_names name ≡ true → kind_of name ≡ kind.RubyText
+ruby_text_kind name h = of_one (λ n. kind_of n ≡ kind.RubyText) ruby_text_names name all_ruby_text h
+
 pub link_kind : kind_of (codes "a") ≡ kind.Link
-unfolding set_rows lone_rows phrase_names inline_names open_block_names barrier_names mark_names cell_names heading_names term_names part_names
+unfolding set_rows lone_rows phrase_names inline_names open_block_names barrier_names mark_names cell_names heading_names term_names part_names ruby_text_names
 link_kind = refl
 
 pub paragraph_kind : kind_of (codes "p") ≡ kind.Paragraph
-unfolding set_rows lone_rows phrase_names inline_names open_block_names barrier_names mark_names cell_names heading_names term_names part_names
+unfolding set_rows lone_rows phrase_names inline_names open_block_names barrier_names mark_names cell_names heading_names term_names part_names ruby_text_names
 paragraph_kind = refl
 
 pub item_kind : kind_of (codes "li") ≡ kind.Item
-unfolding set_rows lone_rows phrase_names inline_names open_block_names barrier_names mark_names cell_names heading_names term_names part_names
+unfolding set_rows lone_rows phrase_names inline_names open_block_names barrier_names mark_names cell_names heading_names term_names part_names ruby_text_names
 item_kind = refl
 
 pub row_kind : kind_of (codes "tr") ≡ kind.TableRow
-unfolding set_rows lone_rows phrase_names inline_names open_block_names barrier_names mark_names cell_names heading_names term_names part_names
+unfolding set_rows lone_rows phrase_names inline_names open_block_names barrier_names mark_names cell_names heading_names term_names part_names ruby_text_names
 row_kind = refl
 
 pub pre_kind : kind_of (codes "pre") ≡ kind.Preformatted
-unfolding set_rows lone_rows phrase_names inline_names open_block_names barrier_names mark_names cell_names heading_names term_names part_names
+unfolding set_rows lone_rows phrase_names inline_names open_block_names barrier_names mark_names cell_names heading_names term_names part_names ruby_text_names
 pre_kind = refl
 
 pub ruled_kind : kind_of (codes "hr") ≡ kind.Ruled
-unfolding set_rows lone_rows phrase_names inline_names open_block_names barrier_names mark_names cell_names heading_names term_names part_names
+unfolding set_rows lone_rows phrase_names inline_names open_block_names barrier_names mark_names cell_names heading_names term_names part_names ruby_text_names
 ruled_kind = refl
 
 pub table_kind : kind_of (codes "table") ≡ kind.Table
-unfolding set_rows lone_rows phrase_names inline_names open_block_names barrier_names mark_names cell_names heading_names term_names part_names
+unfolding set_rows lone_rows phrase_names inline_names open_block_names barrier_names mark_names cell_names heading_names term_names part_names ruby_text_names
 table_kind = refl
 
 pub caption_kind : kind_of (codes "caption") ≡ kind.Caption
-unfolding set_rows lone_rows phrase_names inline_names open_block_names barrier_names mark_names cell_names heading_names term_names part_names
+unfolding set_rows lone_rows phrase_names inline_names open_block_names barrier_names mark_names cell_names heading_names term_names part_names ruby_text_names
 caption_kind = refl
 
 pub group_kind : kind_of (codes "colgroup") ≡ kind.ColumnGroup
-unfolding set_rows lone_rows phrase_names inline_names open_block_names barrier_names mark_names cell_names heading_names term_names part_names
+unfolding set_rows lone_rows phrase_names inline_names open_block_names barrier_names mark_names cell_names heading_names term_names part_names ruby_text_names
 group_kind = refl
 
 pub column_kind : kind_of (codes "col") ≡ kind.Column
-unfolding set_rows lone_rows phrase_names inline_names open_block_names barrier_names mark_names cell_names heading_names term_names part_names
+unfolding set_rows lone_rows phrase_names inline_names open_block_names barrier_names mark_names cell_names heading_names term_names part_names ruby_text_names
 column_kind = refl
+
+pub ruby_kind : kind_of (codes "ruby") ≡ kind.Ruby
+unfolding set_rows lone_rows phrase_names inline_names open_block_names barrier_names mark_names cell_names heading_names term_names part_names ruby_text_names
+ruby_kind = refl
 
 -- a `pre` alone is preformatted
 abbrev pub is_pre_kind : Kind → Bool

@@ -202,7 +202,7 @@ module _ (r : Rules) where
 
   -- so it is if nothing is open
   pub cleaned_plain : (s : Source) → IsPlain true (Flow false nothing_open) (cleaned r s)
-  cleaned_plain s = plain_alone (cleaned r s) (cleaned_around s)
+  cleaned_plain s = plain_alone (cleaned r s) refl (cleaned_around s)
 
   pub cleaned_read : (s : Source) → CanBeRead (cleaned r s)
   cleaned_read s = fitting_read r false (first_place r) (cleaned r s) (cleaned_fits s)

@@ -5,7 +5,7 @@ use Rattle.std.proofs.lemmas.Bool.{false≢true}
 use Rattle.std.proofs.lemmas.Slice.Eq.{bytes_eq-Decides}
 use Rattle.h5_names.specs.AttributeText.{is_same_text}
 use Rattle.h5_tables.specs.TagSets.{cell_names, heading_names, is_one_of, raw_names, void_names}
-use Rattle.h5_plain.specs.Plain.{barrier_names, inline_names, mark_names, open_block_names, part_names, phrase_names, term_names}
+use Rattle.h5_plain.specs.Plain.{barrier_names, inline_names, mark_names, open_block_names, part_names, phrase_names, ruby_text_names, term_names}
 use Rattle.h5_clean.specs.Kinds.{Row, kind_in, kind_of, lone_rows, set_rows}
 use Rattle.h5_clean.specs.declared.kind.Kind.{Kind}
 use Rattle.h5_clean.specs.declared.kind.Kind.TheVariants as kind
@@ -66,8 +66,8 @@ pub record IsWritten (name : List ℕ) (k : Kind) : Type 0 where
   pub noscript : is_same_text name (codes "noscript") ≡ false
 
 pub written_so : (name : List ℕ) → (kind_of name ≡ kind.Unknown) ⊎ IsWritten name (kind_of name)
-unfolding set_rows lone_rows phrase_names inline_names open_block_names barrier_names mark_names cell_names heading_names term_names part_names void_names raw_names
-written_so name = at (in_rows is_written_so (set_rows ++ lone_rows) name (refl, (refl, (refl, (refl, (refl, (refl, (refl, (refl, (refl, (refl, (refl, (refl, (refl, (refl, (refl, (refl, (refl, (refl, (refl, tt))))))))))))))))))))
+unfolding set_rows lone_rows phrase_names inline_names open_block_names barrier_names mark_names cell_names heading_names term_names part_names ruby_text_names void_names raw_names
+written_so name = at (in_rows is_written_so (set_rows ++ lone_rows) name (refl, (refl, (refl, (refl, (refl, (refl, (refl, (refl, (refl, (refl, (refl, (refl, (refl, (refl, (refl, (refl, (refl, (refl, (refl, (refl, (refl, tt))))))))))))))))))))))
   where
     at : (kind_of name ≡ kind.Unknown) ⊎ (is_written_so name (kind_of name) ≡ true) → (kind_of name ≡ kind.Unknown) ⊎ IsWritten name (kind_of name)
     at (inl e) = inl e

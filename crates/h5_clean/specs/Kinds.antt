@@ -1,7 +1,7 @@
 -- The kind of an element's name. An element whose name has no kind is never allowed.
 use Rattle.std.specs.Prelude.{ℕ, Bool, true, false, List, [], ◌∷◌, ◌++◌, codes, if◌then◌else◌}
 use Rattle.h5_tables.specs.TagSets.{cell_names, heading_names, is_one_of}
-use Rattle.h5_plain.specs.Plain.{barrier_names, inline_names, mark_names, open_block_names, part_names, phrase_names, term_names}
+use Rattle.h5_plain.specs.Plain.{barrier_names, inline_names, mark_names, open_block_names, part_names, phrase_names, ruby_text_names, term_names}
 use Rattle.h5_clean.specs.declared.kind.Kind.{Kind}
 use Rattle.h5_clean.specs.declared.kind.Kind.TheVariants as kind
 
@@ -34,13 +34,14 @@ unfoldable pub set_rows : List Row
 set_rows =
     row phrase_names kind.Phrase ∷ row inline_names kind.Formatted ∷ row open_block_names kind.Division ∷ row barrier_names kind.Barrier ∷
     row mark_names kind.Break ∷ row cell_names kind.Cell ∷ row heading_names kind.Heading ∷ row term_names kind.Describing ∷
-    row part_names kind.Section ∷ []
+    row part_names kind.Section ∷ row ruby_text_names kind.RubyText ∷ []
 
 unfoldable pub lone_rows : List Row
 lone_rows =
     alone (codes "a") kind.Link ∷ alone (codes "p") kind.Paragraph ∷ alone (codes "li") kind.Item ∷ alone (codes "tr") kind.TableRow ∷
     alone (codes "pre") kind.Preformatted ∷ alone (codes "hr") kind.Ruled ∷ alone (codes "table") kind.Table ∷
-    alone (codes "caption") kind.Caption ∷ alone (codes "colgroup") kind.ColumnGroup ∷ alone (codes "col") kind.Column ∷ []
+    alone (codes "caption") kind.Caption ∷ alone (codes "colgroup") kind.ColumnGroup ∷ alone (codes "col") kind.Column ∷
+    alone (codes "ruby") kind.Ruby ∷ []
 
 abbrev pub kind_in : List Row → List ℕ → Kind
 kind_in [] name = kind.Unknown

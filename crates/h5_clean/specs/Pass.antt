@@ -50,9 +50,9 @@ left_before r x (CommentThen text rest) more = left_before r x rest more
 left_before r x (DoctypeThen name rest) more = left_before r x rest more
 left_before r x (InstructionThen target content rest) more = left_before r x rest more
 
--- in flow, with what may be open around the text
+-- in flow, with what may be open around the text; its parent doesn't count as a `ruby`
 abbrev pub first_place : Rules → Place
-first_place r = record { spot = spot.InFlow; in_p = r.around.in_p; in_heading = r.around.in_heading; in_item = r.around.in_item; in_description = r.around.in_description; in_link = r.around.in_link; room = r.depth }
+first_place r = record { spot = spot.InFlow; in_p = r.around.in_p; in_heading = r.around.in_heading; in_item = r.around.in_item; in_description = r.around.in_description; in_link = r.around.in_link; in_ruby = false; room = r.depth }
 
 -- what is left of a fragment; a tokenizer drops a U+FEFF at its start, so it has none
 abbrev pub cleaned : Rules → Source → Nodes

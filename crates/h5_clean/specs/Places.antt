@@ -20,6 +20,8 @@ fits_in_flow kind.Ruled x = not x.in_p
 fits_in_flow kind.Break x = true
 fits_in_flow kind.Formatted x = true
 fits_in_flow kind.Phrase x = true
+fits_in_flow kind.Ruby x = true
+fits_in_flow kind.RubyText x = x.in_ruby
 fits_in_flow kind.Link x = not x.in_link
 fits_in_flow kind.Table x = not x.in_p
 fits_in_flow _ x = false
@@ -46,11 +48,11 @@ directly s x = record x { spot = s; room = x.room - 1 }
 
 -- in flow, where nothing counts as open
 abbrev pub alone : Place → Place
-alone x = record { spot = spot.InFlow; in_p = false; in_heading = false; in_item = false; in_description = false; in_link = false; room = x.room - 1 }
+alone x = record { spot = spot.InFlow; in_p = false; in_heading = false; in_item = false; in_description = false; in_link = false; in_ruby = false; room = x.room - 1 }
 
 -- inside an element that doesn't end the search for a list item, and inside one that ends it
 abbrev pub within : Place → Place
-within x = record (directly spot.InFlow x) { in_heading = false }
+within x = record (directly spot.InFlow x) { in_heading = false; in_ruby = false }
 
 abbrev pub behind : Place → Place
 behind x = record (within x) { in_item = false; in_description = false }
@@ -70,6 +72,8 @@ inside kind.Item x = record (behind x) { in_item = true }
 inside kind.Describing x = record (behind x) { in_description = true }
 inside kind.Formatted x = within x
 inside kind.Phrase x = within x
+inside kind.Ruby x = record (within x) { in_ruby = true }
+inside kind.RubyText x = within x
 inside kind.Link x = record (within x) { in_link = true }
 inside kind.Table x = directly spot.InTable x
 inside kind.Caption x = alone x
@@ -84,7 +88,7 @@ inside kind.Unknown x = nowhere x
 
 -- what is open at a place, and the sort of a list of nodes there
 abbrev pub around : Place → Around
-around x = record { in_p = x.in_p; in_heading = x.in_heading; in_item = x.in_item; in_description = x.in_description; in_link = x.in_link }
+around x = record { in_p = x.in_p; in_heading = x.in_heading; in_item = x.in_item; in_description = x.in_description; in_link = x.in_link; in_ruby = x.in_ruby }
 
 abbrev pub sort_at : (after_text : Bool) → Spot → Around → Sort
 sort_at a spot.InFlow o = Flow a o

@@ -1,7 +1,7 @@
 //! The kinds of elements, by their names.
 ghost use Rattle.std.specs.Prelude.{◌≡◌};
 ghost use Rattle.h5_tables.specs.TagSets.{cell_names, heading_names, is_one_of};
-ghost use Rattle.h5_plain.specs.Plain.{barrier_names, inline_names, mark_names, open_block_names, part_names, phrase_names, term_names};
+ghost use Rattle.h5_plain.specs.Plain.{barrier_names, inline_names, mark_names, open_block_names, part_names, phrase_names, ruby_text_names, term_names};
 ghost use Rattle.h5_clean.specs.Kinds.{early_barrier_names, early_phrase_names, kind_in, kind_of, late_barrier_names, late_phrase_names, lone_rows};
 
 /// What the rules of "in body" and of tables distinguish (HTML standard, section 13.2.6.4).
@@ -29,6 +29,10 @@ pub enum Kind {
     Formatted,
     /// `span`, `abbr` and other elements without a rule by their name.
     Phrase,
+    /// `ruby`.
+    Ruby,
+    /// `rp`, `rt`.
+    RubyText,
     /// `a`.
     Link,
     /// `table`.
@@ -193,6 +197,13 @@ fn is_part(name: &str) -> bool
     matches!(name, "tbody" | "tfoot" | "thead")
 }
 
+#[tactic(auto, unfolding(h5_plain::specs::Plain::ruby_text_names))]
+fn is_ruby_text(name: &str) -> bool
+    ensures { result ≡ is_one_of ruby_text_names name.now }
+{
+    matches!(name, "rp" | "rt")
+}
+
 // The kind of a name that isn't in a set above.
 #[tactic(auto, unfolding(crate::specs::Kinds::lone_rows))]
 fn kind_alone(name: &str) -> Kind
@@ -209,6 +220,7 @@ fn kind_alone(name: &str) -> Kind
         "caption" => Kind::Caption,
         "colgroup" => Kind::ColumnGroup,
         "col" => Kind::Column,
+        "ruby" => Kind::Ruby,
         _ => Kind::Unknown,
     }
 }
@@ -236,6 +248,8 @@ pub fn kind_of(name: &str) -> Kind
         Kind::Describing
     } else if is_part(name) {
         Kind::Section
+    } else if is_ruby_text(name) {
+        Kind::RubyText
     } else {
         kind_alone(name)
     }

@@ -1,7 +1,7 @@
 //! A sanitizer: it removes from untrusted HTML what a policy doesn't allow, so that a parser of fragments builds
 //! exactly the allowed tree from the result (`laws`).
 //!
-//! A policy allows elements and attributes by name. Only 82 names of elements have a kind (`kind`), and no other is
+//! A policy allows elements and attributes by name. Only 85 names of elements have a kind (`kind`), and no other is
 //! ever allowed. An allowed element is left if it fits at its place: if the rule of its start tag would close nothing
 //! (`place`). An element that isn't left is replaced by its content, or dropped with it. No attribute is left that
 //! `is_refused`.

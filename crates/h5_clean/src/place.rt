@@ -36,6 +36,8 @@ pub struct Place {
     pub in_description: bool,
     /// An `a` is open.
     pub in_link: bool,
+    /// The parent is a `ruby`.
+    pub in_ruby: bool,
     pub room: usize,
 }
 
@@ -101,7 +103,7 @@ impl Around {
 impl Place {
     /// Returns the place in flow with this open around it, and room for this depth.
     pub fn first(around: Around, room: usize) -> Place
-        ensures { result ≡ record { spot = Spot.InFlow; in_p = around.in_p; in_heading = around.in_heading; in_item = around.in_item; in_description = around.in_description; in_link = around.in_link; room = room } }
+        ensures { result ≡ record { spot = Spot.InFlow; in_p = around.in_p; in_heading = around.in_heading; in_item = around.in_item; in_description = around.in_description; in_link = around.in_link; in_ruby = false; room = room } }
     {
         Place {
             spot: Spot::InFlow,
@@ -110,6 +112,7 @@ impl Place {
             in_item: around.in_item,
             in_description: around.in_description,
             in_link: around.in_link,
+            in_ruby: false,
             room,
         }
     }
@@ -127,7 +130,8 @@ impl Place {
             Kind::Heading => !self.in_p && !self.in_heading,
             Kind::Item => !self.in_p && !self.in_item,
             Kind::Describing => !self.in_p && !self.in_description,
-            Kind::Break | Kind::Formatted | Kind::Phrase => true,
+            Kind::Break | Kind::Formatted | Kind::Phrase | Kind::Ruby => true,
+            Kind::RubyText => self.in_ruby,
             Kind::Link => !self.in_link,
             Kind::Caption
             | Kind::ColumnGroup
@@ -182,6 +186,7 @@ impl Place {
     {
         let mut place = self.directly(Spot::InFlow);
         place.in_heading = false;
+        place.in_ruby = false;
         place
     }
 
@@ -207,9 +212,13 @@ impl Place {
         ensures { result ≡ inside kind self.now }
     {
         let mut place = match kind {
-            Kind::Division | Kind::Paragraph | Kind::Formatted | Kind::Phrase | Kind::Link => {
-                self.within()
-            }
+            Kind::Division
+            | Kind::Paragraph
+            | Kind::Formatted
+            | Kind::Phrase
+            | Kind::Ruby
+            | Kind::RubyText
+            | Kind::Link => self.within(),
             Kind::Barrier | Kind::Preformatted | Kind::Heading | Kind::Item | Kind::Describing =>
                 self.behind(),
             Kind::Caption | Kind::Cell => self.alone(),
@@ -224,6 +233,7 @@ impl Place {
             Kind::Heading => place.in_heading = true,
             Kind::Item => place.in_item = true,
             Kind::Describing => place.in_description = true,
+            Kind::Ruby => place.in_ruby = true,
             Kind::Link => place.in_link = true,
             _ => {}
         }

@@ -1,12 +1,12 @@
 //! The policies with a name.
 
-/// What GitHub allows in a README, after the list of its library `html-pipeline`, except elements that have no kind here (`ruby`, `rt`, `rp`).
-/// Ids and names get the prefix that GitHub gives them.
+/// What GitHub allows in a README, after the list of its library `html-pipeline`. Ids and names get the prefix that GitHub gives them.
 pub const GITHUB: &str = r#"
 elements = ["h1", "h2", "h3", "h4", "h5", "h6", "br", "b", "i", "strong", "em", "a", "pre", "code", "img", "tt", "div",
     "ins", "del", "sup", "sub", "p", "ol", "ul", "table", "thead", "tbody", "tfoot", "blockquote", "dl", "dt", "dd", "kbd",
     "q", "samp", "var", "hr", "li", "tr", "td", "th", "s", "strike", "summary", "details", "caption", "figure",
-    "figcaption", "abbr", "bdo", "cite", "dfn", "mark", "small", "span", "time", "wbr"]
+    "figcaption", "abbr", "bdo", "cite", "dfn", "mark", "small", "span", "time", "wbr",
+    "ruby", "rt", "rp"]
 attributes = ["abbr", "accept", "accept-charset", "accesskey", "action", "align", "alt", "aria-describedby", "aria-hidden",
     "aria-label", "aria-labelledby", "axis", "border", "cellpadding", "cellspacing", "char", "charoff", "charset",
     "checked", "clear", "cols", "colspan", "color", "compact", "coords", "datetime", "dir", "disabled", "enctype", "for",
@@ -33,7 +33,7 @@ pub const TEXT: &str = r#"
 elements = ["a", "abbr", "address", "article", "aside", "b", "bdi", "bdo", "blockquote", "br", "caption", "cite", "code", "col",
     "colgroup", "data", "dd", "del", "details", "dfn", "div", "dl", "dt", "em", "figcaption", "figure", "footer", "h1", "h2",
     "h3", "h4", "h5", "h6", "header", "hgroup", "hr", "i", "img", "ins", "kbd", "li", "main", "mark", "nav", "ol", "p", "pre",
-    "q", "s", "samp", "section", "small", "span", "strike", "strong", "sub", "summary", "sup", "table", "tbody", "td", "tfoot",
+    "q", "rp", "rt", "ruby", "s", "samp", "section", "small", "span", "strike", "strong", "sub", "summary", "sup", "table", "tbody", "td", "tfoot",
     "th", "thead", "time", "tr", "tt", "u", "ul", "var", "wbr"]
 attributes = ["title", "lang", "dir"]
 classes = ["language-"]

@@ -4,8 +4,8 @@ use Rattle.std.proofs.lemmas.Bool.{false≢true}
 use Rattle.std.specs.Cmp.Lexicographic.{same_text}
 use Rattle.h5_names.specs.AttributeText.{AttributeText, is_same_text}
 use Rattle.h5_tables.specs.TagSets.{cell_names, heading_names, is_one_of, raw_names, void_names}
-use Rattle.h5_plain.specs.Plain.{ArePlain, ElementThen, End, Flow, IsHead, IsPlain, Nodes, Part, PlainDocument, Sort, Columns, TextThen, barrier_names, has_end_tag, inline_names, mark_names, open_block_names, part_names, phrase_names, root_of, term_names}
-use Rattle.h5_plain.specs.Plain.{Barrier, Blank, Break, Caption, Cell, Column, ColumnBlank, ColumnGroup, Describing, Division, Formatted, Heading, Item, Link, Paragraph, Phrase, Preformatted, Ruled, Section, Table, TableRow, Words, Titled, Untitled}
+use Rattle.h5_plain.specs.Plain.{ArePlain, ElementThen, End, Flow, IsHead, IsPlain, Nodes, Part, PlainDocument, Sort, Columns, TextThen, barrier_names, has_end_tag, inline_names, mark_names, open_block_names, part_names, phrase_names, root_of, ruby_text_names, term_names}
+use Rattle.h5_plain.specs.Plain.{Barrier, Blank, Break, Caption, Cell, Column, ColumnBlank, ColumnGroup, Describing, Division, Formatted, Heading, Item, Link, Paragraph, Phrase, Preformatted, Ruby, RubyText, Ruled, Section, Table, TableRow, Words, Titled, Untitled}
 use Rattle.h5_round_trip.proofs.TagLaws.{IsTagName}
 
 -- an element that is written with an end tag, and isn't a title
@@ -64,6 +64,10 @@ inline_all = (record { tag = record { first = 98; more = []; is = refl; letter =
 phrase_all : AreOrdinary phrase_names
 unfolding phrase_names void_names raw_names
 phrase_all = (record { tag = record { first = 97; more = codes "bbr"; is = refl; letter = refl; bytes = (refl, (refl, (refl, (refl, tt)))) }; ends = refl; other = refl; raw = refl; noscript = refl }, (record { tag = record { first = 98; more = codes "di"; is = refl; letter = refl; bytes = (refl, (refl, (refl, tt))) }; ends = refl; other = refl; raw = refl; noscript = refl }, (record { tag = record { first = 98; more = codes "do"; is = refl; letter = refl; bytes = (refl, (refl, (refl, tt))) }; ends = refl; other = refl; raw = refl; noscript = refl }, (record { tag = record { first = 99; more = codes "ite"; is = refl; letter = refl; bytes = (refl, (refl, (refl, (refl, tt)))) }; ends = refl; other = refl; raw = refl; noscript = refl }, (record { tag = record { first = 100; more = codes "ata"; is = refl; letter = refl; bytes = (refl, (refl, (refl, (refl, tt)))) }; ends = refl; other = refl; raw = refl; noscript = refl }, (record { tag = record { first = 100; more = codes "el"; is = refl; letter = refl; bytes = (refl, (refl, (refl, tt))) }; ends = refl; other = refl; raw = refl; noscript = refl }, (record { tag = record { first = 100; more = codes "fn"; is = refl; letter = refl; bytes = (refl, (refl, (refl, tt))) }; ends = refl; other = refl; raw = refl; noscript = refl }, (record { tag = record { first = 105; more = codes "ns"; is = refl; letter = refl; bytes = (refl, (refl, (refl, tt))) }; ends = refl; other = refl; raw = refl; noscript = refl }, (record { tag = record { first = 107; more = codes "bd"; is = refl; letter = refl; bytes = (refl, (refl, (refl, tt))) }; ends = refl; other = refl; raw = refl; noscript = refl }, (record { tag = record { first = 108; more = codes "abel"; is = refl; letter = refl; bytes = (refl, (refl, (refl, (refl, (refl, tt))))) }; ends = refl; other = refl; raw = refl; noscript = refl }, (record { tag = record { first = 109; more = codes "ark"; is = refl; letter = refl; bytes = (refl, (refl, (refl, (refl, tt)))) }; ends = refl; other = refl; raw = refl; noscript = refl }, (record { tag = record { first = 109; more = codes "eter"; is = refl; letter = refl; bytes = (refl, (refl, (refl, (refl, (refl, tt))))) }; ends = refl; other = refl; raw = refl; noscript = refl }, (record { tag = record { first = 111; more = codes "utput"; is = refl; letter = refl; bytes = (refl, (refl, (refl, (refl, (refl, (refl, tt)))))) }; ends = refl; other = refl; raw = refl; noscript = refl }, (record { tag = record { first = 112; more = codes "rogress"; is = refl; letter = refl; bytes = (refl, (refl, (refl, (refl, (refl, (refl, (refl, (refl, tt)))))))) }; ends = refl; other = refl; raw = refl; noscript = refl }, (record { tag = record { first = 113; more = []; is = refl; letter = refl; bytes = (refl, tt) }; ends = refl; other = refl; raw = refl; noscript = refl }, (record { tag = record { first = 115; more = codes "amp"; is = refl; letter = refl; bytes = (refl, (refl, (refl, (refl, tt)))) }; ends = refl; other = refl; raw = refl; noscript = refl }, (record { tag = record { first = 115; more = codes "pan"; is = refl; letter = refl; bytes = (refl, (refl, (refl, (refl, tt)))) }; ends = refl; other = refl; raw = refl; noscript = refl }, (record { tag = record { first = 115; more = codes "ub"; is = refl; letter = refl; bytes = (refl, (refl, (refl, tt))) }; ends = refl; other = refl; raw = refl; noscript = refl }, (record { tag = record { first = 115; more = codes "up"; is = refl; letter = refl; bytes = (refl, (refl, (refl, tt))) }; ends = refl; other = refl; raw = refl; noscript = refl }, (record { tag = record { first = 116; more = codes "ime"; is = refl; letter = refl; bytes = (refl, (refl, (refl, (refl, tt)))) }; ends = refl; other = refl; raw = refl; noscript = refl }, (record { tag = record { first = 118; more = codes "ar"; is = refl; letter = refl; bytes = (refl, (refl, (refl, tt))) }; ends = refl; other = refl; raw = refl; noscript = refl }, tt)))))))))))))))))))))
+
+ruby_text_all : AreOrdinary ruby_text_names
+unfolding ruby_text_names void_names raw_names
+ruby_text_all = (record { tag = record { first = 114; more = codes "p"; is = refl; letter = refl; bytes = (refl, (refl, tt)) }; ends = refl; other = refl; raw = refl; noscript = refl }, (record { tag = record { first = 114; more = codes "t"; is = refl; letter = refl; bytes = (refl, (refl, tt)) }; ends = refl; other = refl; raw = refl; noscript = refl }, tt))
 
 part_all : AreOrdinary part_names
 unfolding part_names void_names raw_names
@@ -129,6 +133,10 @@ is_tr : IsOrdinary (codes "tr")
 unfolding void_names raw_names
 is_tr = record { tag = record { first = 116; more = codes "r"; is = refl; letter = refl; bytes = (refl, (refl, tt)) }; ends = refl; other = refl; raw = refl; noscript = refl }
 
+is_ruby : IsOrdinary (codes "ruby")
+unfolding void_names raw_names
+is_ruby = record { tag = record { first = 114; more = codes "uby"; is = refl; letter = refl; bytes = (refl, (refl, (refl, (refl, tt)))) }; ends = refl; other = refl; raw = refl; noscript = refl }
+
 is_a : IsOrdinary (codes "a")
 unfolding void_names raw_names
 is_a = record { tag = record { first = 97; more = []; is = refl; letter = refl; bytes = (refl, tt) }; ends = refl; other = refl; raw = refl; noscript = refl }
@@ -177,6 +185,8 @@ shape _ (Ruled u a o) = Void is_hr a (shape _ o)
 shape _ (Break {name = name} h a o) = Void (void_of mark_names name mark_all h) a (shape _ o)
 shape _ (Formatted {name = name} h a i o) = Element (one_of inline_names name inline_all h) a (shape _ i) (shape _ o)
 shape _ (Phrase {name = name} h a i o) = Element (one_of phrase_names name phrase_all h) a (shape _ i) (shape _ o)
+shape _ (Ruby a i o) = Element is_ruby a (shape _ i) (shape _ o)
+shape _ (RubyText {name = name} h u a i o) = Element (one_of ruby_text_names name ruby_text_all h) a (shape _ i) (shape _ o)
 shape _ (Link u a i o) = Element is_a a (shape _ i) (shape _ o)
 shape _ (Table u a i o) = Element is_table a (shape _ i) (shape _ o)
 shape _ (Caption a i o) = Element is_caption a (shape _ i) (shape _ o)
