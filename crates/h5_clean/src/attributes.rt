@@ -248,11 +248,7 @@ fn link_prefixed(alloc: Global, prefix: &[u8], mut rest: &[u8]) -> Result<Vec<u8
 }
 
 // Adds a class, if it is left.
-fn push_class(
-    made: &mut Vec<u8>,
-    prefixes: &[String],
-    class: &[u8],
-) -> Result<(), AllocError>
+fn push_class(made: &mut Vec<u8>, prefixes: &[String], class: &[u8]) -> Result<(), AllocError>
     ensures { OnOk result
         (made.new.items ≡ with_classes (map string_bytes prefixes.now) made.old.items (class.now ∷ [])) }
 {
@@ -267,11 +263,7 @@ fn push_class(
 }
 
 // The classes that begin with one of the prefixes, with a space between them.
-fn classes_with(
-    alloc: Global,
-    prefixes: &[String],
-    mut rest: &[u8],
-) -> Result<Vec<u8>, AllocError>
+fn classes_with(alloc: Global, prefixes: &[String], mut rest: &[u8]) -> Result<Vec<u8>, AllocError>
     ensures { IfOk result (λ made. made.items ≡ classes_left (Some (map string_bytes prefixes.now)) rest.entry.now) }
 {
     let mut made = Vec::new(alloc);

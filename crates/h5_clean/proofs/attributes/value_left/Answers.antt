@@ -1,4 +1,4 @@
-use Rattle.std.proofs.Common.{◌≡◌, ◌==◌, ◌∷◌, [], List, Option, arith, codes, false, length, sym, true, ℕ, ◌∙◌}
+use Rattle.std.proofs.Common.{◌≡◌, ◌==◌, ◌∷◌, [], List, Option, arith, codes, false, length, rules, sym, true, ℕ, ◌∙◌}
 use Rattle.std.proofs.lemmas.Bool.{eqb-true}
 use Rattle.h5_names.specs.AttributeText.{is_same_text}
 use Rattle.h5_clean.specs.Policies.{named_behind}
