@@ -28,7 +28,8 @@ ghost use Rattle.h5_round_trip.specs.Written.{written_fragment};
 ghost use Rattle.h5_clean.specs.Calls.{after_call, first_state, text_of};
 ghost use Rattle.h5_clean.specs.Pass.{AllLet, IsWithin, cleaned, first_place, with_first};
 ghost use Rattle.h5_clean.specs.Places.{around};
-ghost use Rattle.h5_clean.specs.Policies.{ArePrefixed, MayStay, Rules, attributes_left};
+ghost use Rattle.h5_clean.specs.AllowLists.{LeadWell, Table, table_rules};
+ghost use Rattle.h5_clean.specs.Policies.{ArePrefixed, MayStay, Rules, RunNoScripts, attributes_left};
 ghost use Rattle.h5_clean.specs.Source.{Source, calls_before, source_of};
 ghost use Rattle.h5_clean.specs.Texts.{readable, without_marks};
 
@@ -63,6 +64,14 @@ pub fn what_is_left_of_attributes_may_stay()
 /// refer to one or several ids.
 pub fn what_is_left_of_names_is_prefixed()
     ensures { (rules : Rules) (element : List ℕ) (attrs : List AttributeText) → ArePrefixed rules (attributes_left rules element attrs) }
+{}
+
+/// No URL that is left in an attribute of HTML has the scheme `javascript` or `vbscript`, regardless of the rules. By the
+/// rules of a table each is relative, if the table allows that, or begins with '#', or has a listed scheme, even if the
+/// table doesn't say that the attribute holds a URL.
+pub fn what_is_left_of_urls_leads_well()
+    ensures no_script { (rules : Rules) (element : List ℕ) (attrs : List AttributeText) → RunNoScripts (attributes_left rules element attrs) }
+    ensures listed { (table : Table) (element : List ℕ) (attrs : List AttributeText) → LeadWell table (attributes_left (table_rules table) element attrs) }
 {}
 
 /// What is left of a tree is a plain fragment that can be read, that doesn't begin with U+FEFF, and that the rules
