@@ -232,7 +232,7 @@ fn push_fragment(made: &mut Vec<u8>, prefix: &[u8], link: &[u8]) -> Result<(), A
     Ok(())
 }
 
-// The link, prefixed like that behind leading C0 controls and spaces.
+// The link, prefixed like that after leading C0 controls and spaces.
 fn link_prefixed(alloc: Global, prefix: &[u8], mut rest: &[u8]) -> Result<Vec<u8>, AllocError>
     ensures { IfOk result (λ made. made.items ≡ link_prefixed prefix.now rest.entry.now) }
 {

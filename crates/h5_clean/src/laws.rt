@@ -159,7 +159,7 @@ pub fn what_is_left_stays_in_its_box()
     texts_stay_in_their_box();
 }
 
-/// If `out` is what the rules leave of `html`, and a parser has taken the front of a page in any chunks, is in the data
+/// If `out` is what the rules leave of `html`, and a parser has taken the beginning of a page in any chunks, is in the data
 /// state, and its builder is at an element in which no more is open than the rules say (`IsBox`), then `out` changes
 /// nothing of the page but that element, which gets the allowed tree: what follows is built from the same open elements,
 /// mode and list of active formatting elements as without `out`. This holds for any `Reader`.

@@ -19,7 +19,7 @@ pub record IsBuiltFrom {T : Type 0} (Reads : T → View → List ℕ → List To
   pub only : (told : Seen) → Parses Reads choices first view page told → (tokens : List TokenText) (end : View) → Reads reader at rest tokens end
       → (told.forest ≡ end.world.forest) × (told.quirks ≡ end.world.seen_quirks)
 
--- A PAGE KEEPS ITS BOX: the front of a page was read, up to the data state, over a builder at a box. The page without the nodes
+-- A PAGE KEEPS ITS BOX: the beginning of a page was read, up to the data state, over a builder at a box. The page without the nodes
 -- is built from the remainder there. The page with their text is built from the remainder in the data state as well, over the
 -- same builder, except that the nodes follow the box's children
 pub record KeepsBox {T : Type 0} (IsIn : T → Type 0) (Readings : T → View → List ℕ → List TokenText → T → View → List ℕ → Type 0) (Reads : T → View → List ℕ → List TokenText → View → Type 0) (choices : SinkChoices)
@@ -29,7 +29,7 @@ pub record KeepsBox {T : Type 0} (IsIn : T → Type 0) (Readings : T → View �
   pub with_nodes : IsBuiltFrom Reads choices first view (front ++ text_before nodes rest) stays.place (standing at stays.forest stays.ok stays.saved) rest
 
 module _ {R S H O : Type 0} (reader : Ghosts R S H O) (choices : SinkChoices) where
-  -- so does each page of a parser that has taken its front in chunks and hasn't failed
+  -- so does each page of a parser that has taken its beginning in chunks and hasn't failed
   abbrev pub PagesKeepBoxes : Type 0
   PagesKeepBoxes =
       (chunks : List (List ℕ)) (first now : Parsing R) (o : Around) (box : IsBox o (view_of reader now).world) (nodes : Nodes) (rest : List ℕ)

@@ -64,7 +64,7 @@ pub fn fragments_come_back_over<R: Reader>()
     ensures { FragmentsComeBackBy R.Reads R.first R.Sink.choices }
 {}
 
-/// If a parser has taken the front of a page, it is in the data state, and its builder is at an element that takes nodes of
+/// If a parser has taken the beginning of a page, it is in the data state, and its builder is at an element that takes nodes of
 /// flow (`IsBox`), then the text of nodes that fit there changes nothing of the page but that element: without and with the
 /// text, what is built from the page is what is built from the remainder, which must not be empty, by a tokenizer in the
 /// data state over the same open elements, mode and list of active formatting elements. With the text, the nodes follow

@@ -1,6 +1,6 @@
 -- The text of nodes in the middle of a page is read by the plain tokenizer as their tokens, and they stay in their box.
-use Rattle.std.proofs.Common.{◌≡◌, ◌≢◌, ◌∙◌, ℕ, Bool, true, false, List, [], ◌∷◌, ◌++◌, append-nil, map, refl, ap, sym, subst}
-use Rattle.h5_token.specs.Reply.{Continues, Reply}
+use Rattle.std.proofs.Common.{◌≡◌, ◌∙◌, ℕ, Bool, List, [], ◌∷◌, append-nil, map, refl, ap, sym, subst}
+use Rattle.h5_token.specs.Reply.{Reply}
 use Rattle.h5_token.specs.TokenText.{TokenText}
 use Rattle.h5_interface.specs.SinkChoices.{SinkChoices}
 use Rattle.h5_tokenizer.specs.Front.{ReaderPlace}
@@ -44,7 +44,7 @@ module _ (choices : SinkChoices) where
   answers_so (t ∷ ts) v e = (cc, (λ line. answers_so ts (after_token choices t v) (cc)))
 
   -- the builder afterwards is what the run of the tokens leaves
-  step_runs : {foreign : View → Bool} {p q : ReaderPlace} {v n : View} {xs ys : List ℕ} {ts : List TokenText} {reply : Reply} → Step answer next foreign p v xs ts reply q n ys → n ≡ after_all choices ts v
+  step_runs : {foreign : View → Bool} {p : ReaderPlace} {v : View} {xs : List ℕ} {ts : List TokenText} {reply : Reply} {q : ReaderPlace} {n : View} {ys : List ℕ} → Step answer next foreign p v xs ts reply q n ys → n ≡ after_all choices ts v
   unfolding run
   step_runs (marked h k) = refl
   step_runs (unmarked h k) = refl
@@ -52,7 +52,7 @@ module _ (choices : SinkChoices) where
   step_runs (switch_step mode h k) = refl
   step_runs (text_step text h less bits) = refl
 
-  pub read_runs : {foreign : View → Bool} {p q : ReaderPlace} {v n : View} {xs ys : List ℕ} {ts : List TokenText} {reply : Reply} → Read answer next foreign p v xs ts reply q n ys → n ≡ after_all choices ts v
+  pub read_runs : {foreign : View → Bool} {p : ReaderPlace} {v : View} {xs : List ℕ} {ts : List TokenText} {reply : Reply} {q : ReaderPlace} {n : View} {ys : List ℕ} → Read answer next foreign p v xs ts reply q n ys → n ≡ after_all choices ts v
   unfolding run
   read_runs nothing_read = refl
   read_runs {v = v} (read_on {ts = ts} {us = us} r on s) = step_runs s ∙ ap (after_all choices us) (read_runs r) ∙ sym (view_joins choices ts us v)
