@@ -1,9 +1,9 @@
 -- A page keeps its box.
-use Rattle.std.proofs.Common.{◌≡◌, ◌≢◌, ◌++◌, ℕ, true, false, List, [], sym, subst}
+use Rattle.std.proofs.Common.{◌≢◌, ◌++◌, ℕ, true, false, List, [], subst}
 use Rattle.h5_token.specs.TokenText.{TokenText}
 use Rattle.h5_interface.specs.SinkChoices.{SinkChoices}
 use Rattle.h5_plain.specs.Plain.{Around, Flow, IsPlain, Nodes}
-use Rattle.h5_plain.specs.Staying.{IsBox, standing, tokens_of}
+use Rattle.h5_plain.specs.Staying.{IsBox, tokens_of}
 use Rattle.h5_reading.specs.declared.options.TokenizerOpts.{TokenizerOpts}
 use Rattle.h5_round_trip.specs.Inside.{TextsStayRead, text_before}
 use Rattle.h5_round_trip.specs.Readable.{CanBeRead}
