@@ -22,13 +22,18 @@ UNREACHED = {
 }
 
 
+def repeated(line):
+    """A line with each `{N times TEXT}` written out."""
+    return re.sub(r"\{(\d+) times ([^{}]*)\}", lambda found: int(found[1]) * found[2], line)
+
+
 def runs_in(path):
     """The runs of a file: the command line, the lines of its input, if there are any, of both outputs, and the status of each."""
     runs = []
     with open(path, encoding="utf-8", newline="\n") as file:
         lines = file.read().split("\n")
     for number, line in enumerate(lines, 1):
-        mark, _, rest = line.partition(" ")
+        mark, _, rest = repeated(line).partition(" ")
         if mark == "$":
             runs.append({"line": rest, "given": [], "out": [], "err": [], "status": 0})
         elif runs and mark in MARKS:
