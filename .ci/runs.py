@@ -1,4 +1,9 @@
-"""Reads the files .ci/runs*, makes the runs of the programs that they list, and finds options and messages that no run has."""
+#!/usr/bin/env python3
+"""Reads the files .ci/runs*, makes the runs of the programs that they list, and finds options and messages that no run has.
+
+    .ci/runs.py    prints each subcommand and option of the help texts in runs.help, and each message in the code, that no run has; the
+                   status is 1 if there are any
+"""
 import contextlib
 import difflib
 import glob
@@ -6,6 +11,7 @@ import os
 import re
 import shlex
 import subprocess
+import sys
 
 ROOT = os.path.dirname(os.path.dirname(os.path.abspath(__file__)))
 FILES = [f"{ROOT}/.ci/{name}" for name in ("runs", "runs.help", "runs.options", "runs.messages")]
@@ -157,3 +163,14 @@ def without_message(runs):
             parts = [re.escape(part.replace('\\"', '"').replace("\\n", "")) for part in re.split(r"\{[^{}]*\}", text)]
             if text not in UNREACHED and not re.search("[^\n]*".join(parts), printed):
                 yield f"no run prints the message of {os.path.relpath(path, ROOT)}: {text}"
+
+
+def main():
+    runs = all_runs()
+    missing = [*without_run(runs), *without_message(runs)]
+    print(*missing, sep="\n", end="\n" if missing else "")
+    return 1 if missing else 0
+
+
+if __name__ == "__main__":
+    sys.exit(main())

@@ -1,4 +1,5 @@
-"""Random trees as calls of a serializer, and the HTML that the library for C in dist/ writes for them, from a block that holds the tree.
+"""Random trees as calls of a serializer, and the HTML that the library for C writes for them, from a block that holds the tree. The
+library is the one in dist/, unless HENGARUTO_LIBRARY names another.
 
 A tree is a list of lines: `start NAMESPACE NAME`, after it `attribute NAMESPACE NAME VALUE`, `end NAMESPACE NAME`, `text TEXT`,
 `comment TEXT`, `doctype NAME` and `instruction TARGET DATA`. After a first line `within`, only the content of the element that follows is
@@ -18,15 +19,18 @@ NOTHING = 0xFFFFFFFF
 TEXTS = ["a", "<", "&<>\"'", "\u00a0", "\u00a2\u00a0\u00c2", "", "x\\ny", "\u20ac\u00a0&amp;", "\U0001f600&", "\\0\\t"]
 # Void elements, raw texts, and two that aren't.
 OWN = (
-    "area base basefont bgsound br col embed frame hr img input keygen link meta param source track wbr style script xmp iframe noembed noframes"
-    " plaintext noscript title textarea"
+    "area base basefont bgsound br col embed frame hr img input keygen link meta param source track wbr style script xmp iframe noembed"
+    " noframes plaintext noscript title textarea"
 ).split()
 ATTRIBUTES = ["href", "xmlns", "xlink", "lang", "x"]
 
 
+LIBRARY = os.environ.get("HENGARUTO_LIBRARY", f"{ROOT}/dist/lib/libhengaruto.so")
+
+
 @functools.lru_cache(maxsize=None)
 def library():
-    loaded = ctypes.CDLL(f"{ROOT}/dist/lib/libhengaruto.so")
+    loaded = ctypes.CDLL(LIBRARY)
     loaded.hengaruto_html.argtypes = [ctypes.c_char_p, ctypes.c_size_t, ctypes.c_uint32, ctypes.c_uint32, ctypes.c_void_p, ctypes.c_void_p]
     return loaded
 
