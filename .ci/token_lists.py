@@ -20,16 +20,17 @@ TOPICS = [topic.split() for topic in TOPICS]
 ATTRIBUTES = [
     "id a", "id b", "class c", "type hidden", "type HIDDEN", "type text", "form f", "color red", "face f", "size 1", "encoding text/html",
     "encoding TEXT/html", "encoding application/xhtml+xml", "encoding text/plain", "xlink:href h", "xlink:type t", "xml:lang en",
-    "xml:base b", "xmlns n", "xmlns:xlink n", "definitionurl d", "viewbox v", "attributename n", "shadowrootmode open", "shadowrootmode closed",
-    "shadowrootmode", "charset utf-8", "http-equiv content-type", "http-equiv Content-Type", "content text/html;charset=x",
-    'content charset = "y"z', "content charset", "content charset='q", "value \\n\\t\\\\&<\"", "empty",
+    "xml:base b", "xmlns n", "xmlns:xlink n", "definitionurl d", "viewbox v", "attributename n", "shadowrootmode open",
+    "shadowrootmode closed", "shadowrootmode", "charset utf-8", "http-equiv content-type", "http-equiv Content-Type",
+    "content text/html;charset=x", 'content charset = "y"z', "content charset", "content charset='q", "value \\n\\t\\\\&<\"", "empty",
 ]
 # The attributes that the rules of a tag look at, by the tag.
 LOOKED_AT = {
     "annotation-xml": ["encoding "], "font": ["color ", "face ", "size "], "template": ["shadowrootmode"], "input": ["type ", "form "],
     "meta": ["charset ", "http-equiv ", "content "], "link": ["charset "], "base": ["charset "], "bgsound": ["charset "],
-    "basefont": ["charset "], "svg": ["viewbox ", "xlink:", "xmlns"], "path": ["attributename ", "xml:"], "math": ["definitionurl ", "xlink:"], "button": ["form "],
-    "img": ["form "], "b": ["id ", "class "], "a": ["id "], "html": ["id ", "class "], "body": ["id ", "class "],
+    "basefont": ["charset "], "svg": ["viewbox ", "xlink:", "xmlns"], "path": ["attributename ", "xml:"],
+    "math": ["definitionurl ", "xlink:"], "button": ["form "], "img": ["form "], "b": ["id ", "class "], "a": ["id "],
+    "html": ["id ", "class "], "body": ["id ", "class "],
 }
 TEXTS = [
     " ", "\\n", "\\t\\f ", "x", "yz", " x", "x ", " x y ", "\\nx", "\\n\\nx", "\u00a0", "\\0", "x\\0 ", "&<>\"'", "\\\\", "\\r", "",
@@ -74,8 +75,8 @@ SUFFIXES = [
 # What is tried after each prefix, besides each tag; a semicolon is between the lines of a token.
 OTHERS = [
     "T x", "T  ", "T  x", "C c", "N", "Z", "X", "P e", "D html", "D x", "S br;/", "E br;/", "S svg;/", "S math;/", "S path;/",
-    "S input;A type hidden", "S font;A color c", "S template;A shadowrootmode closed", "S html;A id a", "S body;A id a", "S meta;A charset c", "S link;A charset c",
-    "S annotation-xml;A encoding text/html", "S img;A form f",
+    "S input;A type hidden", "S font;A color c", "S template;A shadowrootmode closed", "S html;A id a", "S body;A id a",
+    "S meta;A charset c", "S link;A charset c", "S annotation-xml;A encoding text/html", "S img;A form f",
 ]
 
 
@@ -202,8 +203,8 @@ def random_text(chance, tags):
 
 
 CONTEXTS = (
-    "a body button caption colgroup div form frameset head html iframe li math noembed noscript option p plaintext pre script select style svg"
-    " table tbody td template textarea title tr xmp"
+    "a body button caption colgroup div form frameset head html iframe li math noembed noscript option p plaintext pre script select style"
+    " svg table tbody td template textarea title tr xmp"
 ).split()
 
 
