@@ -30,8 +30,14 @@ def without_cases():
     return "" if glob.glob(f"{html5lib_cases.DEBIAN}/*.dat") else "Debian's package golang-golang-x-net-dev"
 
 
+def html5ever_folder():
+    """The folder that HTML5EVER names, or an unpacked crate of cargo or of Debian; nothing if there is none."""
+    unpacked = [f"{os.path.expanduser('~')}/.cargo/registry/src/*/html5ever-0.40.1", "/usr/share/cargo/registry/html5ever-0.40.1"]
+    return os.environ.get("HTML5EVER") or next((path for it in unpacked for path in glob.glob(it)), "")
+
+
 def without_html5ever():
-    if not os.environ.get("HTML5EVER"):
+    if not html5ever_folder():
         return "html5ever 0.40.1's sources; HTML5EVER names their folder"
     return "" if shutil.which(os.environ.get("RUSTC", "rustc")) else "rustc"
 
@@ -51,7 +57,7 @@ def without_soupsieve():
 
 JUDGES = {
     "html5lib": Judge([".ci/html5lib"], ["hengaruto"], without_cases),
-    "html5ever": Judge([".ci/html5ever", os.environ.get("HTML5EVER", ""), "5000"], ["h5"], without_html5ever),
+    "html5ever": Judge([".ci/html5ever", html5ever_folder(), "5000"], ["h5"], without_html5ever),
     "errors": Judge([".ci/errors", "3000", "1"], ["hengaruto", "errors"], without_parse5),
     "selectors": Judge([".ci/selectors", "2000", "1"], ["hengaruto", "select"], without_soupsieve),
     "sanitizer": Judge([".ci/sanitizer", "3000", "1"], ["hengaruto", "clean"], without_parse5),
