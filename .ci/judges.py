@@ -22,6 +22,8 @@ TOOLS = [
     ["crates/h5_encodings/write_tables.py", "--check"],
     ["crates/h5_vectors/write_page.py", "--check"],
 ]
+# The number of lines that are shown of a judge that finds a difference.
+SHOWN = 40
 # A judge: its words, the program it judges with that one's words, and a function that says what it needs and this machine doesn't have.
 Judge = collections.namedtuple("Judge", "words program missing")
 
@@ -65,7 +67,7 @@ JUDGES = {
 
 
 def judged(name, programs, library):
-    """How many comparisons of a judge agree, what it says of those that don't, and what was skipped since it is missing."""
+    """How many comparisons of a judge agree, the last that it says of those that don't, and what was skipped since it is missing."""
     judge = JUDGES[name]
     missing = judge.missing()
     if missing:
@@ -77,7 +79,8 @@ def judged(name, programs, library):
     # Status 2 says that something is missing or too old.
     if done.returncode == 2:
         return 0, [], [f"{name}: {done.stdout.strip()}"]
-    return (passed_in(done.stdout), [], []) if not done.returncode else (passed_in(done.stdout), [done.stdout.strip()], [])
+    said = "\n    ".join(["the last lines of what it says:", *done.stdout.strip().split("\n")[-SHOWN:]])
+    return passed_in(done.stdout), [said] if done.returncode else [], []
 
 
 def passed_in(printed):
