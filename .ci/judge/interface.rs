@@ -59,7 +59,7 @@ impl fmt::Debug for LocalName {
     }
 }
 
-/// A namespace, by its number: none, those of `ns!`, and an unknown one.
+/// A namespace, by its number: those of `ns!`, and none.
 #[derive(Clone, PartialEq, Eq, PartialOrd, Ord, Hash, Debug)]
 pub struct Namespace(pub u8);
 
