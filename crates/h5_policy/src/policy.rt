@@ -454,7 +454,7 @@ fn subject_of(reason: &str) -> Option<&str> {
 
 // Returns true if a line has a word that no other character of a name is next to.
 fn has_word(line: &str, word: &str) -> bool {
-    line.split(|c: char| !(c.is_alphanumeric() || c == '-' || c == '_' || c == ':'))
+    line.split(|c: char| !(c.is_alphanumeric() || matches!(c, '-' | '_' | ':' | '*')))
         .any(|part| part == word)
 }
 
