@@ -1,5 +1,5 @@
 -- What is left of a tree.
-use Rattle.std.specs.Prelude.{◌≡◌, ℕ, ◌-◌, ◌≤◌, ◌&&◌, ◌||◌, Bool, true, not, List, [], ◌∷◌, ◌++◌, if◌then◌else◌}
+use Rattle.std.specs.Prelude.{◌≡◌, ℕ, ◌-◌, ◌≤◌, ◌&&◌, ◌||◌, Bool, true, false, not, List, [], ◌∷◌, ◌++◌, if◌then◌else◌}
 use Rattle.h5_names.specs.declared.qualified.QualName.{QualName}
 use Rattle.h5_serialize.specs.Names.{is_html}
 use Rattle.h5_plain.specs.Plain.{ElementThen, End, Nodes, TextThen}
