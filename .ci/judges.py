@@ -67,7 +67,7 @@ JUDGES = {
 
 
 def judged(name, programs, library):
-    """How many comparisons of a judge agree, the last that it says of those that don't, and what was skipped since it is missing."""
+    """How many comparisons of a judge agree, its last lines about those that don't, and what was skipped since it is missing."""
     judge = JUDGES[name]
     missing = judge.missing()
     if missing:

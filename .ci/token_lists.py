@@ -1,7 +1,7 @@
 """Inputs for comparisons of tree builders: lists of tokens, as lines of `h5 tokens`, and texts, as `h5 tree` and `h5 html` read them."""
 import random
 
-# Tags that stand in each other's rules.
+# Tags that are in each other's rules.
 TOPICS = [
     "a b i u em font nobr big small code strong tt strike applet object marquee p div",
     "table caption colgroup col tbody thead tfoot tr td th input form script",

@@ -12,8 +12,8 @@ def text(page: Source, *, width: Optional[int] = None) -> str:
     """Returns the text of a page, laid out as a browser shows it without a style sheet: blocks on separate lines, list items with their
     markers, no scripts.
 
-    Lines are wrapped at `width` columns, or not at all if no width is given. A width below 1 raises a `ValueError`. The others differ: for
-    the width 0 the program prints one word per line, and the library for C doesn't wrap.
+    Lines are wrapped at `width` columns, or not at all if no width is given. A width below 1 raises a `ValueError`. The program and the
+    library for C differ: for the width 0 the program prints one word per line, and the library doesn't wrap.
 
     >>> print(text("<h1>A page</h1><p>One <b>bold</b> word<ul><li>x<li>y</ul><script>z</script>"), end="")
     A page
@@ -43,12 +43,13 @@ def links(page: Source) -> List[Tuple[str, str]]:
 
 
 def clean(html: Source) -> str:
-    """Returns the HTML that the default policy allows of an untrusted fragment: phrases, links, images, headings, blocks, lists and tables.
+    """Returns the HTML that the default policy allows of an untrusted fragment: phrases, ruby annotations, links, images, headings, blocks,
+    lists and tables.
 
-    Scripts, styles, forms and frames are removed. URLs are relative, http or https, and in links also mailto. The result is safe to show in
-    a page in UTF-8, where block elements are allowed, and not inside a script, a style, an attribute or a comment. Two things are proved:
-    parsed as a fragment in an element such as `div`, the result is exactly the tree that was allowed; and cleaning it again doesn't change
-    it.
+    Scripts, styles, forms and frames are removed. URLs are relative, http or https, and in links also mailto. Put the result into a page in
+    UTF-8, where block elements are allowed, and not into a script, a style, an attribute or a comment. Two things are proved about the
+    library's result: parsed as a fragment in an element such as `div`, it is exactly the tree that was allowed; and cleaning it again
+    doesn't change it.
 
     >>> clean('<p onclick="alert(1)">A <b>nice</b> page<script>alert(2)</script>')
     '<p>A <b>nice</b> page</p>'
