@@ -28,7 +28,7 @@ ins = ["cite"]
 q = ["cite"]
 "#;
 
-/// The default policy as a table, but for two things: of several classes of a `code` those that begin with `language-` are kept, and an
+/// The default policy as a table, except for two things: of several classes of a `code` those that begin with `language-` are kept, and an
 /// image may have a URL with the scheme `mailto`, which browsers don't show.
 pub const TEXT: &str = r#"
 elements = ["a", "abbr", "address", "article", "aside", "b", "bdi", "bdo", "blockquote", "br", "caption", "cite", "code", "col",
