@@ -36,7 +36,7 @@ from ._tree import (
     parse_fragment,
 )
 
-__version__ = "0.2.0"
+__version__ = "0.3.0"
 
 __all__ = [
     "parse", "parse_fragment", "load", "Document", "Node", "Parser", "Source", "text", "links", "clean", "decode", "Error", "SelectorError",
