@@ -87,13 +87,19 @@ fn taken(
 
 // Returns true if a selector depends only on the element itself, so that no other rows are needed.
 fn asks_alone(formula: &Formula) -> bool {
-    match formula {
-        Formula::Leads(_, _) | Formula::Nth(_, _, _) | Formula::NthOfType(_, _) => false,
-        Formula::And(one, other) | Formula::Or(one, other) => {
-            asks_alone(&**one) && asks_alone(&**other)
+    let mut at = formula;
+    'further: loop {
+        match at {
+            Formula::Leads(_, _) | Formula::Nth(_, _, _) | Formula::NthOfType(_, _) => return false,
+            Formula::And(one, other) | Formula::Or(one, other) => {
+                if !asks_alone(&**one) {
+                    return false;
+                }
+                at = &**other;
+            }
+            Formula::Not(inner) => at = &**inner,
+            _ => return true,
         }
-        Formula::Not(inner) => asks_alone(&**inner),
-        _ => true,
     }
 }
 

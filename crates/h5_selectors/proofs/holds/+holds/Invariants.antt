@@ -1,19 +1,19 @@
-use Rattle.std.proofs.Common.{◌≡◌, ◌+◌, ◌-◌, ◌≤◌, drop, length, map}
+use Rattle.std.proofs.Common.{◌≡◌, ◌+◌, ◌≤◌, drop, length, map}
 use Rattle.std.specs.List.{filter, list_any}
-use Rattle.h5_arena.specs.ArenaModel.{IsHeld, place}
-use Rattle.h5_arena.specs.Kin.{ancestors_within}
-use Rattle.h5_selectors.specs.Query.{holds_by, seen_by}
-use Rattle.h5_selectors.specs.Ways.{ancestors, elements}
+use Rattle.h5_arena.specs.ArenaModel.{place}
+use Rattle.h5_selectors.specs.Query.{holds_by}
+use Rattle.h5_selectors.specs.Waiting.{AreSteps, step_holds, tests_left}
+use Rattle.h5_selectors.specs.declared.formula.Formula.{size-Formula}
 use Rattle.h5_selectors.proofs.holds.+holds.Given as goal
 
 abbrev pub invariant-count_holding-counted : goal.invariant-count_holding-counted
 invariant-count_holding-counted l = (l.count + length (filter (holds_by l.query l.formula) (map place (drop l.element-index l.list))) ≡ length (filter (holds_by l.query l.formula) (map place l.list))) × (l.count ≤ l.element-index)
 
-abbrev pub invariant-holds_of_some-asked : goal.invariant-holds_of_some-asked
-invariant-holds_of_some-asked l = list_any (holds_by l.query l.formula) (map place (drop l.element-index l.list)) ≡ list_any (holds_by l.query l.formula) (map place l.list)
+abbrev pub invariant-holds-waits : goal.invariant-holds-waits
+invariant-holds-waits l = record {
+  same : list_any (step_holds l.query) l.waiting.items ≡ holds_by l.query l.formula l.id.index;
+  steps : AreSteps l.query (size-Formula l.formula) l.waiting.items;
+}
 
-abbrev pub invariant-holds_above-upwards : goal.invariant-holds_above-upwards
-invariant-holds_above-upwards l =
-    let f = seen_by l.query in
-    (list_any (holds_by l.query l.formula) (elements f (ancestors_within (l._step-end - l._step) f l.at.index)) ≡ list_any (holds_by l.query l.formula) (ancestors f l.fn.id.index))
-    × IsHeld l.query.arena.now l.at
+abbrev pub decreases-holds-waits : goal.decreases-holds-waits
+decreases-holds-waits l = tests_left l.query l.waiting.items
