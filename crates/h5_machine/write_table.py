@@ -4,15 +4,15 @@
     write_table.py           writes the files that differ
     write_table.py --check   writes nothing; the status is 1 where a file differs
 
-The list is crates/h5_states/specs/ReferenceTable.antt. All of src/numbers.rt, src/common.rt and proofs/CommonLemmas.antt is
-written here.
+The list is in the files of crates/h5_states/specs/named, in their order. All of src/numbers.rt, src/common.rt and proofs/CommonLemmas.antt
+is written here.
 """
 import os
 import re
 import sys
 
 CRATES = os.path.dirname(os.path.dirname(os.path.abspath(__file__)))
-LIST = "h5_states/specs/ReferenceTable.antt"
+LISTS = "h5_states/specs/named"
 NUMBERS = "h5_machine/src/numbers.rt"
 COMMON = "h5_machine/src/common.rt"
 LEMMAS = "h5_machine/proofs/CommonLemmas.antt"
@@ -64,7 +64,7 @@ def bytes_of(words):
         return found[1].encode()
     *numbers, end = words.split(" ∷ ")
     if end != "[]":
-        sys.exit(f"{LIST}: no text: {words}")
+        sys.exit(f"{LISTS}: no text: {words}")
     return bytes(int(it, 0) for it in numbers)
 
 
@@ -72,14 +72,17 @@ def read_row(line):
     """The reference of a row: its name and its text, as bytes."""
     found = re.fullmatch(r'    (?:∷ )?\((codes "[A-Za-z0-9]+;?"), (.+)\)\n', line)
     if not found:
-        sys.exit(f"{LIST}: no row: {line}")
+        sys.exit(f"{LISTS}: no row: {line}")
     return bytes_of(found[1]), bytes_of(found[2])
 
 
 def read():
     """The references, in the order of the list."""
-    with open(f"{CRATES}/{LIST}", encoding="utf-8") as file:
-        return [read_row(line) for line in file if line.strip().startswith(("(", "∷ ("))]
+    rows = []
+    for name in sorted(os.listdir(f"{CRATES}/{LISTS}")):
+        with open(f"{CRATES}/{LISTS}/{name}", encoding="utf-8") as file:
+            rows += [read_row(line) for line in file if line.strip().startswith(("(", "∷ ("))]
+    return rows
 
 
 def escaped(character):
@@ -176,7 +179,7 @@ def differs(name, text, writes):
         with open(path, encoding="utf-8") as file:
             if file.read() == text:
                 return False
-    print(f"crates/{name} {'is written anew, as' if writes else 'is not what'} crates/{LIST} says")
+    print(f"crates/{name} {'is written anew, as' if writes else 'is not what'} crates/{LISTS} says")
     if writes:
         with open(path, "w", encoding="utf-8") as file:
             file.write(text)

@@ -179,16 +179,20 @@ pub script_none : (o : Option (List ℕ)) → is_some o ≡ false → is_script 
 script_none None h = refl
 script_none (Some s) h = absurd (false≢true (sym h))
 
-pub scripts : (url : List ℕ) → is_some (scheme_of_visible url) ≡ true → is_script (scheme_of_visible url) ≡ (is_named (codes "javascript") url || is_named (codes "vbscript") url)
-unfolding script_schemes
-scripts url h =
-    script_some (scheme_of_visible url) h ∙ by_names url script_schemes
-    ∙ (ap (λ v. not v || list_any (λ n. is_named n url) script_schemes) h ∙ by (is_named (codes "javascript") url) (is_named (codes "vbscript") url))
+-- a URL with a scheme, and two names
+spelled_in_two : (one other url : List ℕ) → is_some (scheme_of_visible url) ≡ true → has_scheme_of (one ∷ other ∷ []) (scheme_of_visible url) ≡ (is_named one url || is_named other url)
+spelled_in_two one other url h =
+    by_names url (one ∷ other ∷ [])
+    ∙ (ap (λ v. not v || list_any (λ n. is_named n url) (one ∷ other ∷ [])) h ∙ by (is_named one url) (is_named other url))
   where
     by : (x y : Bool) → (x || (y || false)) ≡ (x || y)
     by true y = refl
     by false true = refl
     by false false = refl
+
+pub scripts : (url : List ℕ) → is_some (scheme_of_visible url) ≡ true → is_script (scheme_of_visible url) ≡ (is_named (codes "javascript") url || is_named (codes "vbscript") url)
+unfolding script_schemes
+scripts url h = script_some (scheme_of_visible url) h ∙ spelled_in_two (codes "javascript") (codes "vbscript") url h
 
 or_three : (a x y z : Bool) → (a || (x || (y || (z || false)))) ≡ ((a || (x || (y || false))) || z)
 or_three true x y z = refl
@@ -206,11 +210,4 @@ links url =
 
 pub images : (url : List ℕ) → is_some (scheme_of_visible url) ≡ true → has_scheme_of image_schemes (scheme_of_visible url) ≡ (is_named (codes "http") url || is_named (codes "https") url)
 unfolding image_schemes
-images url h =
-    by_names url image_schemes
-    ∙ (ap (λ v. not v || list_any (λ n. is_named n url) image_schemes) h ∙ by (is_named (codes "http") url) (is_named (codes "https") url))
-  where
-    by : (x y : Bool) → (x || (y || false)) ≡ (x || y)
-    by true y = refl
-    by false true = refl
-    by false false = refl
+images url h = spelled_in_two (codes "http") (codes "https") url h

@@ -22,7 +22,7 @@ use Rattle.h5_rules.specs.modes.InBody.{description_names, list_item_names}
 use Rattle.h5_rules.specs.stack.Closing.{newest_item}
 use Rattle.h5_rules.specs.stack.Order.{is_in}
 use Rattle.h5_rules.specs.stack.Scope.{first_passes, has_p_in_button_scope}
-use Rattle.h5_plain.specs.Boxes.{BodiesAreBoxes, LeadsToBox, Start, StartTagsLeadToBoxes, held_behind, held_in, held_in_block, held_in_flow, held_in_item, held_in_part, start_tags, tokens_up_to_body}
+use Rattle.h5_plain.specs.Boxes.{BodiesAreBoxes, BoxNamesLeadToBoxes, LeadsToBox, Start, StartTagsLeadToBoxes, held_behind, held_in, held_in_block, held_in_flow, held_in_item, held_in_part, is_flow, start_tags, tokens_up_to_body}
 use Rattle.h5_plain.specs.Plain.{Around, Cells, Columns, Flow, Nodes, Part, Rows, Sections, Sort, TablePart, barrier_names, behind, end_tag, nothing_open, open_block_names, part_names, phrase_names, start_tag, term_names, within}
 use Rattle.h5_plain.specs.Staying.{HasHtmlContext, IsBox, has_text_last, takes_flow}
 use Rattle.h5_plain.proofs.BodyRuleLaws.{IsHolder, is_barrier, is_open_block}
@@ -300,7 +300,7 @@ resets_so : (o : Option Role) (names : List QualName) (m : InsertionMode) → Re
 resets_so o [] m r = absurd (r)
 resets_so o (n ∷ ns) m r = r
 
-box_at : (w : World) (o : Around) → At (Flow false o) w → IsBox o w
+box_at : {after_text : Bool} (w : World) (o : Around) → At (Flow after_text o) w → IsBox o w
 box_at w o a =
     let f : FitsFlow a.at_root o w.mode a.names = a.fits in
     let names : names_of w ≡ a.names = names_are w a.calm.named in
@@ -332,7 +332,7 @@ box_at w o a =
     }
 
 -- where such tokens lead, there is a box
-led_to_box : (choices : SinkChoices) (ts : List TokenText) (inner : Around) (v : View) (w : World) → v.ended ≡ false → v.failed ≡ false → Runs false choices ts v.world w → Fitting w → At (Flow false inner) w → LeadsToBox choices ts inner v
+led_to_box : {after_text : Bool} (choices : SinkChoices) (ts : List TokenText) (inner : Around) (v : View) (w : World) → v.ended ≡ false → v.failed ≡ false → Runs false choices ts v.world w → Fitting w → At (Flow after_text inner) w → LeadsToBox choices ts inner v
 led_to_box choices ts inner v w e f runs k a =
     let same : after_all choices ts v ≡ moved v w = view_is false choices ts v w f e runs in
     record {
@@ -347,6 +347,17 @@ pub start_tags_lead_to_boxes : (choices : SinkChoices) → StartTagsLeadToBoxes 
 start_tags_lead_to_boxes choices ts o inner v b k e f h =
     let l = all_lead choices ts v.world (Flow false o) (Flow false inner) (at_box v.world b k) k h in
     led_to_box choices (start_tags ts) inner v l.world e f l.runs l.fitting l.at
+
+pub box_names_lead_to_boxes : (choices : SinkChoices) → BoxNamesLeadToBoxes choices
+box_names_lead_to_boxes choices t v b k e f h = by (held_in_flow nothing_open t.name) refl h
+  where
+    by : (found : Option Sort) → held_in_flow nothing_open t.name ≡ found → is_flow found ≡ true → (inner : Around) × LeadsToBox choices (start_tags (t ∷ [])) inner v
+    by (Some (Flow after_text inner)) same h =
+        let l = all_lead choices (t ∷ []) v.world (Flow false nothing_open) (Flow after_text inner) (at_box v.world b k) k (ap (option_and_then (λ s. held_behind s [])) same) in
+        (inner, led_to_box choices (start_tags (t ∷ [])) inner v l.world e f l.runs l.fitting l.at)
+    by None same h = absurd (cc)
+    by (Some (Part after_text part)) same h = absurd (cc)
+    by (Some (Columns after_text)) same h = absurd (cc)
 
 body_place : (a b c : List AttributeText) (h : Nodes) (w : World) → AtBody a b c h w → At (Flow false nothing_open) w
 body_place a b c h w s =

@@ -12,9 +12,9 @@ use Rattle.h5_rules.specs.formatting.FormattingNames.{html_name}
 use Rattle.h5_rules.specs.stack.Scope.{drop_while, first_passes, has_p_in_button_scope, in_scope, is_implied_but}
 use Rattle.h5_rules.specs.Changes.{insert_and_pop_element, insert_element, new_element, pop_until_named, set_frameset_not_ok}
 use Rattle.h5_rules.specs.stack.Closing.{generate_implied_end_tags, generate_implied_end_in_select}
-use Rattle.h5_rules.specs.modes.InBody.{has_option_in_scope, in_body_end_other, in_body_start_hr, in_body_start_other, in_body_start_ruby_text, is_expected_rule, is_ruby_or_rtc}
+use Rattle.h5_rules.specs.modes.InBody.{has_option_in_scope, in_body_end_other, in_body_start_other, in_body_start_ruby_text, is_expected_rule, is_ruby_or_rtc}
 use Rattle.h5_rules.specs.insertion.Place.{place}
-use Rattle.h5_rules.specs.Rows.{Change, ClosePElementInButtonScope, GenerateImpliedEndExcept, GenerateImpliedEndInSelect, InsertAndPopElement, InsertElement, IsAcknowledged, IsDone, PopUntilNamed, ReconstructActiveFormattingElements, Row, SetFramesetNotOk, choose, errs, ignored, row_if}
+use Rattle.h5_rules.specs.Rows.{Change, ClosePElementInButtonScope, GenerateImpliedEndExcept, GenerateImpliedEndInSelect, InsertAndPopElement, InsertElement, IsAcknowledged, IsDone, PopUntilNamed, ReconstructActiveFormattingElements, Row, SetFramesetNotOk, choose, ignored, row_if}
 use Rattle.h5_rules.specs.fitting.Roles.{Role}
 use Rattle.h5_rules.specs.World.{World, names_of}
 use Rattle.h5_rules.proofs.changes.ClosingLaws.{named_not_implied}
@@ -24,7 +24,7 @@ use Rattle.h5_plain.specs.Plain.{end_tag, start_tag}
 use Rattle.h5_plain.proofs.BodyStepLaws.{cut_at, insert_is, left, no_p, none_closed}
 use Rattle.h5_plain.proofs.CalmLaws.{Calm, after, calm_closed, calm_html, names_are, opened, place_is, unowned}
 use Rattle.h5_plain.proofs.FilledLaws.{Face}
-use Rattle.h5_rules.specs.stack.Expected.{is_expected, is_expected_p, names_behind_p}
+use Rattle.h5_rules.specs.stack.Expected.{is_expected, names_behind_p}
 use Rattle.h5_rules.proofs.changes.ExpectedLaws.{current_expected, no_p_behind, no_p_expected}
 use Rattle.h5_plain.proofs.GoesLaws.{Moves, moves_acknowledged, moves_row}
 use Rattle.h5_plain.proofs.GrowthLaws.{with_element}

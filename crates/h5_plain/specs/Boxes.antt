@@ -80,6 +80,12 @@ StartTagsLeadToBoxes choices =
     (ts : List Start) (o inner : Around) (v : View) (b : IsBox o v.world) → Fitting v.world → v.ended ≡ false → v.failed ≡ false
     → held_behind (Flow false o) ts ≡ Some (Flow false inner) → LeadsToBox choices (start_tags ts) inner v
 
+-- so does the start tag of an element that is a box by its name, from a box in which nothing is open
+abbrev pub BoxNamesLeadToBoxes : SinkChoices → Type 0
+BoxNamesLeadToBoxes choices =
+    (t : Start) (v : View) (b : IsBox nothing_open v.world) → Fitting v.world → v.ended ≡ false → v.failed ≡ false
+    → is_box_name t.name ≡ true → (inner : Around) × LeadsToBox choices (start_tags (t ∷ [])) inner v
+
 -- the tokens of a document up to its body, whose head is empty or has a title of one text
 abbrev pub tokens_up_to_body : (html_attrs head_attrs body_attrs : List AttributeText) → (head : Nodes) → List TokenText
 tokens_up_to_body html_attrs head_attrs body_attrs head =

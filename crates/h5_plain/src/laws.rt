@@ -3,7 +3,7 @@ ghost use Rattle.std.specs.Prelude.{◌≡◌, List};
 ghost use Rattle.h5_token.specs.TokenText.{TokenText};
 ghost use Rattle.h5_interface.specs.SinkChoices.{SinkChoices};
 ghost use Rattle.h5_rules.specs.Run.{View};
-ghost use Rattle.h5_plain.specs.Boxes.{BodiesAreBoxes, StartTagsLeadToBoxes};
+ghost use Rattle.h5_plain.specs.Boxes.{BodiesAreBoxes, BoxNamesLeadToBoxes, StartTagsLeadToBoxes};
 ghost use Rattle.h5_plain.specs.Rebuilding.{RebuildsAll, RebuildsFragments};
 ghost use Rattle.h5_plain.specs.Staying.{StayInBox};
 
@@ -45,6 +45,12 @@ pub fn nodes_stay_in_their_box()
 /// (`held_behind`), lead to an element that takes nodes of flow.
 pub fn start_tags_lead_to_boxes()
     ensures { (choices : SinkChoices) → StartTagsLeadToBoxes choices }
+{}
+
+/// From an element that takes nodes of flow, in which nothing is open, the start tag of an element that is a box by its
+/// name (`is_box_name`) leads to an element that takes nodes of flow.
+pub fn box_names_lead_to_boxes()
+    ensures { (choices : SinkChoices) → BoxNamesLeadToBoxes choices }
 {}
 
 /// The tokens of a document up to the start tag of its body, in whose head there is nothing or a `title` of one text, lead

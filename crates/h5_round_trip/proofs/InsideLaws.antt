@@ -6,12 +6,12 @@ use Rattle.h5_interface.specs.SinkChoices.{SinkChoices}
 use Rattle.h5_tokenizer.specs.Front.{ReaderPlace}
 use Rattle.h5_tokenizer.specs.Read.{Read, Step, marked, nothing_read, read_on, switch_step, text_step, token_step, unmarked}
 use Rattle.h5_rules.specs.Run.{View, after_all, after_token, replies, reply_to, run}
-use Rattle.h5_plain.specs.Plain.{Nodes, as_written, plain_reply}
-use Rattle.h5_plain.specs.Staying.{tokens_of}
+use Rattle.h5_plain.specs.Plain.{Around, Nodes, as_written, plain_reply}
+use Rattle.h5_plain.specs.Staying.{IsBox, Stays, tokens_of}
 use Rattle.h5_plain.proofs.StayingLaws.{stay_in_box}
 use Rattle.h5_plain.proofs.cuts.JoinLaws.{view_joins}
 use Rattle.h5_round_trip.specs.Answers.{Answers}
-use Rattle.h5_round_trip.specs.Inside.{IsInPlainData, PlainReadsOn, PlainTextsStay, ReadsInside, text_before}
+use Rattle.h5_round_trip.specs.Inside.{IsInPlainData, PlainReadsOn, PlainTextsStay, ReadsInside, StaysRead, text_before}
 use Rattle.h5_round_trip.specs.Readable.{CanBeRead}
 use Rattle.h5_round_trip.proofs.DoubledLaws.{read_written, shape_written}
 use Rattle.h5_round_trip.proofs.JoinedLaws.{inside_joined}
@@ -57,20 +57,24 @@ module _ (choices : SinkChoices) where
   read_runs nothing_read = refl
   read_runs {v = v} (read_on {ts = ts} {us = us} r on s) = step_runs s ∙ ap (after_all choices us) (read_runs r) ∙ sym (view_joins choices ts us v)
 
+  -- nodes that stay in their box, and whose text is read as tokens that are run
+  pub stays_read : {P : Type 0} {IsIn : P → Type 0} {Reads : P → View → List ℕ → List TokenText → P → View → List ℕ → Type 0} (p : P) (v : View) (o : Around) (b : IsBox o v.world) (nodes : Nodes) (rest : List ℕ)
+      → Stays choices (tokens_of nodes) o nodes v b → (r : ReadsInside IsIn Reads p v nodes rest) → r.meaning ≡ after_all choices (tokens_of nodes) v → StaysRead IsIn Reads p v o b nodes rest
+  stays_read {Reads = Reads} p v o b nodes rest s r runs = record {
+    place = r.place;
+    is_in = r.is_in;
+    forest = s.forest;
+    ok = s.ok;
+    saved = s.saved;
+    reads = subst (λ n. Reads p v (text_before nodes rest) (tokens_of nodes) r.place n rest) (runs ∙ s.view) r.reads;
+    added = s.added;
+    looks = s.looks;
+    stands = s.stands;
+    changes = s.changes;
+  }
+
   pub texts_stay : PlainTextsStay choices
   texts_stay foreign p v o b nodes rest h k e f plain readable some =
-      let ts = tokens_of nodes in
-      let s = stay_in_box choices ts v o nodes b plain k e f (inside_joined nodes (shape nodes plain)) in
-      let r = reads_inside answer next foreign (λ w. w) nodes p v rest (shape nodes plain) readable h (answers_so ts v s.answers) in
-      record {
-        place = r.place;
-        is_in = r.is_in;
-        forest = s.forest;
-        ok = s.ok;
-        saved = s.saved;
-        reads = subst (λ n. PlainReadsOn answer next foreign p v (text_before nodes rest) ts r.place n rest) (read_runs r.reads.1.1 ∙ s.view) r.reads;
-        added = s.added;
-        looks = s.looks;
-        stands = s.stands;
-        changes = s.changes;
-      }
+      let s = stay_in_box choices (tokens_of nodes) v o nodes b plain k e f (inside_joined nodes (shape nodes plain)) in
+      let r = reads_inside answer next foreign (λ w. w) nodes p v rest (shape nodes plain) readable h (answers_so (tokens_of nodes) v s.answers) in
+      stays_read p v o b nodes rest s r (read_runs r.reads.1.1)

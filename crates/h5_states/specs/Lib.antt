@@ -28,3 +28,4 @@ pub mod ErrorList
 pub mod WithoutErrors
 pub mod WholeTelling
 pub mod SeenAhead
+pub mod named
