@@ -8,7 +8,7 @@ use Rattle.h5_encodings.specs.declared.sniffing.Source.{Source}
 use Rattle.h5_encodings.specs.Decoding.{Decodes, State, start, text_from}
 use Rattle.h5_encodings.specs.Sniffing.{encoding_of}
 use Rattle.h5_bytes.specs.declared.stage.Stage.TheVariants.{Sniffing, Decoding}
-use Rattle.h5_bytes.specs.Texts.{Takes, encoding_of_bytes, text_of_bytes}
+use Rattle.h5_bytes.specs.Texts.{CountsReplaced, Takes, encoding_of_bytes, text_of_bytes}
 
 -- what follows the first 1,024 bytes doesn't change the encoding
 encoding_decided : (opts : EncodingOpts) (bytes more : List ℕ) → 1024 ≤ length bytes → encoding_of_bytes opts (bytes ++ more) ≡ encoding_of_bytes opts bytes
@@ -16,13 +16,14 @@ encoding_decided opts bytes more enough = ap (encoding_of opts) (take-append-le 
 
 -- bytes that follow those that waited determine the encoding
 pub decided : (opts : EncodingOpts) (first : Vec ℕ Global) (now bytes text : List ℕ) (source : Source) (decoder : State) → now ≡ first.items ++ bytes → 1024 ≤ length now
-    → source ≡ (encoding_of_bytes opts now).1 → Decodes (start (encoding_of_bytes opts now).0) now text decoder → Takes opts (Sniffing first) bytes (Some text) (Decoding decoder source)
-decided opts first now bytes text source decoder same enough by decodes =
+    → source ≡ (encoding_of_bytes opts now).1 → CountsReplaced (start decoder.encoding) now decoder → Decodes (start (encoding_of_bytes opts now).0) now text decoder → Takes opts (Sniffing first) bytes (Some text) (Decoding decoder source)
+decided opts first now bytes text source decoder same enough by counts decodes =
     let found = encoding_of_bytes opts now in
     let joins : (more : List ℕ) → first.items ++ (bytes ++ more) ≡ now ++ more = λ more. sym (append_assoc first.items bytes more) ∙ ap (λ bs. bs ++ more) (sym same) in
     let known : (more : List ℕ) → encoding_of_bytes opts (now ++ more) ≡ found = λ more. encoding_decided opts now more enough in
     record {
       follows = subst (λ bs. 1024 ≤ length bs) same enough;
+      counts = subst (λ bs. CountsReplaced (start decoder.encoding) bs decoder) same counts;
       text = λ more. ap (text_of_bytes opts) (joins more) ∙ ap (λ (e : Encoding × Source). text_from (start e.0) (now ++ more)) (known more) ∙ decodes.decodes more;
       encoding = λ more. ap (encoding_of_bytes opts) (joins more) ∙ known more ∙ ap (λ (e : Encoding). (e, found.1)) (sym decodes.encoding) ∙ ap (λ (s : Source). (decoder.encoding, s)) (sym by);
     }

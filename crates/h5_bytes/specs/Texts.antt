@@ -1,10 +1,12 @@
 -- The text of a page's bytes, in the page's encoding.
-use Rattle.std.specs.Prelude.{◌≡◌, ◌≤◌, ◌<◌, ℕ, Bool, false, List, [], ◌++◌, length, take, Option, Some, None}
+use Rattle.std.specs.Prelude.{◌≡◌, ◌≤◌, ◌<◌, ◌+◌, ℕ, true, false, List, [], ◌++◌, length, take, Option, Some, None}
+use Rattle.std.specs.Io.Iter.{u64_saturate}
 use Rattle.h5_encodings.specs.declared.encoding.Encoding.{Encoding}
 use Rattle.h5_encodings.specs.declared.sniffing.EncodingOpts.{EncodingOpts}
 use Rattle.h5_encodings.specs.declared.sniffing.Source.{Source}
-use Rattle.h5_encodings.specs.Decoding.{start, text_from}
+use Rattle.h5_encodings.specs.Decoding.{State, is_utf8, reading_of, start, text_from}
 use Rattle.h5_encodings.specs.Sniffing.{encoding_of}
+use Rattle.h5_encodings.specs.Steps.{errors_so_far}
 use Rattle.h5_bytes.specs.declared.stage.Stage.{Stage}
 use Rattle.h5_bytes.specs.declared.stage.Stage.TheVariants.{Sniffing, Decoding}
 
@@ -39,10 +41,22 @@ Follows (Sniffing first) bytes (Some text) (Decoding decoder source) = 1024 ≤ 
 Follows (Decoding old by) bytes (Some text) (Decoding new source) = Unit {0}
 Follows _ _ _ _ = ⊥
 
+-- a decoder took bytes, and counted each U+FFFD that replaces some of them; UTF-8 isn't counted
+pub record CountsReplaced (old : State) (bytes : List ℕ) (new : State) : Type 0 where
+  pub counted : is_utf8 old.encoding ≡ false → new.replaced ≡ u64_saturate (old.replaced + errors_so_far (reading_of old.encoding) old.kept bytes)
+  pub utf8 : is_utf8 old.encoding ≡ true → new.replaced ≡ old.replaced
+
+-- the decoder counts from the first byte of the page on
+abbrev pub Counts : Stage → (bytes : List ℕ) → Stage → Type 0
+Counts (Sniffing first) bytes (Decoding decoder source) = CountsReplaced (start decoder.encoding) (first.items ++ bytes) decoder
+Counts (Decoding old by) bytes (Decoding new source) = CountsReplaced old bytes new
+Counts _ bytes _ = Unit {0}
+
 -- bytes were taken, and this is the chunk of text that they decide: for any bytes that follow, the text of all is that chunk,
 -- followed by the text of what is left, and what is left determines the same encoding
 pub record Takes (opts : EncodingOpts) (old : Stage) (bytes : List ℕ) (piece : Option (List ℕ)) (new : Stage) : Type 0 where
   pub follows : Follows old bytes piece new
+  pub counts : Counts old bytes new
   pub text : (more : List ℕ) → text_behind opts old (bytes ++ more) ≡ text_in piece ++ text_behind opts new more
   pub encoding : (more : List ℕ) → encoding_behind opts old (bytes ++ more) ≡ encoding_behind opts new more
 

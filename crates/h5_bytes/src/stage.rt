@@ -2,7 +2,7 @@
 ghost use Rattle.std.specs.Prelude.{◌≡◌, ℕ, List, [], IfOk, Some, option_map, string_bytes};
 ghost use Rattle.h5_encodings.specs.declared.sniffing.EncodingOpts.{EncodingOpts};
 ghost use Rattle.h5_encodings.specs.Decoding.{Decodes, start};
-ghost use Rattle.h5_bytes.specs.Texts.{Takes, decided_in, encoding_of_bytes, replaced_in, text_behind, text_of_bytes, waiting_in};
+ghost use Rattle.h5_bytes.specs.Texts.{CountsReplaced, Takes, decided_in, encoding_of_bytes, replaced_in, text_behind, text_of_bytes, waiting_in};
 
 use h5_encodings::{Decoder, Encoding, EncodingOpts, Source, sniff};
 use std::alloc::{AllocError, Global};
@@ -35,6 +35,7 @@ pub(super) fn read_first(
 ) -> Result<Sniffed, AllocError>
     ensures text { IfOk result (λ sniffed. Decodes (start (encoding_of_bytes opts bytes.now).0) bytes.now (string_bytes sniffed.text) sniffed.decoder) }
     ensures source { IfOk result (λ sniffed. sniffed.source ≡ (encoding_of_bytes opts bytes.now).1) }
+    ensures counts { IfOk result (λ sniffed. CountsReplaced (start sniffed.decoder.encoding) bytes.now sniffed.decoder) }
 {
     let (encoding, source) = sniff(alloc, opts, bytes)?;
     let mut decoder = Decoder::new(alloc, encoding);

@@ -159,7 +159,7 @@ module _ (around : (f : Forest) → IsForest f → (n : ℕ) (d : Node) → f.no
     in_div = record { of_html = refl; is_ordinary = λ s. refl; is_data = λ b. refl; no_template = refl; no_modes = refl }
 
     pub comes_back : (r : Rules) (html out : List ℕ) (a : ArenaView) (h : IsCleaned r html out) → Builds out a → FragmentStands (forest_seen a) (cleaned r h.source)
-    comes_back r html out a h builds = back (seen_of new_arena) (seen_of a) div [] true (cleaned r h.source) out holds in_div h.text builds
+    comes_back r html out a h builds = back (seen_of new_arena) (seen_of a) div [] true true (cleaned r h.source) out holds in_div h.text builds
 
     pub stays : (r : Rules) (html out again : List ℕ) → IsCleaned r html out → IsCleaned r out again → again ≡ out
     stays r html out again h k =

@@ -1,5 +1,5 @@
 //! Cleans a text.
-ghost use Rattle.std.specs.Prelude.{◌≡◌, ℕ, List, [], None, true, IfOk, string_bytes};
+ghost use Rattle.std.specs.Prelude.{◌≡◌, ℕ, List, [], None, false, true, IfOk, string_bytes};
 ghost use Rattle.std.specs.Io.KnownBytes.{Appends};
 ghost use Rattle.h5_serialize.specs.declared.options.TraversalScope.TheVariants.{ChildrenOnly};
 ghost use Rattle.h5_arena.specs.NodeCalls.{walk_of};
@@ -22,11 +22,19 @@ use h5_driver::standard::{Parser, parse_fragment};
 use h5_names::{LocalName, Namespace, QualName};
 use h5_serialize::laws::texts_are_written_in_turn;
 use h5_serialize::{Serialize, SerializeFault, TraversalScope};
+use h5_token::BuildFault;
 use std::alloc::{AllocError, Global};
 use std::io::Write;
 
-// The only error of a parser that hasn't failed, and of a serializer over memory, is a failed allocation.
-fn refused<F: Drop>(_fault: F) -> AllocError {
+// The only error of a parser that hasn't failed is a failed allocation.
+fn refused(_fault: BuildFault) -> AllocError
+    requires { _fault ≡ BuildFault.Memory }
+{
+    AllocError
+}
+
+// Writing to a vector fails only if an allocation fails.
+fn unwritten(_fault: SerializeFault) -> AllocError {
     AllocError
 }
 
@@ -35,12 +43,15 @@ fn parser_in_div(alloc: Global) -> Result<Parser<Arena>, AllocError>
     ensures builder { IfOk result (λ parser. building seen_of place parser.tokenizer.sink ≡ first_in_new arena_choices (seen_of new_arena) div [] default_options.tree_builder) }
     ensures reader { IfOk result (λ parser. parser.tokenizer.reader ≡ first (opts_in_context true (building seen_of place parser.tokenizer.sink).view.world default_options.tokenizer)) }
     ensures waiting { IfOk result (λ parser. parser.waiting ≡ []) }
+    ensures failed { IfOk result (λ parser. parser.failed ≡ false) }
 {
     let name = QualName::new(None, Namespace::html(), LocalName::new(alloc, "div")?);
     let arena = Arena::without_errors(alloc)?;
     let opts = ParseOpts::default();
-    let parser = parse_fragment(alloc, arena, opts, name, Vec::new(alloc), true).map_err(refused)?;
-    Ok(parser)
+    match parse_fragment(alloc, arena, opts, name, Vec::new(alloc), true) {
+        Ok(parser) => Ok(parser),
+        Err(fault) => Err(refused(fault)),
+    }
 }
 
 // The tree of a text.
@@ -48,8 +59,10 @@ fn tree_of(alloc: Global, html: &str) -> Result<Arena, AllocError>
     ensures { IfOk result (λ arena. Builds html.now arena) }
 {
     let parser = parser_in_div(alloc)?;
-    let arena = parser.one(html).map_err(refused)?;
-    Ok(arena)
+    match parser.one(html) {
+        Ok(arena) => Ok(arena),
+        Err(fault) => Err(refused(fault)),
+    }
 }
 
 /// Writes what a policy leaves of the tree below a node, and returns the writer. The result may be used where that of
@@ -113,7 +126,7 @@ fn clean_bytes<P: Policy>(alloc: Global, html: &str, policy: &P) -> Result<Vec<u
 fn clean_text<P: Policy>(alloc: Global, html: &str, policy: &P) -> Result<String, AllocError>
     ensures { IfOk result (λ out. IsCleaned (P.rules policy.now) html.now (string_bytes out)) }
 {
-    let left = clean_bytes(alloc, html, policy).map_err(refused)?;
+    let left = clean_bytes(alloc, html, policy).map_err(unwritten)?;
     let out = text_of_bytes(left)?;
     Ok(out)
 }

@@ -13,7 +13,7 @@ ghost use Rattle.h5_plain.specs.Rebuilding.{HoldsDocument};
 ghost use Rattle.h5_plain.specs.Staying.{IsBox};
 ghost use Rattle.h5_round_trip.specs.Inside.{IsInData, ReadsOn, StaysRead, text_before};
 ghost use Rattle.h5_driver.specs.Boxes.{KeepsBox};
-ghost use Rattle.h5_driver.specs.Options.{default_options};
+ghost use Rattle.h5_driver.specs.Options.{options_with};
 ghost use Rattle.h5_driver.specs.Parsing.{IsParsing, Parsing, ProcessedAll, joined, text_of as text_read, view_of};
 ghost use Rattle.h5_driver.specs.PlainFragments.{FragmentStands, IsBodyContext};
 ghost use Rattle.h5_driver.specs.StandardTexts.{ParsesFragment};
@@ -122,13 +122,13 @@ pub fn what_is_left_of_a_text_is_one_text()
 {}
 
 /// If `out` is what the rules leave of `html`, then any parser of fragments over the standard tokenizer, with default
-/// options, over a sink with only its document, in the context of an HTML element by which the mode is "in body",
-/// builds from `out` exactly what the rules allow of the tree of `html`. How `out` is split doesn't matter
-/// (`h5_driver::laws::pieces_then_finish`).
+/// options, with or without scripting, over a sink with only its document, in the context of an HTML element by which
+/// the mode is "in body", builds from `out` exactly what the rules allow of the tree of `html`. How `out` is split
+/// doesn't matter (`h5_driver::laws::pieces_then_finish`).
 pub fn what_is_left_comes_back()
     ensures { (rules : Rules) (html out : List ℕ) (cleaned_is : IsCleaned rules html out)
-        (choices : SinkChoices) (seen told : Seen) (name : QualName) (attrs : List AttributeText) (allows_scripting : Bool) →
-        HoldsDocument seen.forest → IsBodyContext name → ParsesFragment choices seen default_options name attrs allows_scripting out told
+        (choices : SinkChoices) (seen told : Seen) (name : QualName) (attrs : List AttributeText) (scripting allows_scripting : Bool) →
+        HoldsDocument seen.forest → IsBodyContext name → ParsesFragment choices seen (options_with scripting) name attrs allows_scripting out told
         → FragmentStands told.forest (cleaned rules cleaned_is.source) }
 {
     fragments_come_back();
@@ -137,9 +137,9 @@ pub fn what_is_left_comes_back()
 /// As above, over any `Reader`, including the plain tokenizer.
 pub fn what_is_left_comes_back_over<R: Reader>()
     ensures { (rules : Rules) (html out : List ℕ) (cleaned_is : IsCleaned rules html out)
-        (seen told : Seen) (name : QualName) (attrs : List AttributeText) (allows_scripting : Bool) →
+        (seen told : Seen) (name : QualName) (attrs : List AttributeText) (scripting allows_scripting : Bool) →
         HoldsDocument seen.forest → IsBodyContext name
-        → ParsesFragmentBy R.Reads R.first R.Sink.choices seen default_options name attrs allows_scripting out told
+        → ParsesFragmentBy R.Reads R.first R.Sink.choices seen (options_with scripting) name attrs allows_scripting out told
         → FragmentStands told.forest (cleaned rules cleaned_is.source) }
 {
     fragments_come_back_over::<R>();

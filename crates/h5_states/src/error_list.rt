@@ -1,6 +1,6 @@
 //! A list of parse errors.
 
-ghost use Rattle.std.specs.Prelude.{◌≡◌, true, false, [], ◌∷◌, ◌++◌};
+ghost use Rattle.std.specs.Prelude.{◌≡◌, ◌<◌, length, true, false, [], ◌∷◌, ◌++◌};
 
 use super::error_sink::ErrorSink;
 use super::errors::ParseError;
@@ -38,8 +38,8 @@ impl Errors {
         }
     }
 
-    /// Returns the first errors that were reported, in order. There are as many as the limit, or fewer if fewer were reported
-    /// or an allocation failed.
+    /// Returns the first errors that were reported, in order, at most as many as the limit. There are fewer if fewer were
+    /// reported or an allocation failed.
     pub fn kept(&self) -> &[LocatedError]
         ensures { result.now ≡ self.now.kept.items }
     {
@@ -58,7 +58,9 @@ impl Errors {
         ensures all { result ≡ true → self.old.more ≡ 0 }
         ensures kept { result ≡ true → self.new.kept.items ≡ self.old.kept.items ++ told ∷ [] }
         ensures not_kept { result ≡ false → self.new.kept.items ≡ self.old.kept.items }
+        ensures room { result ≡ true → length self.old.kept.items < self.old.limit }
         ensures more { self.new.more ≡ self.old.more }
+        ensures limit { self.new.limit ≡ self.old.limit }
     {
         self.more == 0 && self.kept.len() < self.limit && self.kept.push(told).is_ok()
     }
@@ -67,7 +69,7 @@ impl Errors {
 impl ErrorSink for Errors {
     ghost use Rattle.h5_states.specs.ErrorList.{IsListOf};
 
-    ghost Told = { λ errors told. IsListOf errors.kept.items errors.more told };
+    ghost Told = { λ errors told. IsListOf errors.kept.items errors.limit errors.more told };
 
     fn error(&mut self, error: ParseError, at: Position) {
         if !self.keep(LocatedError { error, at }) {

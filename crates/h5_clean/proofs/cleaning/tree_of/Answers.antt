@@ -8,10 +8,10 @@ use Rattle.h5_driver.proofs.OneTree.{fragment_parsed}
 use Rattle.h5_clean.specs.Cleaned.{div}
 use Rattle.h5_clean.proofs.cleaning.tree_of.Goals as goal
 
-pub returns : goal.returns
-returns c =
+pub returns-in-Ok : goal.returns-in-Ok
+returns-in-Ok c =
     let parser = c.in_ok-parser.parser in
-    let told = seen_of c.in_ok-arena.arena in
+    let told = seen_of c.in-Ok.arena in
     let text = c.args.html.now in
     let building = building seen_of place parser.tokenizer.sink in
     let parsed : Parses (Reads arena_choices) arena_choices parser.tokenizer.reader building.view (parser.waiting ++ text) told = search rules in

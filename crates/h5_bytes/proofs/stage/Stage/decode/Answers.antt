@@ -13,4 +13,4 @@ returns-in_ok-decoder-in-Sniffing c =
     let same : now ≡ first.items ++ c.args.bytes.now = search rules in
     let enough : 1024 ≤ length now = search rules in
     subst (λ (s : Stage). Takes c.args.opts s c.args.bytes.now (Some (string_bytes found.text)) (Decoding found.decoder found.source)) (sym c.in-Sniffing.is)
-    (decided c.args.opts first now c.args.bytes.now (string_bytes found.text) found.source found.decoder same enough c.in_ok-decoder-in-Sniffing.ensures.source c.in_ok-decoder-in-Sniffing.ensures.text)
+    (decided c.args.opts first now c.args.bytes.now (string_bytes found.text) found.source found.decoder same enough c.in_ok-decoder-in-Sniffing.ensures.source c.in_ok-decoder-in-Sniffing.ensures.counts c.in_ok-decoder-in-Sniffing.ensures.text)
