@@ -18,7 +18,6 @@ use Rattle.h5_interface.proofs.ForestLaws.{document_is_node}
 use Rattle.h5_interface.proofs.MakingLaws.{made_kind, make_element_rearranges}
 use Rattle.h5_reading.specs.Options as reading
 use Rattle.h5_reading.specs.declared.options.TokenizerOpts.{TokenizerOpts}
-use Rattle.h5_tables.specs.Options as types
 use Rattle.h5_tables.specs.declared.modes.InsertionMode.TheVariants.{InBody}
 use Rattle.h5_rules.specs.Changes.{create_root, pop}
 use Rattle.h5_rules.specs.Run.{IsFitting, View, after_all, refusal, step, taken, tell_or_refuse, without_lf}
@@ -31,7 +30,7 @@ use Rattle.h5_rules.specs.fitting.SituationChanges.{start_of}
 use Rattle.h5_plain.proofs.cuts.RunLaws.{step_reply, takes_text}
 use Rattle.h5_standard.specs.Mark.{behind_mark}
 use Rattle.h5_plain.specs.Plain.{Nodes, fragment_tokens}
-use Rattle.h5_plain.specs.Rebuilding.{HoldsDocument, IsFragmentStart, Looks, Stands}
+use Rattle.h5_plain.specs.Rebuilding.{HoldsDocument, IsFragmentStart, Looks, Stands, with_scripting}
 use Rattle.h5_plain.proofs.FragmentLaws.{rebuilds_fragments}
 use Rattle.h5_plain.proofs.GrowthLaws.{Below, element_below, html, kinds_apart}
 use Rattle.h5_plain.proofs.LooksLaws.{apart_from, looks_marked, looks_node, unlike}
@@ -83,7 +82,7 @@ looks_same f g n k a cs e l = record {
   no_contents = ap (option_and_then (λ (d : Node). d.contents)) e ∙ l.no_contents;
 }
 
-module _ (choices : SinkChoices) (seen : Seen) (name : QualName) (attrs : List AttributeText) (holds : HoldsDocument seen.forest) (b : IsBodyContext name) where
+module _ (choices : SinkChoices) (scripting : Bool) (seen : Seen) (name : QualName) (attrs : List AttributeText) (holds : HoldsDocument seen.forest) (b : IsBodyContext name) where
   abbrev flags : ElementFlags
   flags = flags_of name attrs false
 
@@ -122,15 +121,15 @@ module _ (choices : SinkChoices) (seen : Seen) (name : QualName) (attrs : List A
 
   -- the root was created
   abbrev begun : World
-  begun = fragment_world choices made context None types.default_options
+  begun = fragment_world choices made context None (with_scripting scripting)
 
   below : Below choices made.forest made.forest.document html []
   below = element_below choices made.forest made.forest.document html [] rearranged.is_forest (looks_node made.forest made.forest.document DocumentNode [] [] document_made) refl
 
-  mode_is : reset_mode (rooted_world choices made context None types.default_options) ≡ InBody
+  mode_is : reset_mode (rooted_world choices made context None (with_scripting scripting)) ≡ InBody
   unfolding reset_mode
   mode_is =
-      (λ i. reset (rooted_situation made context None types.default_options rearranged.is_forest is_element no_form choices i) (roles (rooted_names made context None types.default_options rearranged.is_forest is_element no_form choices i)))
+      (λ i. reset (rooted_situation made context None (with_scripting scripting) rearranged.is_forest is_element no_form choices i) (roles (rooted_names made context None (with_scripting scripting) rearranged.is_forest is_element no_form choices i)))
       ∙ ap (λ n. reset (start_of (role_of n)) (roles (html ∷ []))) context_name
       ∙ b.is_ordinary (start_of (role_of name))
 
@@ -164,10 +163,10 @@ module _ (choices : SinkChoices) (seen : Seen) (name : QualName) (attrs : List A
   document_begun = below.parent DocumentNode [] [] document_made
 
   sound : Sound begun
-  sound = (rooted_steady made context None types.default_options rearranged.is_forest is_element no_form choices).sound
+  sound = (rooted_steady made context None (with_scripting scripting) rearranged.is_forest is_element no_form choices).sound
 
   fitting : Fitting begun
-  fitting = record { sound = sound; fits = fragment_fits made context None types.default_options rearranged.is_forest is_element no_form choices }
+  fitting = record { sound = sound; fits = fragment_fits made context None (with_scripting scripting) rearranged.is_forest is_element no_form choices }
 
   -- its text is read in the data state
   reads_data : {T : Type 0} (first : TokenizerOpts → T) (allows_scripting : Bool) → first (opts_in_context allows_scripting begun reading.default_options) ≡ first (reading.beginning_in Data reading.default_options)
@@ -199,22 +198,22 @@ root_popped choices root nodes [] w s = s
 root_popped choices root nodes (n ∷ ns) w s = root_popped choices root nodes ns (pop choices w) (root_marked w.forest (choices.marks_after_pop w.forest (current w)) root nodes s)
 
 module _ {T : Type 0} {choices : SinkChoices} {first : TokenizerOpts → T} {Readings : T → View → List ℕ → List TokenText → T → View → List ℕ → Type 0} {Reads : T → View → List ℕ → List TokenText → View → Type 0}
-    (law : AreReadings choices first Readings Reads) (seen told : Seen) (name : QualName) (attrs : List AttributeText) (allows_scripting : Bool) (nodes : Nodes) (text : List ℕ)
+    (law : AreReadings choices first Readings Reads) (scripting : Bool) (seen told : Seen) (name : QualName) (attrs : List AttributeText) (allows_scripting : Bool) (nodes : Nodes) (text : List ℕ)
     (holds : HoldsDocument seen.forest) (b : IsBodyContext name) (t : IsFragmentText nodes text) where
   abbrev start : View
-  start = record { world = begun choices seen name attrs holds b; ended = false; failed = false }
+  start = record { world = begun choices scripting seen name attrs holds b; ended = false; failed = false }
 
-  root_apart : (begun choices seen name attrs holds b).forest.document ≢ choices.fresh (made choices seen name attrs holds b).forest
+  root_apart : (begun choices scripting seen name attrs holds b).forest.document ≢ choices.fresh (made choices scripting seen name attrs holds b).forest
   unfolding begins
-  root_apart = kinds_apart (begun choices seen name attrs holds b).forest _ _ DocumentNode (ElementNode html) [] [] (ChildNode (choices.fresh (made choices seen name attrs holds b).forest) ∷ []) []
-      (document_begun choices seen name attrs holds b) (begins choices seen name attrs holds b).is_root (λ e. cc)
+  root_apart = kinds_apart (begun choices scripting seen name attrs holds b).forest _ _ DocumentNode (ElementNode html) [] [] (ChildNode (choices.fresh (made choices scripting seen name attrs holds b).forest) ∷ []) []
+      (document_begun choices scripting seen name attrs holds b) (begins choices scripting seen name attrs holds b).is_root (λ e. cc)
 
   comes_back : Parses Reads choices (first (reading.beginning_in Data reading.default_options)) start text told → FragmentStands told.forest nodes
   unfolding begins
   comes_back parses =
       let all = fragment_tokens nodes in
-      let s = begins choices seen name attrs holds b in
-      let k = fitting choices seen name attrs holds b in
+      let s = begins choices scripting seen name attrs holds b in
+      let k = fitting choices scripting seen name attrs holds b in
       let joins = fragment_joined nodes (shape nodes t.plain) in
       let whole = rebuilds_fragments choices all start nodes s t.plain k refl refl joins in
       let unmarked : behind_mark true (written_fragment nodes) ≡ written_fragment nodes = subst (λ xs. behind_mark true xs ≡ xs) t.written t.unmarked in
@@ -228,7 +227,7 @@ module _ {T : Type 0} {choices : SinkChoices} {first : TokenizerOpts → T} {Rea
       let same = parses.any tokens meaning reads in
       let document : Looks w.forest w.forest.document DocumentNode [] (ChildNode s.root ∷ []) =
       subst (λ (d : ℕ). Looks w.forest d DocumentNode [] (ChildNode s.root ∷ [])) (sym again.changes.document)
-      (again.changes.others (begun choices seen name attrs holds b).forest.document DocumentNode [] (ChildNode s.root ∷ []) root_apart (document_begun choices seen name attrs holds b)) in
+      (again.changes.others (begun choices scripting seen name attrs holds b).forest.document DocumentNode [] (ChildNode s.root ∷ []) root_apart (document_begun choices scripting seen name attrs holds b)) in
       let end = root_popped choices s.root nodes w.stack w (record { document = document; is_root = again.is_root; stands = again.stands }) in
       let final : told.forest ≡ (pop_each choices w.stack w).forest = same.1.0 ∙ ap (λ (u : View). u.world.forest) same.0 in
       let first_fits : IsFitting start = record { fitting = λ f e. k } in
@@ -243,6 +242,6 @@ module _ {T : Type 0} {choices : SinkChoices} {first : TokenizerOpts → T} {Rea
 pub fragments_stand : {T : Type 0} {choices : SinkChoices} {first : TokenizerOpts → T} {Readings : T → View → List ℕ → List TokenText → T → View → List ℕ → Type 0} {Reads : T → View → List ℕ → List TokenText → View → Type 0}
     → AreReadings choices first Readings Reads → FragmentsComeBackBy Reads first choices
 unfolding ParsesFragmentBy first_in_new
-fragments_stand {T} {choices} {first} {Readings} {Reads} law seen told name attrs allows_scripting nodes text holds b t parses =
-    comes_back law seen told name attrs allows_scripting nodes text holds b t
-    (subst (λ (r : T). Parses Reads choices r (record { world = begun choices seen name attrs holds b; ended = false; failed = false }) text told) (reads_data choices seen name attrs holds b first allows_scripting) parses)
+fragments_stand {T} {choices} {first} {Readings} {Reads} law seen told name attrs scripting allows_scripting nodes text holds b t parses =
+    comes_back law scripting seen told name attrs allows_scripting nodes text holds b t
+    (subst (λ (r : T). Parses Reads choices r (record { world = begun choices scripting seen name attrs holds b; ended = false; failed = false }) text told) (reads_data choices scripting seen name attrs holds b first allows_scripting) parses)

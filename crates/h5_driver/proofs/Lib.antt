@@ -1,8 +1,10 @@
 pub mod BeginningLaws
 pub mod BoxLaws
 pub mod ByteLaws
+pub mod ErrorLaws
 pub mod FaultLaws
 pub mod FragmentLaws
+pub mod KeptTellings
 pub mod OneTree
 pub mod PlainLaws
 pub mod ReadingLaws

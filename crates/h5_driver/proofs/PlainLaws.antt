@@ -1,5 +1,5 @@
 -- The text of a plain document, taken by a parser.
-use Rattle.std.proofs.Common.{◌≡◌, ℕ, List, [], ◌∷◌, ◌++◌, map, refl, sym, ap, ◌∙◌, subst, Option, Some, None as Nothing, codes, false, Result, Ok, Err, IfOk}
+use Rattle.std.proofs.Common.{◌≡◌, ℕ, List, [], ◌∷◌, ◌++◌, map, refl, sym, ap, ◌∙◌, subst, Option, Some, None as Nothing, codes, Bool, false, Result, Ok, Err, IfOk}
 use Rattle.h5_token.specs.TokenText.{TokenText}
 use Rattle.h5_token.specs.declared.fault.BuildFault.{BuildFault}
 use Rattle.h5_interface.specs.Changes.{mark}
@@ -13,9 +13,8 @@ use Rattle.h5_rules.specs.Run.{IsFitting, View, after_all, after_token, refusal,
 use Rattle.h5_rules.specs.Sound.{Sound}
 use Rattle.h5_rules.specs.formatting.FormattingNames.{html_name}
 use Rattle.h5_rules.specs.World.{World}
-use Rattle.h5_tables.specs.Options as types
 use Rattle.h5_plain.specs.Plain.{ElementThen, End, Nodes, PlainDocument, TextThen, document_tokens, plain_reply, root_of}
-use Rattle.h5_plain.specs.Rebuilding.{DocumentStands, HoldsDocument, IsStart, Looks, Stands}
+use Rattle.h5_plain.specs.Rebuilding.{DocumentStands, HoldsDocument, IsStart, Looks, Stands, with_scripting}
 use Rattle.h5_tree_builder.specs.Builder.{first_building, pop_each}
 use Rattle.h5_driver.specs.Reading.{AreReadings, Parses}
 use Rattle.h5_driver.specs.Working.{after, ended, replies}
@@ -93,40 +92,40 @@ pub sound_popped : (choices : SinkChoices) (ns : List ℕ) (w : World) → Sound
 sound_popped choices [] w k = k
 sound_popped choices (n ∷ ns) w k = sound_popped choices ns (pop choices w) (pop_sound choices w k)
 
-forest_told : (choices : SinkChoices) (seen : Seen) (ts : List TokenText) → HoldsDocument seen.forest → IsForest (ended choices (after_all choices ts (first_building seen types.default_options).view)).world.forest
-forest_told choices seen ts holds =
-    let v = (first_building seen types.default_options).view in
+forest_told : (choices : SinkChoices) (scripting : Bool) (seen : Seen) (ts : List TokenText) → HoldsDocument seen.forest → IsForest (ended choices (after_all choices ts (first_building seen (with_scripting scripting)).view)).world.forest
+forest_told choices scripting seen ts holds =
+    let v = (first_building seen (with_scripting scripting)).view in
     let w = (after_all choices ts v).world in
-    let first : IsFitting v = record { fitting = λ f e. record { sound = all_none seen.forest holds.is_forest; fits = fits_first seen types.default_options } } in
+    let first : IsFitting v = record { fitting = λ f e. record { sound = all_none seen.forest holds.is_forest; fits = fits_first seen (with_scripting scripting) } } in
     (sound_popped choices w.stack w (sound_after choices ts v first refl refl)).stands.is_forest
 
 -- a new builder rebuilds a plain document
-record Rebuilt (choices : SinkChoices) (seen : Seen) (d : PlainDocument) : Type 0 where
-  answers : Answers (replies choices) (after choices) (first_building seen types.default_options).view (document_tokens d)
-  stands : DocumentStands (after_all choices (document_tokens d) (first_building seen types.default_options).view).world.forest d
-  quirks : (after_all choices (document_tokens d) (first_building seen types.default_options).view).world.seen_quirks ≡ NoQuirks
+record Rebuilt (choices : SinkChoices) (scripting : Bool) (seen : Seen) (d : PlainDocument) : Type 0 where
+  answers : Answers (replies choices) (after choices) (first_building seen (with_scripting scripting)).view (document_tokens d)
+  stands : DocumentStands (after_all choices (document_tokens d) (first_building seen (with_scripting scripting)).view).world.forest d
+  quirks : (after_all choices (document_tokens d) (first_building seen (with_scripting scripting)).view).world.seen_quirks ≡ NoQuirks
 
-rebuilt : (choices : SinkChoices) (seen : Seen) (d : PlainDocument) → HoldsDocument seen.forest → Rebuilt choices seen d
-rebuilt choices seen d holds =
-    let v = (first_building seen types.default_options).view in
+rebuilt : (choices : SinkChoices) (scripting : Bool) (seen : Seen) (d : PlainDocument) → HoldsDocument seen.forest → Rebuilt choices scripting seen d
+rebuilt choices scripting seen d holds =
+    let v = (first_building seen (with_scripting scripting)).view in
     let ts = document_tokens d in
     let start : IsStart v.world = record { holds = holds; options = refl; mode = refl; none_open = refl; none_listed = refl; ignore_lf = refl; no_foster = refl; no_pending = refl; no_template_modes = refl; no_head = refl; no_form = refl; no_context = refl } in
     let built = rebuilds_all choices ts v d start refl refl (document_joined d) in
     record { answers = answers_by choices ts v built.answers; stands = built.stands; quirks = built.quirks }
 
 -- its replies are those to a plain document's tokens
-pub document_answers : (choices : SinkChoices) (seen : Seen) (d : PlainDocument) → HoldsDocument seen.forest → Answers (replies choices) (after choices) (first_building seen types.default_options).view (document_tokens d)
-document_answers choices seen d holds = (rebuilt choices seen d holds).answers
+pub document_answers : (choices : SinkChoices) (scripting : Bool) (seen : Seen) (d : PlainDocument) → HoldsDocument seen.forest → Answers (replies choices) (after choices) (first_building seen (with_scripting scripting)).view (document_tokens d)
+document_answers choices scripting seen d holds = (rebuilt choices scripting seen d holds).answers
 
 -- and the document is what its sink shows after them and the end
-pub document_stands : (choices : SinkChoices) (seen told : Seen) (d : PlainDocument) (n : View) → HoldsDocument seen.forest → n ≡ ended choices (after_all choices (document_tokens d) (first_building seen types.default_options).view)
+pub document_stands : (choices : SinkChoices) (scripting : Bool) (seen told : Seen) (d : PlainDocument) (n : View) → HoldsDocument seen.forest → n ≡ ended choices (after_all choices (document_tokens d) (first_building seen (with_scripting scripting)).view)
     → told.forest ≡ n.world.forest → told.quirks ≡ n.world.seen_quirks → ComesBack told d
-document_stands choices seen told d n holds same forest quirks =
-    let w = (after_all choices (document_tokens d) (first_building seen types.default_options).view).world in
-    let built = rebuilt choices seen d holds in
+document_stands choices scripting seen told d n holds same forest quirks =
+    let w = (after_all choices (document_tokens d) (first_building seen (with_scripting scripting)).view).world in
+    let built = rebuilt choices scripting seen d holds in
     let end = popped choices d w.stack w built.stands built.quirks in
     record {
-      is_forest = subst IsForest (sym (forest ∙ ap (λ (u : View). u.world.forest) same)) (forest_told choices seen (document_tokens d) holds);
+      is_forest = subst IsForest (sym (forest ∙ ap (λ (u : View). u.world.forest) same)) (forest_told choices scripting seen (document_tokens d) holds);
       stands = subst (λ (f : Forest). DocumentStands f d) (sym (forest ∙ ap (λ (u : View). u.world.forest) same)) end.0;
       quirks = quirks ∙ ap (λ (u : View). u.world.seen_quirks) same ∙ end.1;
     }
@@ -134,20 +133,20 @@ document_stands choices seen told d n holds same forest quirks =
 module _ {T : Type 0} {choices : SinkChoices} {first : TokenizerOpts → T} {Readings : T → View → List ℕ → List TokenText → T → View → List ℕ → Type 0} {Reads : T → View → List ℕ → List TokenText → View → Type 0}
     (law : AreReadings choices first Readings Reads) where
   -- what a parser makes from a document's text
-  document_parsed : (seen told : Seen) (d : PlainDocument) → HoldsDocument seen.forest → IsReadableDocument d
-      → Parses Reads choices (first reading.default_options) (first_building seen types.default_options).view (written_of d) told → ComesBack told d
-  document_parsed seen told d holds readable parses =
-      let read = law.documents d (first_building seen types.default_options).view readable (document_answers choices seen d holds) in
+  document_parsed : (scripting : Bool) (seen told : Seen) (d : PlainDocument) → HoldsDocument seen.forest → IsReadableDocument d
+      → Parses Reads choices (first reading.default_options) (first_building seen (with_scripting scripting)).view (written_of d) told → ComesBack told d
+  document_parsed scripting seen told d holds readable parses =
+      let read = law.documents d (first_building seen (with_scripting scripting)).view readable (document_answers choices scripting seen d holds) in
       let same = parses.any (document_tokens d) read.0 read.1 in
-      document_stands choices seen told d read.0 holds same.0 same.1.0 same.1.1
+      document_stands choices scripting seen told d read.0 holds same.0 same.1.0 same.1.1
 
   -- so does a new parser, however the text is split
   pub brings_back : (r : T) (v : View) (waiting text : List ℕ) (told : Seen) → Parses Reads choices r v (waiting ++ text) told → BringsBack first r v waiting text told
   brings_back r v waiting text told parses = λ d seen new holds readable same.
       let P : T → View → List ℕ → List ℕ → Type 0 = λ s w u t. Parses Reads choices s w (u ++ t) told in
       let fresh = first reading.default_options in
-      let view = (first_building seen types.default_options).view in
-      document_parsed seen told d holds readable
+      let view = (first_building seen (with_scripting new.scripting)).view in
+      document_parsed new.scripting seen told d holds readable
       (subst (P fresh view []) same
       (subst (λ u. P fresh view u text) new.none_waits
       (subst (λ w. P fresh w waiting text) new.builder

@@ -93,10 +93,10 @@ module _ (table : List Reference) {M : Type 0} (reply_to : M → TokenText → R
   -- read.
   module _ (ended : M → M) (lines : (m : M) (t : TokenText) (k l : ℕ) → after m t k ≡ after m t l)
       (cut : (m : M) (x y : ℕ) (xs ys : List ℕ) (j k l : ℕ) → Holds m → after m (Characters ((x ∷ xs) ++ y ∷ ys)) j ≡ after (after m (Characters (x ∷ xs)) k) (Characters (y ∷ ys)) l) where
-    abbrev same_meaning : Kept M Holds → Kept M Holds → Type 0
+    abbrev pub same_meaning : Kept M Holds → Kept M Holds → Type 0
     same_meaning j k = j.meaning ≡ k.meaning
 
-    blind : IsBlindToCuts kept_reply kept_after kept_foreign (λ k. k) same_meaning
+    pub blind : IsBlindToCuts kept_reply kept_after kept_foreign (λ k. k) same_meaning
     blind = record {
       reflexive = λ m. refl;
       symmetric = λ m n e. sym e;

@@ -1,5 +1,6 @@
 pub mod Boxes
 pub mod Bytes
+pub mod ErrorReports
 pub mod Fragments
 pub mod KeptReadings
 pub mod Options

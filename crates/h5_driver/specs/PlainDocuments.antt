@@ -1,23 +1,23 @@
 -- What a parser makes from the text of a plain document.
-use Rattle.std.specs.Prelude.{◌≡◌, ℕ, List, []}
+use Rattle.std.specs.Prelude.{◌≡◌, ℕ, Bool, List, []}
 use Rattle.h5_interface.specs.Forest.{IsForest}
 use Rattle.h5_interface.specs.Seen.{Seen}
 use Rattle.h5_interface.specs.declared.marks.QuirksMode.TheVariants.{NoQuirks}
-use Rattle.h5_tables.specs.Options.{default_options as of_builder}
 use Rattle.h5_rules.specs.Run.{View}
 use Rattle.h5_reading.specs.Options.{default_options as of_reader}
 use Rattle.h5_reading.specs.declared.options.TokenizerOpts.{TokenizerOpts}
 use Rattle.h5_plain.specs.Plain.{PlainDocument}
-use Rattle.h5_plain.specs.Rebuilding.{DocumentStands, HoldsDocument}
+use Rattle.h5_plain.specs.Rebuilding.{DocumentStands, HoldsDocument, with_scripting}
 use Rattle.h5_tree_builder.specs.Builder.{first_building}
 use Rattle.h5_round_trip.specs.Readable.{IsReadableDocument}
 use Rattle.h5_round_trip.specs.Written.{written_of}
 
--- the tokenizer and the builder of a new parser of documents with default options, over a sink that shows this, and the waiting
--- text
+-- the tokenizer and the builder of a new parser of documents with default options, with or without scripting, over a sink that
+-- shows this, and the waiting text
 pub record IsNew {T : Type 0} (first : TokenizerOpts → T) (r : T) (v : View) (waiting : List ℕ) (seen : Seen) : Type 0 where
   pub reader : r ≡ first of_reader
-  pub builder : v ≡ (first_building seen of_builder).view
+  pub scripting : Bool
+  pub builder : v ≡ (first_building seen (with_scripting scripting)).view
   pub none_waits : waiting ≡ []
 
 -- the document is what a sink shows, which is a forest, in no-quirks mode

@@ -22,7 +22,7 @@ use Rattle.h5_plain.specs.Plain.{Flow, IsPlain, Nodes, nothing_open}
 use Rattle.h5_plain.specs.Rebuilding.{HoldsDocument, Looks, Stands}
 use Rattle.h5_round_trip.specs.Readable.{CanBeRead}
 use Rattle.h5_round_trip.specs.Written.{written_fragment}
-use Rattle.h5_driver.specs.Options.{default_options}
+use Rattle.h5_driver.specs.Options.{options_with}
 use Rattle.h5_driver.specs.StandardReader.{Reads, first}
 use Rattle.h5_driver.specs.WholeTexts.{ParsesFragmentBy}
 
@@ -50,13 +50,13 @@ pub record IsFragmentText (nodes : Nodes) (text : List ℕ) : Type 0 where
   pub written : text ≡ written_fragment nodes
   pub unmarked : behind_mark true text ≡ text
 
--- this holds if a parser of fragments with default options, over a sink that holds only its document, takes such a text, in
--- such a context
+-- this holds if a parser of fragments with default options, with or without scripting, over a sink that holds only its document,
+-- takes such a text, in such a context
 abbrev pub FragmentsComeBackBy : {T : Type 0} → (T → View → List ℕ → List TokenText → View → Type 0) → (TokenizerOpts → T) → SinkChoices → Type 0
 FragmentsComeBackBy Reads first choices =
-    (seen told : Seen) (name : QualName) (attrs : List AttributeText) (allows_scripting : Bool) (nodes : Nodes) (text : List ℕ)
+    (seen told : Seen) (name : QualName) (attrs : List AttributeText) (scripting allows_scripting : Bool) (nodes : Nodes) (text : List ℕ)
     → HoldsDocument seen.forest → IsBodyContext name → IsFragmentText nodes text
-    → ParsesFragmentBy Reads first choices seen default_options name attrs allows_scripting text told → FragmentStands told.forest nodes
+    → ParsesFragmentBy Reads first choices seen (options_with scripting) name attrs allows_scripting text told → FragmentStands told.forest nodes
 
 -- by the standard tokenizer
 abbrev pub FragmentsComeBack : SinkChoices → Type 0

@@ -6,6 +6,7 @@ ghost use Rattle.h5_interface.specs.SinkChoices.{SinkChoices};
 ghost use Rattle.h5_rules.specs.Run.{View};
 ghost use Rattle.h5_driver.specs.Boxes.{PagesKeepBoxes};
 ghost use Rattle.h5_driver.specs.Bytes.{ParsingBytes, ProcessedAllBytes};
+ghost use Rattle.h5_driver.specs.ErrorReports.{BuildsTheSame, DocumentsHaveNone, TextsHaveOneList};
 ghost use Rattle.h5_driver.specs.Parsing.{Parsing, ProcessedAll, joined, text_of, view_of};
 ghost use Rattle.h5_driver.specs.PlainDocuments.{BringsBack};
 ghost use Rattle.h5_driver.specs.PlainFragments.{FragmentsComeBack, FragmentsComeBackBy};
@@ -40,8 +41,9 @@ pub fn a_text_has_one_tree<R: Reader>()
         → (one.forest ≡ other.forest) × (one.quirks ≡ other.quirks) }
 {}
 
-/// If a new parser of documents with default options, over a sink that holds only its document, takes the text of a readable
-/// plain document in any chunks by `process`, and `finish` follows, the sink shows that document, in no-quirks mode.
+/// If a new parser of documents with default options, with or without scripting, over a sink that holds only its document,
+/// takes the text of a readable plain document in any chunks by `process`, and `finish` follows, the sink shows that document,
+/// in no-quirks mode.
 pub fn documents_come_back<R: Reader>()
     ensures { (pieces : List (List ℕ)) (first last : Parsing R) (told : Seen) →
         ProcessedAll R.Reader pieces first last
@@ -51,10 +53,27 @@ pub fn documents_come_back<R: Reader>()
     pieces_then_finish::<R>();
 }
 
-/// If a new parser of fragments over the standard tokenizer, with default options, over a sink that holds only its document,
-/// takes the text of a readable plain fragment that doesn't begin with U+FEFF, in the context of an element that
-/// `IsBodyContext` describes, the sink shows that fragment as the children of the root. By `pieces_then_finish` this holds for
-/// any chunks.
+/// The parse errors of a text, from a builder between tokens, are one list: it doesn't matter how the text is split.
+pub fn a_text_has_one_list_of_errors()
+    ensures { (choices : SinkChoices) → TextsHaveOneList choices }
+{}
+
+/// A `ReportingTokenizer` over a new builder reports no error for the text of a readable plain document, if no character of it
+/// is an error of the input stream. The options are the default ones, with or without scripting, and the sink holds only its
+/// document.
+pub fn documents_have_no_errors()
+    ensures { (choices : SinkChoices) → DocumentsHaveNone choices }
+{}
+
+/// A `ReportingTokenizer` over a builder makes of a text what a parser makes of it.
+pub fn reporting_builds_the_same_tree()
+    ensures { (choices : SinkChoices) → BuildsTheSame choices }
+{}
+
+/// If a new parser of fragments over the standard tokenizer, with default options, with or without scripting, over a sink that
+/// holds only its document, takes the text of a readable plain fragment that doesn't begin with U+FEFF, in the context of an
+/// element that `IsBodyContext` describes, the sink shows that fragment as the children of the root. By `pieces_then_finish`
+/// this holds for any chunks.
 pub fn fragments_come_back()
     ensures { (choices : SinkChoices) → FragmentsComeBack choices }
 {}

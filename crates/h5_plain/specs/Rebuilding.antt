@@ -1,11 +1,12 @@
 -- A forest that has a plain document, and the meaning of "its tokens rebuild it".
-use Rattle.std.specs.Prelude.{◌≡◌, ◌≢◌, ℕ, true, false, List, [], ◌∷◌, Some, None, map, codes}
+use Rattle.std.specs.Prelude.{◌≡◌, ◌≢◌, ℕ, Bool, true, false, List, [], ◌∷◌, Some, None, map, codes}
 use Rattle.h5_names.specs.AttributeText.{AttributeText}
 use Rattle.h5_token.specs.TokenText.{TokenText}
 use Rattle.h5_interface.specs.Forest.{Child, ChildNode, ChildText, DoctypeNode, DocumentNode, ElementNode, Forest, IsForest, Kind, attrs_of, children_of, contents_of, kind_of}
 use Rattle.h5_interface.specs.SinkChoices.{SinkChoices}
 use Rattle.h5_interface.specs.declared.marks.QuirksMode.TheVariants.{NoQuirks}
 use Rattle.h5_tables.specs.Options.{default_options}
+use Rattle.h5_tables.specs.declared.options.TreeBuilderOpts.{TreeBuilderOpts}
 use Rattle.h5_tables.specs.declared.modes.InsertionMode.TheVariants.{InBody, Initial}
 use Rattle.h5_token.specs.Joins.{join}
 use Rattle.h5_rules.specs.Run.{View, after_all, all_quiet, replies}
@@ -47,10 +48,14 @@ pub record HoldsDocument (f : Forest) : Type 0 where
   pub is_forest : IsForest f
   pub document : Looks f f.document DocumentNode [] []
 
--- a new builder, with the default options, over a sink with the document alone
+-- the default options, with or without scripting
+abbrev pub with_scripting : Bool → TreeBuilderOpts
+with_scripting scripting_enabled = record default_options { scripting_enabled = scripting_enabled }
+
+-- a new builder, with the default options, with or without scripting, over a sink with the document alone
 pub record IsStart (w : World) : Type 0 where
   pub holds : HoldsDocument w.forest
-  pub options : w.options ≡ default_options
+  pub options : w.options ≡ with_scripting w.options.scripting_enabled
   pub mode : w.mode ≡ Initial
   pub none_open : w.stack ≡ []
   pub none_listed : w.formatting ≡ []

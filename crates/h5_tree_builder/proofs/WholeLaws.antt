@@ -69,7 +69,7 @@ onward_last choices all old now answers k o =
 
 -- a plain document is rebuilt
 pub rebuilds_plain : (choices : SinkChoices) (ts : List TokenText) (old new : Building) (answers : List Reply) → RanAll choices ts old new answers → RebuildsPlain ts old new answers
-rebuilds_plain choices ts old new answers r d seen holds same j =
+rebuilds_plain choices ts old new answers r d scripting seen holds same j =
     let start : IsStart old.view.world = subst (λ (b : Building). IsStart b.view.world) (sym same) (record { holds = holds; options = refl; mode = refl; none_open = refl; none_listed = refl; no_template_modes = refl; no_head = refl; ignore_lf = refl; no_foster = refl; no_pending = refl; no_form = refl; no_context = refl }) in
     let all = rebuilds_all choices ts old.view d start (ap (λ (b : Building). b.view.ended) same) (ap (λ (b : Building). b.view.failed) same) j in
     record {

@@ -11,7 +11,6 @@ use Rattle.h5_interface.specs.Seen.{Seen}
 use Rattle.h5_interface.specs.SinkChoices.{SinkChoices}
 use Rattle.h5_interface.specs.declared.marks.QuirksMode.TheVariants.{NoQuirks}
 use Rattle.h5_tables.specs.TagSets.{html_namespace}
-use Rattle.h5_tables.specs.Options.{default_options}
 use Rattle.h5_tables.specs.declared.modes.InsertionMode.TheVariants.{Initial}
 use Rattle.h5_tables.specs.declared.options.TreeBuilderOpts.{TreeBuilderOpts}
 use Rattle.h5_rules.specs.Changes.{pop}
@@ -21,7 +20,7 @@ use Rattle.h5_rules.specs.Run.{CountsTurns, View, WasRefused, after_all, after_t
 use Rattle.h5_rules.specs.insertion.Foreign.{adjusted_current_node}
 use Rattle.h5_rules.specs.World.{World, name_in}
 use Rattle.h5_plain.specs.Plain.{Flow, IsPlain, PlainDocument, document_tokens, nothing_open, plain_reply}
-use Rattle.h5_plain.specs.Rebuilding.{DocumentStands, HoldsDocument}
+use Rattle.h5_plain.specs.Rebuilding.{DocumentStands, HoldsDocument, with_scripting}
 use Rattle.h5_tree_builder.specs.Chains.{is_free}
 
 -- the view, the turns of the last token, and the sink's mark of errors
@@ -143,8 +142,8 @@ pub record Rebuilt (ts : List TokenText) (d : PlainDocument) (old new : Building
   pub told : answers ≡ map plain_reply ts
   pub quiet : IsPlain false (Flow false nothing_open) d.blocks → new.errors ≡ old.errors
 
--- a new builder with the default options, over a sink with its document alone, rebuilds a plain document from its
--- tokens, with their texts split in any way
+-- a new builder with the default options, with or without scripting, over a sink with its document alone, rebuilds a plain
+-- document from its tokens, with their texts split in any way
 abbrev pub RebuildsPlain : List TokenText → (old new : Building) → List Reply → Type 0
 RebuildsPlain ts old new answers =
-    (d : PlainDocument) (seen : Seen) → HoldsDocument seen.forest → old ≡ first_building seen default_options → join ts ≡ document_tokens d → Rebuilt ts d old new answers
+    (d : PlainDocument) (scripting : Bool) (seen : Seen) → HoldsDocument seen.forest → old ≡ first_building seen (with_scripting scripting) → join ts ≡ document_tokens d → Rebuilt ts d old new answers

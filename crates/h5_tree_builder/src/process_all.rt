@@ -36,9 +36,9 @@ impl<Handle: Drop, Sink: TreeSink<Handle = Handle> + Drop> TreeBuilder<Handle, S
     /// How a run of text is split into tokens doesn't matter: forest, quirks mode and the replies to all tokens that
     /// aren't texts are the same, and each text of the run has the run's reply.
     ///
-    /// A new builder with the default options, over a sink with its document alone, builds a plain document
-    /// (`h5_plain`) exactly from its tokens, in no-quirks mode. The reply to the start tag of the title is `RawData`,
-    /// all others are `Continue`. No parse error is reported if no whitespace text is in a table.
+    /// A new builder with the default options, with or without scripting, over a sink with its document alone, builds a
+    /// plain document (`h5_plain`) exactly from its tokens, in no-quirks mode. The reply to the start tag of the title is
+    /// `RawData`, all others are `Continue`. No parse error is reported if no whitespace text is in a table.
     pub fn process_all(
         &mut self,
         tokens: Vec<(Token, u64)>,

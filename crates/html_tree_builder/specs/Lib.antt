@@ -8,6 +8,7 @@ pub use Rattle.h5_token.specs.TokenText
 pub use Rattle.h5_interface.specs.Forest
 pub use Rattle.h5_interface.specs.Seen
 pub use Rattle.h5_interface.specs.SinkChoices
+pub use Rattle.h5_reading.specs.Answers
 pub use Rattle.h5_tables.specs.TagSets
 pub use Rattle.h5_serialize.specs.Call
 pub use Rattle.h5_serialize.specs.Escape

@@ -16,8 +16,9 @@ ghost use Rattle.h5_driver.specs.Reading.{Parses};
 
 use h5_driver::Reader;
 pub use h5_driver::laws::{
-    a_text_has_one_tree, chunks_then_finish, documents_come_back, fragments_come_back,
-    fragments_come_back_over, pieces_then_finish,
+    a_text_has_one_list_of_errors, a_text_has_one_tree, chunks_then_finish, documents_come_back,
+    documents_have_no_errors, fragments_come_back, fragments_come_back_over, pieces_then_finish,
+    reporting_builds_the_same_tree,
 };
 pub use h5_plain::laws::documents_are_rebuilt;
 pub use h5_plain::mode_laws::{
@@ -38,9 +39,10 @@ pub use h5_states::laws::{
 };
 
 /// If a forest holds a readable plain document in which no `pre` begins with a newline, and a serializer that writes the
-/// document's children without creating missing parents writes a text, and a new parser of documents with default options, over
-/// any tokenizer and over a sink that holds only its document, takes this text in any chunks by `process`, and `finish`
-/// follows, then the sink shows that document, in no-quirks mode, and the serializer writes the same text of its tree.
+/// document's children without creating missing parents writes a text, and a new parser of documents with default options, with
+/// or without scripting, over any tokenizer and over a sink that holds only its document, takes this text in any chunks by
+/// `process`, and `finish` follows, then the sink shows that document, in no-quirks mode, and the serializer writes the same text
+/// of its tree.
 ///
 /// The condition on `pre` is needed because a parser drops a newline at the start of a `pre`, and a serializer writes only one.
 pub fn written_documents_come_back<R: Reader>()

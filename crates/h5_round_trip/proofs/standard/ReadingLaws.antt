@@ -401,12 +401,17 @@ module _ {M : Type 0} (reply_to : M → TokenText → Reply) (after : M → Toke
       → ReadsWithoutErrors references reply_to after foreign (first_place default_options) s m (written_of d)
   document_quietly d m s readable answers none = ends_quietly (first_place default_options) m (written_of d) (document_tokens d) s none (document_reached d m readable answers)
 
+  pub document_tells_nothing : (d : PlainDocument) (m : M) (s : Spot) → IsReadableDocument d → Answers reply_to after m (document_tokens d) → HasNoInputErrors (written_of d)
+      → TellsToEnd references reply_to after foreign (first_place default_options) s m (written_of d) []
+  document_tells_nothing d m s readable answers none =
+      ends_telling_none (first_place default_options) m (written_of d) (document_tokens d) s none (document_reached d m readable answers)
+
   -- however it is read to its end, none is reported
   pub document_tells_none : (alike : M → M → Type 0) → IsBlindToCuts reply_to after foreign ended alike → (d : PlainDocument) (m : M) (s : Spot) (told : List LocatedError) → IsReadableDocument d
       → Answers reply_to after m (document_tokens d) → HasNoInputErrors (written_of d) → TellsToEnd references reply_to after foreign (first_place default_options) s m (written_of d) told → told ≡ []
   document_tells_none alike blind d m s told readable answers none tells =
       told_agree reply_to after foreign ended alike blind references (first_place default_options) s m m (written_of d) told [] (blind.reflexive m) tells
-      (ends_telling_none (first_place default_options) m (written_of d) (document_tokens d) s none (document_reached d m readable answers))
+      (document_tells_nothing d m s readable answers none)
 
   -- read to the end, by all tokens but that the last text may come in two parts
   pub record ReadsCut (p : ReaderPlace) (m : M) (xs : List ℕ) (all : List TokenText) : Type 0 where
