@@ -1,9 +1,9 @@
 -- The result of a call with the text of a selector.
-use Rattle.std.specs.Prelude.{◌≡◌, ◌⊎◌, ℕ, List, [], Some, map}
+use Rattle.std.specs.Prelude.{◌≡◌, ◌<◌, ◌⊎◌, ℕ, List, [], Some, map}
 use Rattle.std.specs.Option.{option_map_or}
 use Rattle.html_tree_builder.specs.ArenaModel.{place}
 use Rattle.html_tree_builder.specs.Asking.{Asked, asked}
-use Rattle.html_tree_builder.specs.Counting.{Outcome, Found, Absent, TooMany}
+use Rattle.html_tree_builder.specs.Fault.{Outcome, Found, Wrong}
 use Rattle.html_tree_builder.specs.Selected.{selected}
 use Rattle.html_tree_builder.specs.Types.{NodeId}
 use Rattle.h5_selectors.specs.declared.formula.Formula.{Formula}
@@ -36,5 +36,4 @@ pub record AreAsked (block : List ℕ) (number : ℕ) (selector : List Asked) (b
 -- the elements are returned, or the block has no tree; or a message about the selector is returned; or an allocation fails
 abbrev pub Answers : (block : List ℕ) → (number : ℕ) → Outcome (List Asked) → (status count : ℕ) → Type 0
 Answers block number (Found selector) status count = (status ≡ 3) ⊎ HandsOutSuch (AreAsked block number selector) status count
-Answers block number Absent status count = (status ≡ 1) ⊎ (status ≡ 5)
-Answers block number TooMany status count = (status ≡ 1) ⊎ (status ≡ 5)
+Answers block number (Wrong problem left) status count = (status ≡ 1) ⊎ ((status ≡ 5) × (0 < count))

@@ -1,5 +1,5 @@
 //! The elements of a block that a selector matches.
-ghost use Rattle.std.specs.Prelude.{◌≡◌, ◌<◌, ◌≤◌, IfOk, IfSome, false, map, true};
+ghost use Rattle.std.specs.Prelude.{◌≡◌, ◌≢◌, ◌<◌, ◌≤◌, IfOk, IfSome, false, map, true, vec_len};
 ghost use Rattle.std.specs.Str.{IsUtf8, chars};
 ghost use Rattle.html_tree_builder.specs.Grammar.{selectors_of};
 ghost use Rattle.html_tree_builder.specs.ArenaModel.{place};
@@ -50,13 +50,18 @@ fn select(
     }
 }
 
-// The message about an invalid selector.
-fn message_of(alloc: Global, fault: SelectorError) -> Result<Vec<u8>, AllocError> {
+// The message about an invalid selector, which is never empty, whatever the error writes.
+fn message_of(alloc: Global, fault: SelectorError) -> Result<Vec<u8>, AllocError>
+    ensures { IfOk result (λ message. 0 < vec_len message) }
+{
     let mut message = String::new(alloc);
-    match write!(message, "{fault}") {
-        Ok(()) => Ok(message.into_bytes()),
-        Err(_) => Err(AllocError),
+    if write!(message, "{fault}").is_err() {
+        return Err(AllocError);
     }
+    if message.is_empty() {
+        message.push_str("invalid selector")?;
+    }
+    Ok(message.into_bytes())
 }
 
 /// The elements below a node that a selector matches, in tree order, or a message that says what is wrong with the selector. Returns `BAD_BLOCK`
@@ -75,6 +80,7 @@ pub extern "C" fn hengaruto_select(
     ensures no_text { b.is_block block.now ≡ true → node < b.nodes_in block.now → ¬ (IsUtf8 selector.now) → result ≡ 4 }
     ensures answered { b.is_block block.now ≡ true → node < b.nodes_in block.now → IsUtf8 selector.now
         → Answers block.now node (selectors_of (chars selector.now)) result length.new }
+    ensures kept { result ≢ 0 → result ≢ 5 → length.new ≡ length.old }
 {
     let Some(view) = View::of(block) else {
         return BAD_BLOCK;

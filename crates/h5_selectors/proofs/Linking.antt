@@ -1,11 +1,38 @@
--- The conditions along combinators, link by link.
-use Rattle.std.proofs.Common.{◌≡◌, ◌∙◌, List, [], ◌∷◌, ◌++◌, ap, map, refl, sym}
+-- Conditions joined one by one: those of lists, and those along combinators.
+use Rattle.std.proofs.Common.{◌≡◌, ◌∙◌, List, [], ◌∷◌, ◌++◌, ap, append_assoc, map, refl, sym}
 use Rattle.std.proofs.lemmas.List.{map-append}
 use Rattle.std.specs.Prelude.{Option, Some}
-use Rattle.h5_selectors.specs.Asking.{Asked, AskLeads, back, both, forth}
-use Rattle.h5_selectors.specs.Grammar.{Linked, backwards, both_if, forwards, link_asked}
+use Rattle.h5_selectors.specs.Asking.{Asked, AskLeads, AskOr, asked, back, both, forth}
+use Rattle.h5_selectors.specs.Grammar.{Linked, all_of, any_of, backwards, both_if, forwards, link_asked}
+use Rattle.h5_selectors.specs.declared.formula.Formula.{Formula}
 use Rattle.h5_selectors.specs.declared.formula.Way.{Way}
 use Rattle.h5_selectors.specs.declared.parser.Link.{Link}
+
+-- the last of a list, taken off
+split_last : (items left : List Formula) (one : Formula) (all : Asked) → items ≡ left ++ one ∷ [] → map asked items ++ all ∷ [] ≡ map asked left ++ (asked one ∷ all ∷ [])
+split_last items left one all split =
+    ap (λ list. map asked list ++ all ∷ []) split ∙ ap (λ list. list ++ all ∷ []) (map-append asked left (one ∷ [])) ∙ append_assoc (map asked left) (asked one ∷ []) (all ∷ [])
+
+-- the last two of a list, as one condition
+all_last : (list : List Asked) (one last : Asked) → all_of (list ++ (both one last ∷ [])) ≡ all_of (list ++ (one ∷ last ∷ []))
+all_last [] one last = refl
+all_last (x ∷ []) one last = refl
+all_last (x ∷ y ∷ list) one last = ap (both x) (all_last (y ∷ list) one last)
+
+any_last : (list : List Asked) (one last : Asked) → any_of (list ++ (AskOr one last ∷ [])) ≡ any_of (list ++ (one ∷ last ∷ []))
+any_last [] one last = refl
+any_last (x ∷ []) one last = refl
+any_last (x ∷ y ∷ list) one last = ap (AskOr x) (any_last (y ∷ list) one last)
+
+pub all_step : (items left : List Formula) (one : Formula) (all : Asked) {made : Asked} → items ≡ left ++ one ∷ [] → made ≡ both (asked one) all
+    → all_of (map asked left ++ made ∷ []) ≡ all_of (map asked items ++ all ∷ [])
+all_step items left one all {made} split is =
+    ap (λ it. all_of (map asked left ++ it ∷ [])) is ∙ all_last (map asked left) (asked one) all ∙ ap all_of (sym (split_last items left one all split))
+
+pub any_step : (items left : List Formula) (one : Formula) (all : Asked) {made : Asked} → items ≡ left ++ one ∷ [] → made ≡ AskOr (asked one) all
+    → any_of (map asked left ++ made ∷ []) ≡ any_of (map asked items ++ all ∷ [])
+any_step items left one all {made} split is =
+    ap (λ it. any_of (map asked left ++ it ∷ [])) is ∙ any_last (map asked left) (asked one) all ∙ ap any_of (sym (split_last items left one all split))
 
 -- backwards, with one more link
 backwards_more : (first : Asked) (links : List Linked) (link : Linked) → backwards first (links ++ link ∷ []) ≡ both link.compound (AskLeads (back link.combinator) (backwards first links))

@@ -1,7 +1,8 @@
 -- Pieces, one after another, step by step.
 use Rattle.std.proofs.Common.{◌≡◌, ◌∙◌, ℕ, suc, zero, ◌+◌, ◌-◌, ◌<◌, ◌≤◌, Bool, true, false, List, [], ◌++◌, ap, arith, refl}
 use Rattle.std.specs.Prelude.{◌||◌, Option, None, Some, is_some, option_to_list}
-use Rattle.h5_selectors.specs.Tokens.{Reading, begins, joined, pieces_within, reading}
+use Rattle.std.specs.Option.{option_map_or}
+use Rattle.h5_selectors.specs.Tokens.{Reading, begins, component_at, components_within, joined, pieces_within, reading}
 
 -- if there is none
 pub pieces_stop : {A : Type 0} (piece : List ℕ → Option (Reading (List A))) (n : ℕ) (text : List ℕ) → piece text ≡ None → pieces_within piece n text ≡ reading [] text
@@ -32,3 +33,20 @@ spaced_more false (Some c) left = refl
 pub found_only : (found : Bool) → found ≡ (found || begins (λ _. true) [])
 found_only true = refl
 found_only false = refl
+
+-- component values: if there is none, if the limit is reached, and if there is another
+pub components_stop : (n : ℕ) (missing text : List ℕ) → component_at missing text ≡ None → components_within n missing text ≡ text
+unfolding components_within
+components_stop zero missing text h = refl
+components_stop (suc n) missing text h = ap (λ o. option_map_or (λ (one : Reading (List ℕ)). components_within n one.value one.rest) o text) h
+
+pub components_done : (end step : ℕ) (missing text : List ℕ) → end ≤ step → components_within (end - step) missing text ≡ text
+unfolding components_within
+components_done end step missing text le = let e : end - step ≡ 0 = omega arith in ap (λ n. components_within n missing text) e
+
+pub components_more : (end step : ℕ) (missing text : List ℕ) (next : Reading (List ℕ)) → step < end → component_at missing text ≡ Some next
+    → components_within (end - step) missing text ≡ components_within (end - (step + 1)) next.value next.rest
+unfolding components_within
+components_more end step missing text next lt h =
+    let e : end - step ≡ suc (end - (step + 1)) = omega arith in
+    ap (λ n. components_within n missing text) e ∙ ap (λ o. option_map_or (λ (one : Reading (List ℕ)). components_within (end - (step + 1)) one.value one.rest) o text) h

@@ -3,8 +3,10 @@ use Rattle.std.specs.Prelude.{ℕ, ◌==◌, ◌&&◌, ◌||◌, Bool, false, by
 use Rattle.std.specs.Str.{str_to_ascii_lowercase}
 use Rattle.h5_selectors.specs.Attributes.{TestText, test_text}
 use Rattle.h5_selectors.specs.Indices.{indices}
-use Rattle.h5_selectors.specs.Reads.{◌>>=◌}
-use Rattle.h5_selectors.specs.Tokens.{Reading, begins, begins_with, behind_blanks, in_utf8, is_at_name, is_spaced, name_at, reading, unqualified_at}
+use Rattle.h5_selectors.specs.Fault.{◌>>=◌, Found, Outcome, wrong_at}
+use Rattle.h5_selectors.specs.Tokens.{Reading, begins, begins_with, behind_blanks, behind_comments, in_utf8, is_at_name, is_spaced, name_at, reading, unqualified_at}
+use Rattle.h5_selectors.specs.declared.fault.SelectorProblem.{SelectorProblem}
+use Rattle.h5_selectors.specs.declared.fault.SelectorProblem.TheVariants.{Name as NoName, PseudoClass, PseudoElement}
 use Rattle.h5_selectors.specs.declared.formula.AnPlusB.{AnPlusB}
 use Rattle.h5_selectors.specs.declared.formula.Formula.{Formula, Any, Name, Id, Class, Attr, Root, Scope, Empty, Link, NthOfType, Nth', Not', And', Or', Leads'}
 use Rattle.h5_selectors.specs.declared.formula.Side.{Side}
@@ -92,19 +94,33 @@ forth combinator.Child = ToChild
 forth combinator.NextSibling = Next
 forth combinator.SubsequentSibling = Later
 
--- a type selector or `*`, if there is one
-abbrev pub type_of : Reading (List ℕ) → Option (Reading (Option Asked))
+-- `*|`, the prefix of any namespace, and the text after it; no other prefix is known
+abbrev pub has_any_namespace : List ℕ → Bool
+has_any_namespace text = begins_with 42 text && begins_with 124 (behind_comments (drop 1 text))
+
+abbrev pub behind_any_namespace : List ℕ → List ℕ
+behind_any_namespace text = behind_comments (drop 1 (behind_comments (drop 1 text)))
+
+-- a type selector or `*`
+abbrev pub type_of : Reading (List ℕ) → Outcome (Reading (Option Asked))
 type_of name = do
   plain ← unqualified_at name.rest
-  Some (reading (Some (AskName name.value (str_to_ascii_lowercase name.value))) plain.rest)
+  Found (reading (Some (AskName name.value (str_to_ascii_lowercase name.value))) plain.rest)
 
-abbrev pub star_of : List ℕ → Option (Reading (Option Asked))
-star_of text = do
-  plain ← unqualified_at text
-  if begins_with 42 plain.rest then Some (reading (Some AskAny) (drop 1 plain.rest)) else Some (reading None plain.rest)
+abbrev pub star_or : Outcome (Reading (Option Asked)) → List ℕ → Outcome (Reading (Option Asked))
+star_or other text = if begins_with 42 text then Found (reading (Some AskAny) (drop 1 text)) else other
 
-unfoldable pub type_at : List ℕ → Option (Reading (Option Asked))
-type_at text = if is_at_name text then type_of (in_utf8 (name_at text)) else star_of text
+-- required after a prefix, and optional without one
+unfoldable pub prefixed_type_at : List ℕ → Outcome (Reading (Option Asked))
+prefixed_type_at text = if is_at_name text then type_of (in_utf8 (name_at text)) else star_or (wrong_at NoName text) text
+
+unfoldable pub unprefixed_type_at : List ℕ → Outcome (Reading (Option Asked))
+unprefixed_type_at text =
+    if is_at_name text then type_of (in_utf8 (name_at text))
+    else unqualified_at text >>= (λ plain. star_or (Found (reading None text)) text)
+
+unfoldable pub type_at : List ℕ → Outcome (Reading (Option Asked))
+type_at text = if has_any_namespace text then prefixed_type_at (behind_any_namespace text) else unprefixed_type_at text
 
 -- the first or the last child
 abbrev pub first : AnPlusB
@@ -127,6 +143,12 @@ plain_of name =
     else (if bytes_eq name (codes "first-of-type") then Some (AskNthOfType first First)
     else (if bytes_eq name (codes "last-of-type") then Some (AskNthOfType first Last)
     else (if bytes_eq name (codes "only-of-type") then Some (AskAnd (AskNthOfType first First) (AskNthOfType first Last)) else None))))))))))
+
+-- the problem of another name in lower case
+abbrev pub problem_of : List ℕ → SelectorProblem
+problem_of name =
+    if bytes_eq name (codes "before") || bytes_eq name (codes "after") || bytes_eq name (codes "first-line") || bytes_eq name (codes "first-letter")
+    then PseudoElement else PseudoClass
 
 -- a pseudo-class with arguments, by its name in lower case
 unfoldable pub function_of : List ℕ → Option Function

@@ -2,8 +2,9 @@
 use Rattle.std.specs.Prelude.{ℕ, ◌==◌, ◌||◌, Bool, true, false, bytes_eq, codes, drop, if◌then◌else◌, List, [], ◌∷◌, Option, None, Some, unwrap_or, string_bytes}
 use Rattle.std.specs.List.{list_any}
 use Rattle.std.specs.Str.{str_to_ascii_lowercase}
-use Rattle.h5_selectors.specs.Reads.{◌>>=◌}
-use Rattle.h5_selectors.specs.Tokens.{Reading, begins_with, behind_blanks, closed_at, in_utf8, is_at_name, name_at, named_at, reading, string_at, unqualified_at}
+use Rattle.h5_selectors.specs.Fault.{◌>>=◌, Found, Outcome, wrong_at}
+use Rattle.h5_selectors.specs.Tokens.{Reading, begins_with, behind_blanks, closed_at, ends, in_utf8, is_at_name, name_at, named_at, named_or, reading, string_at, unqualified_at}
+use Rattle.h5_selectors.specs.declared.fault.SelectorProblem.TheVariants.{Flag, Operator as NoOperator, Value}
 use Rattle.h5_selectors.specs.declared.formula.AttrTest.{AttrTest}
 use Rattle.h5_selectors.specs.declared.formula.Operator.{Operator}
 use Rattle.h5_selectors.specs.declared.formula.Operator.TheVariants.{Begins, Contains, Dash, Ends, Equals, Exists, Includes}
@@ -23,25 +24,28 @@ operator_at (c ∷ text) =
     if c == 61 then Some (reading Equals text)
     else (if begins_with 61 text then operator_by c (drop 1 text) else None)
 
--- a string or a name
-abbrev pub quoted_or_named_at : List ℕ → Option (Reading (List ℕ))
-quoted_or_named_at [] = None
-quoted_or_named_at (c ∷ text) = if c == 34 || c == 39 then string_at c text else named_at (c ∷ text)
+unfoldable pub required_operator_at : List ℕ → Outcome (Reading Operator)
+required_operator_at text = elim (operator_at text) [ None ↦ wrong_at NoOperator text | Some found ↦ Found found ]
 
-unfoldable pub value_at : List ℕ → Option (Reading (List ℕ))
+-- a string or a name
+abbrev pub quoted_or_named_at : List ℕ → Outcome (Reading (List ℕ))
+quoted_or_named_at [] = named_or Value []
+quoted_or_named_at (c ∷ text) = if c == 34 || c == 39 then string_at c text else named_or Value (c ∷ text)
+
+unfoldable pub value_at : List ℕ → Outcome (Reading (List ℕ))
 value_at text = quoted_or_named_at (behind_blanks text)
 
--- `i` or `s`: true to ignore case
-abbrev pub flag_of : Reading (List ℕ) → Option (Reading (Option Bool))
-flag_of name =
-    if bytes_eq name.value (codes "i") || bytes_eq name.value (codes "I") then Some (reading (Some true) name.rest)
-    else (if bytes_eq name.value (codes "s") || bytes_eq name.value (codes "S") then Some (reading (Some false) name.rest)
-    else None)
+-- `i` or `s`, by the name at the start of a text: true to ignore case
+abbrev pub flag_of : (text : List ℕ) → Reading (List ℕ) → Outcome (Reading (Option Bool))
+flag_of text name =
+    if bytes_eq name.value (codes "i") || bytes_eq name.value (codes "I") then Found (reading (Some true) name.rest)
+    else (if bytes_eq name.value (codes "s") || bytes_eq name.value (codes "S") then Found (reading (Some false) name.rest)
+    else wrong_at Flag text)
 
-unfoldable pub flag_at : List ℕ → Option (Reading (Option Bool))
+unfoldable pub flag_at : List ℕ → Outcome (Reading (Option Bool))
 flag_at text =
-    if is_at_name (behind_blanks text) then flag_of (in_utf8 (name_at (behind_blanks text)))
-    else Some (reading None (behind_blanks text))
+    if is_at_name (behind_blanks text) then flag_of (behind_blanks text) (in_utf8 (name_at (behind_blanks text)))
+    else Found (reading None (behind_blanks text))
 
 -- the comparison of a value: operator, text and flag
 pub record Comparison : Type 0 where
@@ -52,15 +56,15 @@ pub record Comparison : Type 0 where
 abbrev pub comparison : Operator → List ℕ → Option Bool → Comparison
 comparison operator text flag = record { operator = operator; text = text; flag = flag }
 
--- without a comparison, `]` follows
-unfoldable pub comparison_at : List ℕ → Option (Reading Comparison)
+-- without a comparison, `]` or the end follows
+unfoldable pub comparison_at : List ℕ → Outcome (Reading Comparison)
 comparison_at text =
-    if begins_with 93 text then Some (reading (comparison Exists [] None) text)
+    if ends 93 text then Found (reading (comparison Exists [] None) text)
     else do
-      operator ← operator_at text
+      operator ← required_operator_at text
       value ← value_at operator.rest
       flag ← flag_at value.rest
-      Some (reading (comparison operator.value value.value flag.value) flag.rest)
+      Found (reading (comparison operator.value value.value flag.value) flag.rest)
 
 -- the attributes whose values HTML compares ASCII case-insensitively (HTML standard, section 4.16.2, "Case-sensitivity of selectors")
 abbrev pub caseless_names : List (List ℕ)
@@ -112,11 +116,11 @@ abbrev pub test_of : (name : List ℕ) → Comparison → TestText
 test_of name = test_by name (str_to_ascii_lowercase name)
 
 -- an attribute selector, from after `[` to after `]`
-unfoldable pub attribute_at : List ℕ → Option (Reading TestText)
+unfoldable pub attribute_at : List ℕ → Outcome (Reading TestText)
 attribute_at text = do
   start ← unqualified_at (behind_blanks text)
   name ← named_at start.rest
   plain ← unqualified_at name.rest
   compared ← comparison_at (behind_blanks plain.rest)
-  end ← closed_at 93 compared.rest
-  Some (reading (test_of name.value compared.value) end.rest)
+  end ← closed_at 93 Flag compared.rest
+  Found (reading (test_of name.value compared.value) end.rest)

@@ -13,4 +13,5 @@ pub mod Selected
 pub mod Tables
 pub mod Tokens
 pub mod Values
+pub mod Waiting
 pub mod Ways

@@ -9,7 +9,7 @@ use Rattle.h5_selectors.specs.Query.{holds_by, quirky_by, scope_by, seen_by}
 use Rattle.h5_selectors.specs.Rows.{node_of, with_below}
 use Rattle.h5_selectors.specs.Ways.{before, behind, counted, elements, is_element}
 use Rattle.h5_selectors.specs.declared.formula.AnPlusB.{AnPlusB}
-use Rattle.h5_selectors.specs.declared.formula.Formula.{Formula}
+use Rattle.h5_selectors.specs.declared.formula.Formula.{Formula, And', Leads'}
 use Rattle.h5_selectors.specs.declared.formula.Side.{Side}
 use Rattle.h5_selectors.specs.declared.formula.Side.TheVariants.{First, Last}
 use Rattle.h5_selectors.specs.declared.formula.Way.{Way}
@@ -25,6 +25,17 @@ Tells test rows table = (k : ℕ) → k < length rows.ids.items → get_or table
 -- a table has the result of a test for the rows of a set, and false for others
 abbrev pub Narrows : (test : ℕ → Bool) → Rows → (set table : List Bool) → Type 0
 Narrows test rows set table = (k : ℕ) → k < length rows.ids.items → get_or table k false ≡ (get_or set k false && test (node_of rows k))
+
+-- the conditions after the combinators along a condition, the nearest first
+abbrev pub stations_of : Formula → List Formula
+stations_of (And' p one q other) = stations_of other
+stations_of (Leads' way p inner) = inner ∷ stations_of inner
+stations_of formula = []
+
+-- a table has the result of the first of some conditions on each row's node, if there is one
+abbrev pub IsTableOf : Query → Rows → List Formula → (table : List Bool) → Type 0
+IsTableOf query rows [] table = Unit {0}
+IsTableOf query rows (formula ∷ further) table = (length table ≡ length rows.ids.items) × Tells (holds_by query formula) rows table
 
 -- the entry of a linked row
 abbrev pub told : List Bool → Option ℕ → Bool

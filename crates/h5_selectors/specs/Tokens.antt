@@ -4,7 +4,11 @@ use Rattle.std.specs.Prelude.{ℕ, ◌+◌, ◌*◌, ◌-◌, ◌^◌, ◌==◌,
 use Prim.Native.Nat.{zero, suc}
 use Rattle.std.specs.Char.{digit_value, is_digit}
 use lib.Utf8.{scalar}
+use Rattle.std.specs.Option.{option_map_or, option_to_list}
 use Rattle.std.specs.Str.{encode_utf8_all}
+use Rattle.h5_selectors.specs.Fault.{Found, Outcome, wrong_at}
+use Rattle.h5_selectors.specs.declared.fault.SelectorProblem.{SelectorProblem}
+use Rattle.h5_selectors.specs.declared.fault.SelectorProblem.TheVariants.{Name, Namespace, Unclosed}
 
 -- a result, and the text after it
 pub record Reading (A : Type 0) : Type 0 where
@@ -27,6 +31,11 @@ begins test (c ∷ text) = test c
 
 abbrev pub begins_with : ℕ → List ℕ → Bool
 begins_with wanted = begins (λ c. c == wanted)
+
+-- true at this character, and at the end
+abbrev pub ends : ℕ → List ℕ → Bool
+ends wanted [] = true
+ends wanted (c ∷ text) = c == wanted
 
 -- a piece and the result after it; nothing without a piece
 abbrev pub joined : {A : Type 0} → Option (Reading (List A)) → (List ℕ → Reading (List A)) → List ℕ → Reading (List A)
@@ -157,9 +166,9 @@ name_at text = pieces name_piece_at text
 abbrev pub behind_newline : List ℕ → List ℕ
 behind_newline text = if begins_with 13 text && begins_with 10 (drop 1 text) then drop 2 text else drop 1 text
 
--- section 4.3.5, "Consume a string token": an escaped newline has no character; an escape; a character
+-- section 4.3.5, "Consume a string token": an escaped newline has no character, nor has a `\` at the end; an escape; a character
 abbrev pub string_escape_at : List ℕ → Option (Reading (List ℕ))
-string_escape_at [] = None
+string_escape_at [] = Some (reading [] [])
 string_escape_at (c ∷ text) =
     if is_newline c then Some (reading [] (behind_newline (c ∷ text)))
     else Some (reading ((escape_at (c ∷ text)).value ∷ []) (escape_at (c ∷ text)).rest)
@@ -174,24 +183,70 @@ string_piece_at quote (c ∷ text) =
 abbrev pub in_utf8 : Reading (List ℕ) → Reading (List ℕ)
 in_utf8 read = reading (encode_utf8_all read.value) read.rest
 
--- from after a quote to after the other; nothing if the other is missing
-unfoldable pub string_at : (quote : ℕ) → List ℕ → Option (Reading (List ℕ))
+-- from after a quote to after the other, or to the end; it has no newline
+unfoldable pub string_at : (quote : ℕ) → List ℕ → Outcome (Reading (List ℕ))
 string_at quote text =
     let body = pieces (string_piece_at quote) text in
-    if begins_with quote body.rest then Some (reading (encode_utf8_all body.value) (drop 1 body.rest)) else None
+    if ends quote body.rest then Found (reading (encode_utf8_all body.value) (drop 1 body.rest)) else wrong_at Unclosed body.rest
 
--- a name, if there is one
-unfoldable pub named_at : List ℕ → Option (Reading (List ℕ))
-named_at text = if is_at_name text then Some (in_utf8 (name_at text)) else None
+-- a name; otherwise there is this problem
+unfoldable pub named_or : SelectorProblem → List ℕ → Outcome (Reading (List ℕ))
+named_or problem text = if is_at_name text then Found (in_utf8 (name_at text)) else wrong_at problem text
 
--- a closing bracket, maybe after whitespace
-unfoldable pub closed_at : (bracket : ℕ) → List ℕ → Option (Reading (Unit {0}))
-closed_at bracket text = if begins_with bracket (behind_blanks text) then Some (reading tt (drop 1 (behind_blanks text))) else None
+abbrev pub named_at : List ℕ → Outcome (Reading (List ℕ))
+named_at text = named_or Name text
+
+-- the bracket that closes a bracket
+abbrev pub closing_of : ℕ → Option ℕ
+closing_of c = if c == 40 then Some 41 else (if c == 91 then Some 93 else (if c == 123 then Some 125 else None))
+
+-- the closing brackets that are missing, the innermost first, after one more character
+abbrev pub missing_behind : ℕ → List ℕ → List ℕ
+missing_behind c [] = option_to_list (closing_of c)
+missing_behind c (closing ∷ missing) = if c == closing then missing else option_to_list (closing_of c) ++ closing ∷ missing
+
+-- a comma or `)` outside of all brackets
+abbrev pub is_component_end : ℕ → (missing : List ℕ) → Bool
+is_component_end c [] = c == 44 || c == 41
+is_component_end c (closing ∷ missing) = false
+
+abbrev pub behind_string : (quote : ℕ) → List ℕ → List ℕ
+behind_string quote text =
+    let rest = (pieces (string_piece_at quote) text).rest in
+    if begins_with quote rest then drop 1 rest else rest
+
+-- a comment, an escape, a string or another character of component values, with the brackets that are missing after it (section 5.4.7,
+-- "Consume a component value"); nothing at their end
+abbrev pub character_at : (missing : List ℕ) → List ℕ → Option (Reading (List ℕ))
+character_at missing [] = None
+character_at missing (c ∷ text) =
+    if c == 34 || c == 39 then Some (reading missing (behind_string c text))
+    else (if is_component_end c missing then None else Some (reading (missing_behind c missing) text))
+
+abbrev pub component_at : (missing : List ℕ) → List ℕ → Option (Reading (List ℕ))
+component_at missing text =
+    elim (comment_at text) [
+      | Some comment ↦ Some (reading missing comment.rest)
+      | None ↦ if is_escape text then Some (reading missing (escape_at (drop 1 text)).rest) else character_at missing text
+    ]
+
+unfoldable pub components_within : ℕ → (missing : List ℕ) → List ℕ → List ℕ
+components_within zero missing text = text
+components_within (suc n) missing text = option_map_or (λ one. components_within n one.value one.rest) (component_at missing text) text
+
+-- the text after component values, up to a comma or a closing bracket; there are no more of them than characters
+abbrev pub behind_values : List ℕ → List ℕ
+behind_values text = components_within (length text) [] text
+
+-- a closing bracket or the end, maybe after whitespace (section 5.4.8, "Consume a simple block"); otherwise there is this problem
+unfoldable pub closed_at : (bracket : ℕ) → SelectorProblem → List ℕ → Outcome (Reading (Unit {0}))
+closed_at bracket problem text =
+    if ends bracket (behind_blanks text) then Found (reading tt (drop 1 (behind_blanks text))) else wrong_at problem (behind_blanks text)
 
 -- a namespace prefix before a name or after `*`
 abbrev pub has_namespace : List ℕ → Bool
 has_namespace text = (begins_with 124 text && not (begins_with 61 (drop 1 text))) || (begins_with 42 text && begins_with 124 (drop 1 text))
 
 -- no namespace prefix
-unfoldable pub unqualified_at : List ℕ → Option (Reading (Unit {0}))
-unqualified_at text = if has_namespace text then None else Some (reading tt text)
+unfoldable pub unqualified_at : List ℕ → Outcome (Reading (Unit {0}))
+unqualified_at text = if has_namespace text then wrong_at Namespace text else Found (reading tt text)

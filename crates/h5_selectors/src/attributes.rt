@@ -1,13 +1,13 @@
 //! Parses attribute selectors (Selectors Level 4, section 6, "Attribute selectors").
 ghost use Rattle.std.specs.Prelude.{◌≡◌, IfOk, option_map, string_bytes};
 ghost use Rattle.std.specs.Str.{str_to_ascii_lowercase};
-ghost use Rattle.h5_selectors.specs.Attributes.{attribute_at, comparison, comparison_at, flag_at, is_caseless, operator_at, test_by, test_text, value_at};
+ghost use Rattle.h5_selectors.specs.Attributes.{attribute_at, comparison, comparison_at, flag_at, is_caseless, operator_at, required_operator_at, test_by, test_text, value_at};
 ghost use Rattle.h5_selectors.specs.Reads.{Reads};
 ghost use Rattle.h5_selectors.specs.Tokens.{reading};
 
 use super::fault::{Refusal, SelectorProblem};
 use super::formula::{AttrTest, Operator, Written};
-use super::scan::Scan;
+use super::scan::{Scan, is_quote};
 use h5_names::LocalName;
 use std::alloc::{AllocError, Global};
 
@@ -105,39 +105,32 @@ struct Comparison {
 }
 
 impl<'a> Scan<'a> {
+    #[tactic(auto, unfolding(crate::specs::Attributes::required_operator_at))]
     fn operator(&mut self) -> Result<Operator, Refusal>
-        ensures { Reads (λ operator. operator) result self.new.rest.now (operator_at self.old.rest.now) }
+        ensures { Reads (λ operator. operator) result self.new.rest.now (required_operator_at self.old.rest.now) }
     {
-        if let Some((operator, rest)) = operator_at(self.rest) {
-            self.rest = rest;
-            return Ok(operator);
+        match operator_at(self.rest) {
+            Some((operator, rest)) => {
+                self.rest = rest;
+                Ok(operator)
+            }
+            None => Err(self.refusal(SelectorProblem::Operator)),
         }
-        if self.rest.is_empty() {
-            return Err(self.refusal(SelectorProblem::Unclosed));
-        }
-        Err(self.refusal(SelectorProblem::Operator))
     }
 
     // A string or a name.
-    #[tactic(auto, unfolding(crate::specs::Attributes::value_at, crate::specs::Tokens::named_at))]
+    #[tactic(auto, unfolding(crate::specs::Attributes::value_at))]
     fn value(&mut self, alloc: Global) -> Result<String, Refusal>
         ensures { Reads string_bytes result self.new.rest.now (value_at self.old.rest.now) }
     {
         self.skip_blanks();
-        if let Some(quote) = self.peek() {
-            if quote == '"' || quote == '\'' {
+        match self.peek() {
+            Some(quote) if is_quote(quote) => {
                 self.skip();
-                return match self.string(alloc, quote)? {
-                    Some(text) => Ok(text),
-                    None => Err(self.refusal(SelectorProblem::Unclosed)),
-                };
+                self.string(alloc, quote)
             }
+            _ => self.name_or(alloc, SelectorProblem::Value),
         }
-        if !self.is_at_name() {
-            return Err(self.refusal(SelectorProblem::Value));
-        }
-        let name = self.name_rest(alloc)?;
-        Ok(name)
     }
 
     // The flag after a value, if there is one: true to ignore case.
@@ -158,12 +151,12 @@ impl<'a> Scan<'a> {
         }
     }
 
-    // The comparison of a value. Without one, `]` follows.
+    // The comparison of a value. Without one, `]` or the end follows.
     #[tactic(auto, unfolding(crate::specs::Attributes::comparison_at))]
     fn comparison(&mut self, alloc: Global) -> Result<Comparison, Refusal>
         ensures { Reads (λ c. comparison c.operator (string_bytes c.text) c.flag) result self.new.rest.now (comparison_at self.old.rest.now) }
     {
-        if self.peek() == Some(']') {
+        if matches!(self.peek(), Some(']') | None) {
             return Ok(Comparison {
                 operator: Operator::Exists,
                 text: String::new(alloc),
@@ -187,12 +180,12 @@ impl<'a> Scan<'a> {
     {
         self.skip_blanks();
         self.no_namespace()?;
-        let text = self.name(alloc)?;
+        let text = self.name_or(alloc, SelectorProblem::Name)?;
         let name = written(alloc, text.as_str())?;
         self.no_namespace()?;
         self.skip_blanks();
         let compared = self.comparison(alloc)?;
-        self.close(']')?;
+        self.close(']', SelectorProblem::Flag)?;
         Ok(test_of(name, compared))
     }
 }

@@ -1,7 +1,5 @@
 //! Errors of parsing a selector.
-ghost use Rattle.std.specs.Prelude.{◌≡◌, ℕ};
-ghost use Rattle.h5_selectors.specs.Fault.{IsWithin};
-ghost use Rattle.h5_selectors.specs.declared.fault.SelectorError.TheVariants.{Invalid};
+ghost use Rattle.std.specs.Prelude.{◌≡◌};
 
 use std::alloc::{AllocError, AllocFailed};
 use thiserror::Error;
@@ -24,8 +22,8 @@ pub enum SelectorProblem {
     /// `i`, `s` or `]` is missing after the value of an attribute.
     #[error("expected 'i', 's' or ']'")]
     Flag,
-    /// A string or a bracket isn't closed, or a string contains a newline.
-    #[error("unclosed string or bracket")]
+    /// A newline ends a string before its quote.
+    #[error("unclosed string")]
     Unclosed,
     /// An unknown pseudo-class.
     #[error("unknown pseudo-class")]
@@ -48,6 +46,9 @@ pub enum SelectorProblem {
     /// A selector has more than 1,000 parts.
     #[error("more than 1,000 parts")]
     TooLong,
+    /// Pseudo-classes with arguments are nested more than 32 levels deep.
+    #[error("nested more than 32 levels deep")]
+    TooDeep,
 }
 
 /// The error of parsing a selector.
@@ -68,10 +69,6 @@ pub(crate) enum Refusal {
     Invalid {
         left: usize,
         problem: SelectorProblem,
-    },
-    /// A selector has too many parts.
-    TooLong {
-        left: usize,
     },
     Memory,
 }
@@ -96,32 +93,23 @@ impl<T: Drop> From<AllocFailed<T>> for Refusal {
     }
 }
 
-// The error at the place where this many characters of a text are left.
-fn invalid(length: usize, left: usize, problem: SelectorProblem) -> SelectorError
-    ensures place { IsWithin length result }
-    ensures problem { (at : ℕ) × (result ≡ Invalid at problem) }
-{
-    SelectorError::Invalid {
-        at: length.saturating_sub(left),
-        problem,
-    }
-}
-
 impl Refusal {
     ghost use Rattle.std.specs.Prelude.{List};
     ghost use Rattle.h5_selectors.specs.Asking.{Asked};
-    ghost use Rattle.h5_selectors.specs.Counting.{Outcome};
-    ghost use Rattle.h5_selectors.specs.Fault.{IsWithin, Tells};
-    ghost use Rattle.h5_selectors.specs.Reads.{Lacks};
+    ghost use Rattle.h5_selectors.specs.Fault.{IsWithin, Outcome, Tells};
+    ghost use Rattle.h5_selectors.specs.Reads.{Fails};
 
     /// The error in a text with this number of characters.
     pub(crate) fn in_text(self, length: usize) -> SelectorError
         ensures place { IsWithin length result }
-        ensures tells { (read : Outcome (List Asked)) → Lacks self read → Tells result read }
+        ensures tells { (read : Outcome (List Asked)) → Fails self read → Tells length result read }
+        ensures memory { result ≡ SelectorError.Memory → self ≡ Refusal.Memory }
     {
         match self {
-            Refusal::Invalid { left, problem } => invalid(length, left, problem),
-            Refusal::TooLong { left } => invalid(length, left, SelectorProblem::TooLong),
+            Refusal::Invalid { left, problem } => SelectorError::Invalid {
+                at: length.saturating_sub(left),
+                problem,
+            },
             Refusal::Memory => SelectorError::Memory,
         }
     }

@@ -74,8 +74,7 @@ pub struct AnPlusB {
     pub is_under: bool,
 }
 
-/// A condition on an element.
-#[derive(Drop)]
+/// A condition on an element. The parser nests only the last part of a formula deeply, and the code walks that one by loops.
 pub enum Formula {
     /// Always holds.
     Any,
@@ -101,4 +100,25 @@ pub enum Formula {
     Or(Box<Formula>, Box<Formula>),
     /// The inner condition holds for some element in this relation to it.
     Leads(Way, Box<Formula>),
+}
+
+impl Drop for Formula {
+    fn drop(mut self) {
+        loop {
+            match self {
+                Formula::Not(inner) => self = Box::into_inner(inner),
+                Formula::Nth(_, _, inner) => self = Box::into_inner(inner),
+                Formula::Leads(_, inner) => self = Box::into_inner(inner),
+                Formula::And(_, other) => self = Box::into_inner(other),
+                Formula::Or(_, other) => self = Box::into_inner(other),
+                Formula::Any | Formula::Root | Formula::Scope | Formula::Empty | Formula::Link =>
+                    return,
+                Formula::NthOfType(_, _) => return,
+                Formula::Name(_written) => return,
+                Formula::Id(_text) => return,
+                Formula::Class(_text) => return,
+                Formula::Attr(_test) => return,
+            }
+        }
+    }
 }

@@ -1,12 +1,14 @@
 //! Tests of conditions on one element.
-ghost use Rattle.std.specs.Prelude.{◌≡◌, ◌+◌, ◌&&◌, ◌≤◌, ◌<◌, All, IfOk, cond, length, map};
+ghost use Rattle.std.specs.Prelude.{◌≡◌, ◌+◌, ◌&&◌, ◌≤◌, ◌<◌, All, IfOk, OnOk, cond, length, map};
 ghost use Rattle.std.specs.List.{filter, list_any};
 ghost use Rattle.h5_arena.specs.ArenaModel.{IsHeld, optional_place, place};
 ghost use Rattle.h5_selectors.specs.Holds as h;
 ghost use Rattle.h5_selectors.specs.AnPlusB.{is_index};
 ghost use Rattle.h5_selectors.specs.Values.{are_same};
 ghost use Rattle.h5_selectors.specs.Query.{holds_by, quirky_by, scope_by, seen_by};
+ghost use Rattle.h5_selectors.specs.Waiting.{AreAdded, AreTested, sum_of, tests_by};
 ghost use Rattle.h5_selectors.specs.Ways.{ancestors, counted, led, parent_element};
+ghost use Rattle.h5_selectors.specs.declared.holds.Query.{Query as QueryAt};
 
 use super::values::{compares, includes};
 use super::ways::{
@@ -205,11 +207,38 @@ pub(crate) fn is_nth_of_type(
     Ok(indices.has_behind(count_alike(query, id, list.as_slice())))
 }
 
-/// Returns true if the condition holds for an element.
+// A condition that waits to be tested on an element.
+#[derive(Clone, Copy)]
+struct Step<'a> {
+    formula: &'a Formula,
+    id: NodeId,
+}
+
+// Lets a condition wait to be tested on each element of a list.
+fn wait_for_each<'a>(
+    waiting: &mut Vec<Step<'a>>,
+    formula: &'a Formula,
+    list: &[NodeId],
+) -> Result<(), AllocError>
+    ensures { OnOk result ((query : QueryAt) → All (IsHeld query.arena.now) list.now
+        → AreAdded query (list_any (holds_by query formula.now) (map place list.now)) (sum_of (tests_by query formula.now) (map place list.now)) formula.now waiting.old.items waiting.new.items) }
+{
+    for id in list {
+        waiting.push(Step { formula, id: *id })?;
+    }
+    Ok(())
+}
+
+// Tests a condition on an element: it holds, or it does if one of those does that wait then.
 #[cycle(holds)]
-pub(crate) fn holds(formula: &Formula, query: &Query<'_>, id: NodeId) -> Result<bool, AllocError>
+fn tested<'a>(
+    formula: &'a Formula,
+    query: &Query<'_>,
+    id: NodeId,
+    waiting: &mut Vec<Step<'a>>,
+) -> Result<bool, AllocError>
     requires { IsHeld query.now.arena.now id }
-    ensures { IfOk result (λ answer. answer ≡ holds_by query.now formula.now id.index) }
+    ensures { IfOk result (λ answer. AreTested query.now formula.now id.index answer waiting.old.items waiting.new.items) }
 {
     match formula {
         Formula::Any => Ok(true),
@@ -228,16 +257,47 @@ pub(crate) fn holds(formula: &Formula, query: &Query<'_>, id: NodeId) -> Result<
             if !holds(&**one, query, id)? {
                 return Ok(false);
             }
-            holds(&**other, query, id)
+            waiting.push(Step {
+                formula: &**other,
+                id,
+            })?;
+            Ok(false)
         }
         Formula::Or(one, other) => {
-            if holds(&**one, query, id)? {
-                return Ok(true);
-            }
-            holds(&**other, query, id)
+            waiting.push(Step {
+                formula: &**other,
+                id,
+            })?;
+            waiting.push(Step {
+                formula: &**one,
+                id,
+            })?;
+            Ok(false)
         }
-        Formula::Leads(way, inner) => holds_along(&**inner, query, *way, id),
+        Formula::Leads(way, inner) => {
+            let list = led(query.alloc, query.arena, *way, id)?;
+            wait_for_each(waiting, &**inner, list.as_slice())?;
+            Ok(false)
+        }
     }
+}
+
+/// Returns true if the condition holds for an element.
+#[cycle(holds)]
+pub(crate) fn holds(formula: &Formula, query: &Query<'_>, id: NodeId) -> Result<bool, AllocError>
+    requires { IsHeld query.now.arena.now id }
+    ensures { IfOk result (λ answer. answer ≡ holds_by query.now formula.now id.index) }
+{
+    let mut waiting = Vec::new(query.alloc);
+    if tested(formula, query, id, &mut waiting)? {
+        return Ok(true);
+    }
+    'waits: while let Some(step) = waiting.pop() {
+        if tested(step.formula, query, step.id, &mut waiting)? {
+            return Ok(true);
+        }
+    }
+    Ok(false)
 }
 
 /// Returns true if the condition holds for an element, and its index among the siblings for which it also holds is one of these.
@@ -276,7 +336,6 @@ fn count_holding(formula: &Formula, query: &Query<'_>, list: &[NodeId]) -> Resul
 }
 
 // Returns true if the condition holds for some element of a list.
-#[cycle(holds)]
 fn holds_of_some(formula: &Formula, query: &Query<'_>, list: &[NodeId]) -> Result<bool, AllocError>
     requires { All (IsHeld query.now.arena.now) list.now }
     ensures { IfOk result (λ answer. answer ≡ list_any (holds_by query.now formula.now) (map place list.now)) }
@@ -290,7 +349,6 @@ fn holds_of_some(formula: &Formula, query: &Query<'_>, list: &[NodeId]) -> Resul
 }
 
 // Returns true if the condition holds for some ancestor that is an element.
-#[cycle(holds)]
 fn holds_above(formula: &Formula, query: &Query<'_>, id: NodeId) -> Result<bool, AllocError>
     requires { IsHeld query.now.arena.now id }
     ensures { IfOk result (λ answer. answer ≡ list_any (holds_by query.now formula.now) (ancestors (seen_by query.now) id.index)) }
@@ -309,7 +367,6 @@ fn holds_above(formula: &Formula, query: &Query<'_>, id: NodeId) -> Result<bool,
 }
 
 // Returns true if the parent is an element for which the condition holds.
-#[cycle(holds)]
 fn holds_of_parent(formula: &Formula, query: &Query<'_>, id: NodeId) -> Result<bool, AllocError>
     requires { IsHeld query.now.arena.now id }
     ensures { IfOk result (λ answer. answer ≡ list_any (holds_by query.now formula.now) (parent_element (seen_by query.now) id.index)) }
@@ -321,7 +378,6 @@ fn holds_of_parent(formula: &Formula, query: &Query<'_>, id: NodeId) -> Result<b
 }
 
 /// Returns true if the condition holds for some element in this relation to an element.
-#[cycle(holds)]
 pub(crate) fn holds_along(
     formula: &Formula,
     query: &Query<'_>,

@@ -1,13 +1,14 @@
 //! Parses selectors (Selectors Level 4, sections 4.1 and 17). Each combinator becomes a relation: backwards or, inside `:has()`, forwards.
-ghost use Rattle.std.specs.Prelude.{◌≡◌, ◌-◌, ◌==◌, [], ◌∷◌, IfErr, IfNone, IfOk, MatchOption, MatchResult, None, OnOk, Some, bytes_eq, codes, false, length, map, option_map, string_bytes, true};
+ghost use Rattle.std.specs.Prelude.{◌≡◌, ◌-◌, ◌==◌, ◌&&◌, [], ◌∷◌, ◌++◌, IfErr, IfNone, IfOk, MatchOption, MatchResult, None, OnOk, Some, bytes_eq, codes, false, if◌then◌else◌, length, map, option_map, option_to_list, string_bytes, true};
 ghost use Rattle.std.specs.Str.{chars};
-ghost use Rattle.h5_selectors.specs.Asking.{AskAnd, AskLeads, AskNot, AskNth, AskNthOfType, AskOr, asked, back, both, combinator_at, end_child, first, forth, function_of, leading_at, plain_of, sign_at, type_at};
-ghost use Rattle.h5_selectors.specs.Counting.{Found};
-ghost use Rattle.h5_selectors.specs.Fault.{IsWithin, Tells};
-ghost use Rattle.h5_selectors.specs.Grammar.{arguments_within, asked_too, backwards, both_if, commas_at, complex_at, compound_at, forwards, function_at, joined_last, link_asked, links_at, list_at, list_or_none_at, most_parts, nth_child_at, of_at, pseudo_class_at, relative_at, selector_at, selectors_of, simple_at, simples_at, top_at};
-ghost use Rattle.h5_selectors.specs.Reads.{Fails, Lacks, Reads, Takes};
+ghost use Rattle.h5_selectors.specs.Asking.{AskAnd, AskLeads, AskNot, AskNth, AskNthOfType, AskOr, asked, back, behind_any_namespace, both, combinator_at, end_child, first, forth, function_of, has_any_namespace, leading_at, plain_of, prefixed_type_at, problem_of, sign_at, type_at, unprefixed_type_at};
+ghost use Rattle.h5_selectors.specs.Counting.{taken};
+ghost use Rattle.h5_selectors.specs.Fault.{Found, IsWithin, Tells};
+ghost use Rattle.h5_selectors.specs.Grammar.{all_of, any_of, arguments_within, backwards, both_if, commas_at, complex_at, compound_at, forgiven_at, forgiving_list_at, forwards, function_at, is_limit, is_selector_end, item_at, left_out, link_asked, links_at, list_at, most_parts, nth_child_at, of_at, plain_by, pseudo_class_at, relative_at, selector_at, selectors_of, simple_at, simples_at, top_at};
+ghost use Rattle.h5_selectors.specs.Reads.{Fails, Reads, Takes};
 ghost use Rattle.h5_selectors.specs.Tokens.{behind_blanks, named_at, reading};
-ghost use Rattle.h5_selectors.specs.declared.fault.Refusal.TheVariants.{TooLong};
+ghost use Rattle.h5_selectors.specs.declared.fault.Refusal.TheVariants.{Invalid};
+ghost use Rattle.h5_selectors.specs.declared.fault.SelectorProblem.TheVariants.{TooLong};
 ghost use Rattle.h5_selectors.specs.declared.formula.Side.TheVariants.{First, Last};
 
 use super::attributes::written;
@@ -19,6 +20,9 @@ use std::alloc::{AllocError, Global};
 // The greatest number of parts of a selector, including nested selectors: a compound selector is one, and so is each id, class, attribute
 // and pseudo-class in it.
 const MOST_PARTS: u32 = 1000;
+
+// The greatest number of pseudo-classes with arguments in each other.
+const MOST_LEVELS: u32 = 32;
 
 const FIRST: AnPlusB = AnPlusB {
     step: 0,
@@ -43,10 +47,10 @@ fn negated(alloc: Global, formula: Formula) -> Result<Formula, AllocError>
 fn both(alloc: Global, one: Formula, other: Formula) -> Result<Formula, AllocError>
     ensures { IfOk result (λ made. asked made ≡ both (asked one) (asked other)) }
 {
-    match one {
-        Formula::Any => Ok(other),
-        _ => Ok(Formula::And(boxed(alloc, one)?, boxed(alloc, other)?)),
+    if let Formula::Any = &one {
+        return Ok(other);
     }
+    Ok(Formula::And(boxed(alloc, one)?, boxed(alloc, other)?))
 }
 
 fn either(alloc: Global, one: Formula, other: Formula) -> Result<Formula, AllocError>
@@ -108,10 +112,44 @@ impl Combinator {
 }
 
 impl<'a> Scan<'a> {
-    // A type selector or `*`, if there is one.
-    #[tactic(auto, unfolding(crate::specs::Asking::type_at))]
-    fn type_or_any(&mut self, alloc: Global) -> Result<Option<Formula>, Refusal>
-        ensures { Reads (option_map asked) result self.new.rest.now (type_at self.old.rest.now) }
+    // Skips `*|`, the prefix of any namespace, and returns true if it is there.
+    fn skip_any_namespace(&mut self) -> bool
+        ensures found { result ≡ has_any_namespace self.old.rest.now }
+        ensures rest { self.new.rest.now ≡ (if has_any_namespace self.old.rest.now then behind_any_namespace self.old.rest.now else self.old.rest.now) }
+    {
+        let mut scan = *self;
+        if !scan.take('*') {
+            return false;
+        }
+        scan.skip_comments();
+        if !scan.take('|') {
+            return false;
+        }
+        scan.skip_comments();
+        *self = scan;
+        true
+    }
+
+    // A type selector or `*`, which a prefix requires.
+    #[tactic(auto, unfolding(crate::specs::Asking::prefixed_type_at))]
+    fn prefixed_type(&mut self, alloc: Global) -> Result<Option<Formula>, Refusal>
+        ensures { Reads (option_map asked) result self.new.rest.now (prefixed_type_at self.old.rest.now) }
+    {
+        if self.is_at_name() {
+            let name = self.name_rest(alloc)?;
+            self.no_namespace()?;
+            return Ok(Some(Formula::Name(written(alloc, name.as_str())?)));
+        }
+        if self.take('*') {
+            return Ok(Some(Formula::Any));
+        }
+        Err(self.refusal(SelectorProblem::Name))
+    }
+
+    // A type selector or `*` without a prefix, if there is one.
+    #[tactic(auto, unfolding(crate::specs::Asking::unprefixed_type_at))]
+    fn unprefixed_type(&mut self, alloc: Global) -> Result<Option<Formula>, Refusal>
+        ensures { Reads (option_map asked) result self.new.rest.now (unprefixed_type_at self.old.rest.now) }
     {
         if self.is_at_name() {
             let name = self.name_rest(alloc)?;
@@ -123,6 +161,17 @@ impl<'a> Scan<'a> {
             return Ok(Some(Formula::Any));
         }
         Ok(None)
+    }
+
+    // A type selector or `*`, if there is one.
+    #[tactic(auto, unfolding(crate::specs::Asking::type_at))]
+    fn type_or_any(&mut self, alloc: Global) -> Result<Option<Formula>, Refusal>
+        ensures { Reads (option_map asked) result self.new.rest.now (type_at self.old.rest.now) }
+    {
+        if self.skip_any_namespace() {
+            return self.prefixed_type(alloc);
+        }
+        self.unprefixed_type(alloc)
     }
 
     // `>`, `+` or `~`, with the whitespace after it, if there is one.
@@ -171,22 +220,18 @@ impl<'a> Scan<'a> {
         }
     }
 
-    // The name of a pseudo-class, which begins at `begin`.
-    #[tactic(auto, unfolding(crate::specs::Tokens::named_at))]
-    fn pseudo_name(&mut self, alloc: Global, begin: Scan<'a>) -> Result<String, Refusal>
-        ensures { Reads string_bytes result self.new.rest.now (named_at self.old.rest.now) }
+    // Returns true at the end of a selector in a list of arguments.
+    fn is_selector_end(&self) -> bool
+        ensures { result ≡ is_selector_end self.now.rest.now }
     {
-        if self.peek() == Some(':') {
-            return Err(begin.refusal(SelectorProblem::PseudoElement));
-        }
-        self.name(alloc)
+        matches!(self.peek(), Some(',' | ')') | None)
     }
 }
 
 // The condition of a pseudo-class without arguments, by its name in lower case.
 #[tactic(auto, unfolding(crate::specs::Asking::plain_of))]
 fn plain(alloc: Global, name: &str, begin: Scan<'_>) -> Result<Formula, Refusal>
-    ensures { MatchResult result (λ made. plain_of name.now ≡ Some (asked made)) (λ refusal. Fails refusal (plain_of name.now)) }
+    ensures { MatchResult result (λ made. plain_of name.now ≡ Some (asked made)) (λ refusal. Fails refusal (plain_by name.now (length begin.entry.rest.now) (plain_of name.now))) }
 {
     match name {
         "root" => Ok(Formula::Root),
@@ -226,6 +271,27 @@ fn only_of_type(alloc: Global) -> Result<Formula, AllocError>
     )
 }
 
+// A list of a condition, or an empty one.
+fn listed(alloc: Global, formula: Option<Formula>) -> Result<Vec<Formula>, AllocError>
+    ensures { IfOk result (λ list. map asked list.items ≡ option_to_list (option_map asked formula)) }
+{
+    let mut list = Vec::new(alloc);
+    if let Some(formula) = formula {
+        list.push(formula)?;
+    }
+    Ok(list)
+}
+
+// Adds a condition to a list, if there is one.
+fn add(list: &mut Vec<Formula>, formula: Option<Formula>) -> Result<(), AllocError>
+    ensures { OnOk result (map asked list.new.items ≡ map asked list.old.items ++ option_to_list (option_map asked formula)) }
+{
+    if let Some(formula) = formula {
+        list.push(formula)?;
+    }
+    Ok(())
+}
+
 // A pseudo-class with arguments.
 #[derive(Clone, Copy)]
 enum Function {
@@ -260,14 +326,41 @@ fn is_of(name: &[char]) -> bool
     matches!(name, ['o', 'f'])
 }
 
-// The condition, and the one before it, if there is one.
-fn asked_too(alloc: Global, before: Option<Formula>, next: Formula) -> Result<Formula, AllocError>
-    ensures { IfOk result (λ made. asked made ≡ asked_too (option_map asked before) (asked next)) }
+// All of some conditions. From the last on, so that the depth is that of the second of two.
+fn all_of(alloc: Global, list: Vec<Formula>) -> Result<Formula, AllocError>
+    ensures { IfOk result (λ made. asked made ≡ all_of (map asked list.items)) }
 {
-    match before {
-        Some(before) => both(alloc, before, next),
-        None => Ok(next),
+    let mut list = list;
+    let Some(last) = list.pop() else {
+        return Ok(Formula::Any);
+    };
+    let mut all = last;
+    while let Some(one) = list.pop() {
+        all = both(alloc, one, all)?;
     }
+    Ok(all)
+}
+
+// One of some conditions. Without one, nothing is matched.
+fn any_of(alloc: Global, list: Vec<Formula>) -> Result<Formula, AllocError>
+    ensures { IfOk result (λ made. asked made ≡ any_of (map asked list.items)) }
+{
+    let mut list = list;
+    let Some(last) = list.pop() else {
+        return negated(alloc, Formula::Any);
+    };
+    let mut all = last;
+    while let Some(one) = list.pop() {
+        all = either(alloc, one, all)?;
+    }
+    Ok(all)
+}
+
+// Returns true for a problem that isn't forgiven.
+fn is_limit(problem: SelectorProblem) -> bool
+    ensures { result ≡ is_limit problem }
+{
+    matches!(problem, SelectorProblem::TooLong | SelectorProblem::TooDeep)
 }
 
 // The condition, and the other one, if there is one.
@@ -330,16 +423,26 @@ struct Parser<'a> {
 
 impl<'a> Parser<'a> {
     fn count_part(&mut self) -> Result<(), Refusal>
-        ensures refused { IfErr result (λ refusal. (refusal ≡ TooLong (length self.old.scan.rest.now)) × ((self.old.parts == 0) ≡ true)) }
+        ensures refused { IfErr result (λ refusal. (refusal ≡ Invalid (length self.old.scan.rest.now) TooLong) × ((self.old.parts == 0) ≡ true)) }
         ensures counted { OnOk result ((self.old.parts == 0) ≡ false) }
         ensures parts { OnOk result (self.new.parts ≡ self.old.parts - 1) }
         ensures scan { self.new.scan ≡ self.old.scan }
     {
         if self.parts == 0 {
-            return Err(self.scan.too_long());
+            return Err(self.scan.refusal(SelectorProblem::TooLong));
         }
         self.parts -= 1;
         Ok(())
+    }
+
+    // Skips a selector that is left out, which begins at `begin`, with its parts.
+    fn leave_out(&mut self, begin: Scan<'a>, parts: u32) -> Result<Option<Formula>, Refusal>
+        ensures { Takes (λ found. option_to_list (option_map asked found)) result self.new.parts self.new.scan.rest.now (left_out parts begin.entry.rest.now) }
+    {
+        self.scan = begin;
+        self.parts = parts;
+        self.scan.skip_values(self.alloc)?;
+        Ok(None)
     }
 
     // The arguments of a pseudo-class, which begins at `begin`.
@@ -351,10 +454,10 @@ impl<'a> Parser<'a> {
         begin: Scan<'a>,
         nesting: Nesting,
     ) -> Result<Formula, Refusal>
-        ensures { Takes asked result self.new.parts self.new.scan.rest.now (arguments_within nesting.room nesting.is_in_has function self.old.parts self.old.scan.rest.now) }
+        ensures { Takes asked result self.new.parts self.new.scan.rest.now (arguments_within nesting.room nesting.is_in_has function (length begin.entry.rest.now) self.old.parts self.old.scan.rest.now) }
     {
         if nesting.room == 0 {
-            return Err(begin.too_long());
+            return Err(begin.refusal(SelectorProblem::TooDeep));
         }
         let inner = Nesting {
             room: nesting.room - 1,
@@ -365,7 +468,7 @@ impl<'a> Parser<'a> {
                 let list = self.list(false, inner)?;
                 Ok(negated(self.alloc, list)?)
             }
-            Function::Is => self.list_or_none(inner),
+            Function::Is => self.forgiving_list(inner),
             Function::Has if nesting.is_in_has => Err(begin.refusal(SelectorProblem::NestedHas)),
             Function::Has => self.list(
                 true,
@@ -419,13 +522,13 @@ impl<'a> Parser<'a> {
         begin: Scan<'a>,
         nesting: Nesting,
     ) -> Result<Formula, Refusal>
-        ensures { Takes asked result self.new.parts self.new.scan.rest.now (function_at (arguments_within nesting.room nesting.is_in_has) name.now self.old.parts self.old.scan.rest.now) }
+        ensures { Takes asked result self.new.parts self.new.scan.rest.now (function_at (arguments_within nesting.room nesting.is_in_has) name.now (length begin.entry.rest.now) self.old.parts self.old.scan.rest.now) }
     {
         let Some(function) = function_of(name) else {
             return Err(begin.refusal(SelectorProblem::PseudoClass));
         };
         let formula = self.arguments(function, begin, nesting)?;
-        self.scan.close(')')?;
+        self.scan.close(')', SelectorProblem::Rest)?;
         Ok(formula)
     }
 
@@ -433,9 +536,12 @@ impl<'a> Parser<'a> {
     #[cycle(parse)]
     #[tactic(auto, unfolding(crate::specs::Grammar::pseudo_class_at))]
     fn pseudo_class(&mut self, begin: Scan<'a>, nesting: Nesting) -> Result<Formula, Refusal>
-        ensures { Takes asked result self.new.parts self.new.scan.rest.now (pseudo_class_at (arguments_within nesting.room nesting.is_in_has) self.old.parts self.old.scan.rest.now) }
+        ensures { Takes asked result self.new.parts self.new.scan.rest.now (pseudo_class_at (arguments_within nesting.room nesting.is_in_has) (length begin.entry.rest.now) self.old.parts self.old.scan.rest.now) }
     {
-        let name = self.scan.pseudo_name(self.alloc, begin)?;
+        if self.scan.peek() == Some(':') {
+            return Err(begin.refusal(SelectorProblem::PseudoElement));
+        }
+        let name = self.scan.name_or(self.alloc, SelectorProblem::Name)?;
         let lower = name.as_str().to_ascii_lowercase(self.alloc)?;
         if self.scan.take('(') {
             return self.function(lower.as_str(), begin, nesting);
@@ -456,34 +562,36 @@ impl<'a> Parser<'a> {
         if !matches!(c, '#' | '.' | '[' | ':') {
             return Ok(None);
         }
-        self.scan.skip();
         self.count_part()?;
+        self.scan.skip();
         let formula = match c {
-            '#' => Formula::Id(self.scan.name(self.alloc)?),
-            '.' => Formula::Class(self.scan.name(self.alloc)?),
+            '#' => Formula::Id(self.scan.name_or(self.alloc, SelectorProblem::Name)?),
+            '.' => {
+                self.scan.skip_comments();
+                Formula::Class(self.scan.name_or(self.alloc, SelectorProblem::Name)?)
+            }
             '[' => Formula::Attr(self.scan.attribute(self.alloc)?),
-            _ => self.pseudo_class(begin, nesting)?,
+            _ => {
+                self.scan.skip_comments();
+                self.pseudo_class(begin, nesting)?
+            }
         };
         Ok(Some(formula))
     }
 
-    // All ids, classes, attributes and pseudo-classes that follow, with the condition before them.
+    // The type, if there is one, and all ids, classes, attributes and pseudo-classes that follow.
     #[cycle(parse)]
-    fn simples(
-        &mut self,
-        before: Option<Formula>,
-        nesting: Nesting,
-    ) -> Result<Option<Formula>, Refusal>
-        ensures { Takes (option_map asked) result self.new.parts self.new.scan.rest.now
-            (simples_at (arguments_within nesting.room nesting.is_in_has) (option_map asked before) self.old.parts self.old.scan.rest.now) }
+    fn simples(&mut self, begun: Option<Formula>, nesting: Nesting) -> Result<Vec<Formula>, Refusal>
+        ensures { Takes (λ all. map asked all.items) result self.new.parts self.new.scan.rest.now
+            (simples_at (arguments_within nesting.room nesting.is_in_has) (option_to_list (option_map asked begun)) self.old.parts self.old.scan.rest.now) }
     {
-        let mut all = before;
+        let mut all = listed(self.alloc, begun)?;
         for _step in 0..self.scan.rest.len() {
             self.scan.skip_comments();
             let Some(next) = self.simple(nesting)? else {
                 return Ok(all);
             };
-            all = Some(asked_too(self.alloc, all, next)?);
+            all.push(next)?;
         }
         Ok(all)
     }
@@ -496,10 +604,11 @@ impl<'a> Parser<'a> {
     {
         self.count_part()?;
         let begun = self.scan.type_or_any(self.alloc)?;
-        match self.simples(begun, nesting)? {
-            Some(all) => Ok(all),
-            None => Err(self.scan.refusal(SelectorProblem::Selector)),
+        let all = self.simples(begun, nesting)?;
+        if all.is_empty() {
+            return Err(self.scan.refusal(SelectorProblem::Selector));
         }
+        Ok(all_of(self.alloc, all)?)
     }
 
     // Combinators, each followed by a compound selector.
@@ -558,28 +667,6 @@ impl<'a> Parser<'a> {
         self.complex(nesting)
     }
 
-    // The selectors after the first, each after a comma.
-    #[cycle(parse)]
-    fn others(
-        &mut self,
-        first: Formula,
-        is_relative: bool,
-        nesting: Nesting,
-    ) -> Result<Formula, Refusal>
-        ensures { Takes asked result self.new.parts self.new.scan.rest.now (commas_at AskOr (selector_at (arguments_within nesting.room nesting.is_in_has) is_relative)
-            (asked first) self.old.parts self.old.scan.rest.now) }
-    {
-        let mut all = first;
-        for _step in 0..self.scan.rest.len() {
-            if !self.scan.take(',') {
-                return Ok(all);
-            }
-            let next = self.selector(is_relative, nesting)?;
-            all = either(self.alloc, all, next)?;
-        }
-        Ok(all)
-    }
-
     // A list of selectors, separated by commas.
     #[cycle(parse)]
     #[tactic(auto, unfolding(crate::specs::Grammar::list_at))]
@@ -587,33 +674,102 @@ impl<'a> Parser<'a> {
         ensures { Takes asked result self.new.parts self.new.scan.rest.now (list_at (arguments_within nesting.room nesting.is_in_has) is_relative self.old.parts self.old.scan.rest.now) }
     {
         let first = self.selector(is_relative, nesting)?;
-        self.others(first, is_relative, nesting)
+        let all = self.others(first, is_relative, nesting)?;
+        Ok(any_of(self.alloc, all)?)
     }
 
-    // A list of selectors, which may be empty.
+    // A selector, and those that follow, each after a comma.
     #[cycle(parse)]
-    #[tactic(auto, unfolding(crate::specs::Grammar::list_or_none_at))]
-    fn list_or_none(&mut self, nesting: Nesting) -> Result<Formula, Refusal>
-        ensures { Takes asked result self.new.parts self.new.scan.rest.now (list_or_none_at (arguments_within nesting.room nesting.is_in_has) self.old.parts self.old.scan.rest.now) }
+    fn others(
+        &mut self,
+        first: Formula,
+        is_relative: bool,
+        nesting: Nesting,
+    ) -> Result<Vec<Formula>, Refusal>
+        ensures { Takes (λ all. map asked all.items) result self.new.parts self.new.scan.rest.now
+            (commas_at (item_at (arguments_within nesting.room nesting.is_in_has) is_relative) (asked first ∷ []) self.old.parts self.old.scan.rest.now) }
     {
-        self.scan.skip_blanks();
-        if self.scan.peek() == Some(')') {
-            return Ok(negated(self.alloc, Formula::Any)?);
+        let mut all = Vec::new(self.alloc);
+        all.push(first)?;
+        for _step in 0..self.scan.rest.len() {
+            if !self.scan.take(',') {
+                return Ok(all);
+            }
+            let next = self.selector(is_relative, nesting)?;
+            all.push(next)?;
         }
-        self.list(false, nesting)
+        Ok(all)
+    }
+
+    // A selector of a forgiving list. One that is invalid is left out, with its parts.
+    #[cycle(parse)]
+    #[tactic(auto, unfolding(crate::specs::Grammar::forgiven_at))]
+    fn forgiven(&mut self, nesting: Nesting) -> Result<Option<Formula>, Refusal>
+        ensures { Takes (λ found. option_to_list (option_map asked found)) result self.new.parts self.new.scan.rest.now
+            (forgiven_at (arguments_within nesting.room nesting.is_in_has) self.old.parts self.old.scan.rest.now) }
+    {
+        let begin = self.scan;
+        let parts = self.parts;
+        match self.complex(nesting) {
+            Ok(found) => {
+                if self.scan.is_selector_end() {
+                    return Ok(Some(found));
+                }
+                self.leave_out(begin, parts)
+            }
+            Err(Refusal::Invalid { left, problem }) => {
+                if is_limit(problem) {
+                    return Err(Refusal::Invalid { left, problem });
+                }
+                self.leave_out(begin, parts)
+            }
+            Err(Refusal::Memory) => Err(Refusal::Memory),
+        }
+    }
+
+    // A forgiving list of selectors, which may be empty.
+    #[cycle(parse)]
+    #[tactic(auto, unfolding(crate::specs::Grammar::forgiving_list_at))]
+    fn forgiving_list(&mut self, nesting: Nesting) -> Result<Formula, Refusal>
+        ensures { Takes asked result self.new.parts self.new.scan.rest.now (forgiving_list_at (arguments_within nesting.room nesting.is_in_has) self.old.parts self.old.scan.rest.now) }
+    {
+        let first = self.forgiven(nesting)?;
+        let all = self.others_forgiven(first, nesting)?;
+        Ok(any_of(self.alloc, all)?)
+    }
+
+    // A selector, if it is valid, and those that follow, each after a comma.
+    #[cycle(parse)]
+    fn others_forgiven(
+        &mut self,
+        first: Option<Formula>,
+        nesting: Nesting,
+    ) -> Result<Vec<Formula>, Refusal>
+        ensures { Takes (λ all. map asked all.items) result self.new.parts self.new.scan.rest.now
+            (commas_at (forgiven_at (arguments_within nesting.room nesting.is_in_has)) (option_to_list (option_map asked first)) self.old.parts self.old.scan.rest.now) }
+    {
+        let mut all = listed(self.alloc, first)?;
+        for _step in 0..self.scan.rest.len() {
+            if !self.scan.take(',') {
+                return Ok(all);
+            }
+            let next = self.forgiven(nesting)?;
+            add(&mut all, next)?;
+        }
+        Ok(all)
     }
 }
 
 // The place of a selector that isn't nested.
 const TOP: Nesting = Nesting {
-    room: MOST_PARTS,
+    room: MOST_LEVELS,
     is_in_has: false,
 };
 
 // The selectors after the first, each after a comma. Each has its own number of parts.
 fn more_selectors(parser: &mut Parser<'_>, first: Formula) -> Result<Vec<Formula>, Refusal>
     ensures { Takes (λ list. map asked list.items) result parser.new.parts parser.new.scan.rest.now
-        (commas_at joined_last top_at (asked first ∷ []) parser.old.parts parser.old.scan.rest.now) }
+        (commas_at top_at (asked first ∷ []) parser.old.parts parser.old.scan.rest.now) }
 {
     let mut list = Vec::new(parser.alloc);
     list.push(first)?;
@@ -630,7 +786,7 @@ fn more_selectors(parser: &mut Parser<'_>, first: Formula) -> Result<Vec<Formula
 // The selectors of a whole text.
 #[tactic(auto, unfolding(crate::specs::Grammar::selectors_of))]
 fn selectors(alloc: Global, characters: &[char]) -> Result<Vec<Formula>, Refusal>
-    ensures { MatchResult result (λ list. selectors_of characters.now ≡ Found (map asked list.items)) (λ refusal. Lacks refusal (selectors_of characters.now)) }
+    ensures { MatchResult result (λ list. selectors_of characters.now ≡ Found (map asked list.items)) (λ refusal. Fails refusal (selectors_of characters.now)) }
 {
     let mut parser = Parser {
         scan: Scan { rest: characters },
@@ -652,12 +808,13 @@ fn characters_of(alloc: Global, text: &str) -> Result<Vec<char>, AllocError>
     text.chars().collect(alloc)
 }
 
-/// Parses a list of selectors (Selectors Level 4, section 17, "Grammar"). Fails with `Invalid` if the text isn't one; the problem is
-/// `TooLong` exactly if a selector has more than 1,000 parts before anything else is wrong. Fails with `Memory` if an allocation fails.
+/// Parses a list of selectors (Selectors Level 4, section 17, "Grammar"). Fails with `Invalid` if the text isn't one, or if a selector has
+/// more than 1,000 parts or 32 levels: with the first problem that the grammar has for the text, and its offset. Fails with `Memory` if an
+/// allocation fails.
 pub fn parse(alloc: Global, text: &str) -> Result<Vec<Formula>, SelectorError>
     ensures selectors { IfOk result (λ list. selectors_of (chars text.now) ≡ Found (map asked list.items)) }
     ensures place { IfErr result (IsWithin (length (chars text.now))) }
-    ensures fault { IfErr result (λ fault. Tells fault (selectors_of (chars text.now))) }
+    ensures fault { IfErr result (λ fault. Tells (length (chars text.now)) fault (selectors_of (chars text.now))) }
 {
     let Ok(characters) = characters_of(alloc, text) else {
         return Err(SelectorError::Memory);

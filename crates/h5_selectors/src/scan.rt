@@ -1,11 +1,11 @@
 //! Reads names, strings and numbers at the start of a text (CSS Syntax Level 3, section 4.3).
-ghost use Rattle.std.specs.Prelude.{◌≡◌, ◌≤◌, [], ◌∷◌, ◌++◌, ◌&&◌, if◌then◌else◌, IfNone, IfOk, MatchOption, OnOk, drop, length, map, option_to_list, slice_get, string_bytes};
+ghost use Rattle.std.specs.Prelude.{◌≡◌, ◌≤◌, ◌==◌, [], ◌∷◌, ◌++◌, ◌&&◌, ◌||◌, if◌then◌else◌, IfNone, IfOk, MatchOption, OnOk, drop, length, map, option_to_list, reverse, slice_get, string_bytes};
 ghost use Rattle.std.specs.Char.{to_ascii_lowercase};
 ghost use Rattle.std.specs.Str.{encode_utf8_all};
 ghost use Rattle.std.specs.Bool.{OnFalse};
 ghost use Rattle.h5_selectors.specs.Reads.{Reads};
-ghost use Rattle.h5_selectors.specs.Tokens.{appended, begins_name, begins_with, behind_blank, behind_blanks, behind_comment, behind_comments, blank_at, char_of, closed_at, comment_at, cleaned, digit_at, escape_at, is_at_name, is_blank, is_in_name, is_newline, is_spaced, name_at, name_piece_at, named_at, number_at, number_within, pieces, reading, string_at, string_piece_at, unqualified_at};
-ghost use Rattle.h5_selectors.specs.declared.fault.Refusal.TheVariants.{Invalid, TooLong};
+ghost use Rattle.h5_selectors.specs.Tokens.{appended, begins, begins_name, begins_with, behind_blank, behind_blanks, behind_comment, behind_comments, blank_at, char_of, closed_at, comment_at, cleaned, digit_at, escape_at, is_at_name, is_blank, is_escape, is_in_name, is_newline, is_spaced, behind_string, behind_values, closing_of, component_at, ends, missing_behind, name_at, name_piece_at, named_or, number_at, number_within, pieces, reading, string_at, string_piece_at, unqualified_at};
+ghost use Rattle.h5_selectors.specs.declared.fault.Refusal.TheVariants.{Invalid};
 
 use super::fault::{Refusal, SelectorProblem};
 use std::alloc::{AllocError, Global};
@@ -91,6 +91,51 @@ fn push_piece(text: &mut String, piece: Option<char>) -> Result<(), AllocError>
     Ok(())
 }
 
+pub(crate) fn is_quote(c: char) -> bool
+    ensures { result ≡ (c == 34 || c == 39) }
+{
+    matches!(c, '"' | '\'')
+}
+
+// Returns true for a character that ends component values outside of all brackets.
+fn is_component_end(c: char) -> bool
+    ensures { result ≡ (c == 44 || c == 41) }
+{
+    matches!(c, ',' | ')')
+}
+
+fn begins_newline(text: &[char]) -> bool
+    ensures { result ≡ begins is_newline text.now }
+{
+    text.first().is_some_and(|c| is_newline(*c))
+}
+
+// The bracket that closes a bracket.
+fn closing_of(c: char) -> Option<char>
+    ensures { result ≡ closing_of c }
+{
+    match c {
+        '(' => Some(')'),
+        '[' => Some(']'),
+        '{' => Some('}'),
+        _ => None,
+    }
+}
+
+// Adds the bracket that an opening bracket misses, and removes the last one that is missing if it is found.
+fn note_bracket(missing: &mut Vec<char>, c: char) -> Result<(), AllocError>
+    ensures { OnOk result (reverse missing.new.items ≡ missing_behind c (reverse missing.old.items)) }
+{
+    if missing.last().copied() == Some(c) {
+        missing.pop();
+        return Ok(());
+    }
+    if let Some(closing) = closing_of(c) {
+        missing.push(closing)?;
+    }
+    Ok(())
+}
+
 impl<'a> Scan<'a> {
     pub(crate) fn peek(&self) -> Option<char>
         ensures { result ≡ slice_get self.now.rest.now 0 }
@@ -117,6 +162,14 @@ impl<'a> Scan<'a> {
             return true;
         }
         false
+    }
+
+    /// Skips the first character if it is this one, and returns true if it is, or at the end.
+    pub(crate) fn take_or_end(&mut self, wanted: char) -> bool
+        ensures found { result ≡ ends wanted self.old.rest.now }
+        ensures rest { self.new.rest.now ≡ (if ends wanted self.old.rest.now then drop 1 self.old.rest.now else self.old.rest.now) }
+    {
+        self.rest.is_empty() || self.take(wanted)
     }
 
     // Skips a comment, if there is one, and returns true if there is.
@@ -296,7 +349,7 @@ impl<'a> Scan<'a> {
         Ok(name)
     }
 
-    // Reads a character or an escape of a string, or a newline after a `\`, which has no character.
+    // Reads a character or an escape of a string, or a `\` before a newline or the end, which has no character.
     fn string_piece(&mut self, quote: char) -> Option<Option<char>>
         ensures piece { MatchOption result (string_piece_at quote self.old.rest.now ≡ None) (λ c. string_piece_at quote self.old.rest.now ≡ Some (reading (option_to_list c) self.new.rest.now)) }
         ensures none { IfNone result (self.new.rest.now ≡ self.old.rest.now) }
@@ -310,7 +363,10 @@ impl<'a> Scan<'a> {
                 self.rest = rest;
                 Some(None)
             }
-            ['\\'] => None,
+            ['\\'] => {
+                self.rest = &[];
+                Some(None)
+            }
             ['\\', rest @ ..] => {
                 self.rest = rest;
                 Some(Some(self.escaped()))
@@ -338,20 +394,16 @@ impl<'a> Scan<'a> {
         Ok(text)
     }
 
-    /// Reads a string from after its quote. Returns `None` if it contains a newline or isn't closed.
+    /// Reads a string from after its quote to the other quote, or to the end.
     #[tactic(auto, unfolding(crate::specs::Tokens::string_at))]
-    pub(crate) fn string(
-        &mut self,
-        alloc: Global,
-        quote: char,
-    ) -> Result<Option<String>, AllocError>
-        ensures { IfOk result (λ text. MatchOption text (string_at quote self.old.rest.now ≡ None) (λ text. string_at quote self.old.rest.now ≡ Some (reading (string_bytes text) self.new.rest.now))) }
+    pub(crate) fn string(&mut self, alloc: Global, quote: char) -> Result<String, Refusal>
+        ensures { Reads string_bytes result self.new.rest.now (string_at quote self.old.rest.now) }
     {
         let text = self.string_body(alloc, quote)?;
-        if self.take(quote) {
-            return Ok(Some(text));
+        if self.take_or_end(quote) {
+            return Ok(text);
         }
-        Ok(None)
+        Err(self.refusal(SelectorProblem::Unclosed))
     }
 
     /// Reads decimal digits, if there are any. The number is at most the greatest one.
@@ -372,22 +424,17 @@ impl<'a> Scan<'a> {
         }
     }
 
-    /// The refusal of too many parts at the current place.
-    pub(crate) fn too_long(&self) -> Refusal
-        ensures { result ≡ TooLong (length self.now.rest.now) }
-    {
-        Refusal::TooLong {
-            left: self.rest.len(),
-        }
-    }
-
-    /// Reads a name, which must follow.
-    #[tactic(auto, unfolding(crate::specs::Tokens::named_at))]
-    pub(crate) fn name(&mut self, alloc: Global) -> Result<String, Refusal>
-        ensures { Reads string_bytes result self.new.rest.now (named_at self.old.rest.now) }
+    /// Reads a name. Without one there is this problem.
+    #[tactic(auto, unfolding(crate::specs::Tokens::named_or))]
+    pub(crate) fn name_or(
+        &mut self,
+        alloc: Global,
+        problem: SelectorProblem,
+    ) -> Result<String, Refusal>
+        ensures { Reads string_bytes result self.new.rest.now (named_or problem self.old.rest.now) }
     {
         if !self.is_at_name() {
-            return Err(self.refusal(SelectorProblem::Name));
+            return Err(self.refusal(problem));
         }
         let name = self.name_rest(alloc)?;
         Ok(name)
@@ -405,21 +452,78 @@ impl<'a> Scan<'a> {
         }
     }
 
-    /// Reads a closing bracket: of an attribute or of a pseudo-class.
+    /// Reads a closing bracket, which the end stands for. Without one there is this problem.
     #[tactic(auto, unfolding(crate::specs::Tokens::closed_at))]
-    pub(crate) fn close(&mut self, bracket: char) -> Result<(), Refusal>
-        ensures { Reads (λ _. tt) result self.new.rest.now (closed_at bracket self.old.rest.now) }
+    pub(crate) fn close(&mut self, bracket: char, problem: SelectorProblem) -> Result<(), Refusal>
+        ensures { Reads (λ _. tt) result self.new.rest.now (closed_at bracket problem self.old.rest.now) }
     {
         self.skip_blanks();
-        if self.take(bracket) {
+        if self.take_or_end(bracket) {
             return Ok(());
         }
-        if self.rest.is_empty() {
-            return Err(self.refusal(SelectorProblem::Unclosed));
+        Err(self.refusal(problem))
+    }
+
+    // Skips a string from after its quote. A newline ends it before the other quote.
+    fn skip_string(&mut self, alloc: Global, quote: char) -> Result<(), AllocError>
+        ensures { OnOk result (self.new.rest.now ≡ behind_string quote self.old.rest.now) }
+    {
+        let _text = self.string_body(alloc, quote)?;
+        self.take(quote);
+        Ok(())
+    }
+
+    // Returns true if an escape follows.
+    fn is_escape(&self) -> bool
+        ensures { result ≡ is_escape self.now.rest.now }
+    {
+        match self.rest {
+            ['\\', behind @ ..] => !begins_newline(behind),
+            _ => false,
         }
-        Err(self.refusal(match bracket {
-            ']' => SelectorProblem::Flag,
-            _ => SelectorProblem::Rest,
-        }))
+    }
+
+    // Skips a comment, an escape, a string or another character of component values, and notes the brackets that are missing after it.
+    // Returns false at their end.
+    fn skip_component(&mut self, alloc: Global, missing: &mut Vec<char>) -> Result<bool, AllocError>
+        ensures found { IfOk result (λ found. component_at (reverse missing.old.items) self.old.rest.now
+            ≡ (if found then Some (reading (reverse missing.new.items) self.new.rest.now) else None)) }
+        ensures none { IfOk result (λ found. OnFalse found (self.new.rest.now ≡ self.old.rest.now)) }
+    {
+        if self.skip_comment() {
+            return Ok(true);
+        }
+        if self.is_escape() {
+            self.skip();
+            let _character = self.escaped();
+            return Ok(true);
+        }
+        let Some(c) = self.peek() else {
+            return Ok(false);
+        };
+        if is_quote(c) {
+            self.skip();
+            self.skip_string(alloc, c)?;
+            return Ok(true);
+        }
+        if missing.is_empty() && is_component_end(c) {
+            return Ok(false);
+        }
+        self.skip();
+        note_bracket(missing, c)?;
+        Ok(true)
+    }
+
+    /// Skips component values, up to a comma or a closing bracket.
+    pub(crate) fn skip_values(&mut self, alloc: Global) -> Result<(), AllocError>
+        ensures { OnOk result (self.new.rest.now ≡ behind_values self.old.rest.now) }
+    {
+        let mut missing = Vec::new(alloc);
+        for _step in 0..self.rest.len() {
+            if !self.skip_component(alloc, &mut missing)? {
+                return Ok(());
+            }
+        }
+        Ok(())
     }
 }

@@ -4,8 +4,7 @@ ghost use Rattle.std.specs.List.{filter};
 ghost use Rattle.std.specs.Str.{chars};
 ghost use Rattle.h5_arena.specs.ArenaModel.{IsHeld, optional_place, place};
 ghost use Rattle.h5_selectors.specs.Asking.{asked};
-ghost use Rattle.h5_selectors.specs.Counting.{Found};
-ghost use Rattle.h5_selectors.specs.Fault.{IsWithin, Tells};
+ghost use Rattle.h5_selectors.specs.Fault.{Found, IsWithin, Tells};
 ghost use Rattle.h5_selectors.specs.Grammar.{selectors_of};
 ghost use Rattle.h5_selectors.specs.Query.{matches_by, seen_by};
 ghost use Rattle.h5_selectors.specs.Ways.{below};
@@ -88,13 +87,19 @@ fn taken(
 
 // Returns true if a selector depends only on the element itself, so that no other rows are needed.
 fn asks_alone(formula: &Formula) -> bool {
-    match formula {
-        Formula::Leads(_, _) | Formula::Nth(_, _, _) | Formula::NthOfType(_, _) => false,
-        Formula::And(one, other) | Formula::Or(one, other) => {
-            asks_alone(&**one) && asks_alone(&**other)
+    let mut at = formula;
+    'further: loop {
+        match at {
+            Formula::Leads(_, _) | Formula::Nth(_, _, _) | Formula::NthOfType(_, _) => return false,
+            Formula::And(one, other) | Formula::Or(one, other) => {
+                if !asks_alone(&**one) {
+                    return false;
+                }
+                at = &**other;
+            }
+            Formula::Not(inner) => at = &**inner,
+            _ => return true,
         }
-        Formula::Not(inner) => asks_alone(&**inner),
-        _ => true,
     }
 }
 
@@ -159,13 +164,14 @@ impl Selector {
     ghost use Rattle.h5_selectors.specs.Selected.{is_match, matching_upwards, selected};
 
     /// Parses a list of selectors, with the meaning that the grammar gives it (Selectors Level 4, section 17, "Grammar"). Fails with
-    /// `Invalid` if the text isn't one; the problem is `TooLong` exactly if a selector has more than 1,000 parts before anything else is
-    /// wrong, and the position, in characters, lies within the text or at its end. A compound selector is a part, and so is each id, class,
-    /// attribute and pseudo-class in it. Fails with `Memory` if an allocation fails.
+    /// `Invalid` if the text isn't one, with the problem that the grammar finds first from left to right, and its position, in characters.
+    /// So the problem is `TooLong` where a selector has more than 1,000 parts, and `TooDeep` at a pseudo-class with arguments that is
+    /// inside of 32 others. A compound selector is a part, and so is each id, class, attribute and pseudo-class in it. Fails with `Memory`
+    /// if an allocation fails.
     pub fn parse(alloc: Global, text: &str) -> Result<Selector, SelectorError>
         ensures selectors { IfOk result (λ selector. selectors_of (chars text.now) ≡ Found (map asked selector)) }
         ensures place { IfErr result (IsWithin (length (chars text.now))) }
-        ensures fault { IfErr result (λ fault. Tells fault (selectors_of (chars text.now))) }
+        ensures fault { IfErr result (λ fault. Tells (length (chars text.now)) fault (selectors_of (chars text.now))) }
     {
         Ok(Selector {
             list: parse(alloc, text)?,

@@ -1,11 +1,11 @@
 //! Tests of a condition on a node and on all elements below it: one pass over their rows for each part of a selector. The table of a part
 //! says for each row if the part holds.
-ghost use Rattle.std.specs.Prelude.{◌≡◌, ◌<◌, ◌≤◌, ◌+◌, ◌∷◌, ◌++◌, [], ◌&&◌, ◌||◌, ℕ, All, Bool, IfOk, IfSome, List, OnOk, Option, cond, false, get_or, length, nat_lt, not, true, vec_len};
+ghost use Rattle.std.specs.Prelude.{◌≡◌, ◌<◌, ◌≤◌, ◌+◌, ◌∷◌, ◌++◌, [], ◌&&◌, ◌||◌, ℕ, All, Bool, IfOk, IfSome, List, OnOk, Option, cond, false, get_or, length, map, nat_lt, not, true, vec_len};
 ghost use Rattle.std.specs.List.{filter, list_any};
 ghost use Rattle.h5_arena.specs.ArenaModel.{IsHeld};
 ghost use Rattle.h5_selectors.specs.Query.{holds_by, matches_by, seen_by};
 ghost use Rattle.h5_selectors.specs.Rows.{AreRows, node_of};
-ghost use Rattle.h5_selectors.specs.Tables.{Counts, CountsAlike, Narrows, Tells, TellsAhead, counted_at, is_nth_by, leads_out, link_to, there, told};
+ghost use Rattle.h5_selectors.specs.Tables.{Counts, CountsAlike, IsTableOf, Narrows, Tells, TellsAhead, counted_at, is_nth_by, leads_out, link_to, stations_of, there, told};
 ghost use Rattle.h5_selectors.specs.Ways.{is_element, led};
 ghost use Rattle.h5_selectors.specs.declared.formula.Formula.{Formula as FormulaAt};
 ghost use Rattle.h5_selectors.specs.declared.formula.Way.TheVariants.{Ancestor, Below, Earlier, Later, Parent};
@@ -470,8 +470,54 @@ fn placed_alike(
     Ok(table)
 }
 
-// The rows of a set for which the condition holds.
-fn narrowed(
+// The conditions after the combinators along a condition, the nearest first.
+fn stations(alloc: Global, formula: &Formula) -> Result<Vec<&Formula>, AllocError>
+    ensures { IfOk result (λ stations. map (λ f. f.now) stations.items ≡ stations_of formula.now) }
+{
+    let mut stations = Vec::new(alloc);
+    let mut at = formula;
+    'onward: loop {
+        match at {
+            Formula::And(_, other) => at = &**other,
+            Formula::Leads(_, inner) => {
+                stations.push(&**inner)?;
+                at = &**inner;
+            }
+            _ => return Ok(stations),
+        }
+    }
+}
+
+// The rows of a set for which one of two conditions holds. The second one may be one of two in turn.
+#[cycle(narrowed)]
+fn narrowed_any(
+    one: &Formula,
+    other: &Formula,
+    query: &Query<'_>,
+    rows: &Rows,
+    set: &[bool],
+) -> Result<Vec<bool>, AllocError>
+    requires rows { AreRows query.now rows.now }
+    requires count { length set.now ≡ length rows.now.ids.items }
+    ensures count { IfOk result (λ table. vec_len table ≡ length rows.now.ids.items) }
+    ensures table { IfOk result (λ table. Narrows (λ n. holds_by query.now one.now n || holds_by query.now other.now n) rows.now set.now table.items) }
+{
+    let first = narrowed(one, query, rows, set)?;
+    let mut left = without(query.alloc, set, first.as_slice())?;
+    let mut at = other;
+    'further: while let Formula::Or(next, last) = at {
+        let taken = narrowed(&**next, query, rows, left.as_slice())?;
+        left = without(query.alloc, left.as_slice(), taken.as_slice())?;
+        at = &**last;
+    }
+    let taken = narrowed(at, query, rows, left.as_slice())?;
+    let rest = without(query.alloc, left.as_slice(), taken.as_slice())?;
+    without(query.alloc, set, rest.as_slice())
+}
+
+// The rows of a set for which a condition without combinators holds.
+#[cycle(narrowed)]
+fn narrowed_alone(
     formula: &Formula,
     query: &Query<'_>,
     rows: &Rows,
@@ -483,25 +529,10 @@ fn narrowed(
     ensures table { IfOk result (λ table. Narrows (holds_by query.now formula.now) rows.now set.now table.items) }
 {
     match formula {
-        Formula::And(one, other) => {
-            let first = narrowed(&**one, query, rows, set)?;
-            narrowed(&**other, query, rows, first.as_slice())
-        }
-        Formula::Or(one, other) => {
-            let first = narrowed(&**one, query, rows, set)?;
-            let rest = without(query.alloc, set, first.as_slice())?;
-            let second = narrowed(&**other, query, rows, rest.as_slice())?;
-            let left = without(query.alloc, rest.as_slice(), second.as_slice())?;
-            without(query.alloc, set, left.as_slice())
-        }
+        Formula::Or(one, other) => narrowed_any(&**one, &**other, query, rows, set),
         Formula::Not(inner) => {
             let taken = narrowed(&**inner, query, rows, set)?;
             without(query.alloc, set, taken.as_slice())
-        }
-        Formula::Leads(way, inner) => {
-            let all = answers(query.alloc, set.len(), true)?;
-            let into = narrowed(&**inner, query, rows, all.as_slice())?;
-            leading(&**inner, query, *way, rows, set, into.as_slice())
         }
         Formula::Nth(indices, side, of) => {
             let all = answers(query.alloc, set.len(), true)?;
@@ -511,6 +542,55 @@ fn narrowed(
         Formula::NthOfType(indices, side) => { placed_alike(query, *indices, *side, rows, set) }
         _ => asked(formula, query, rows, set),
     }
+}
+
+// The rows of a set for which the condition holds. `into` is the table of the condition after the next combinator, if there is one.
+#[cycle(narrowed)]
+fn narrowed_to(
+    formula: &Formula,
+    query: &Query<'_>,
+    rows: &Rows,
+    set: &[bool],
+    into: &[bool],
+) -> Result<Vec<bool>, AllocError>
+    requires rows { AreRows query.now rows.now }
+    requires count { length set.now ≡ length rows.now.ids.items }
+    requires into { IsTableOf query.now rows.now (stations_of formula.now) into.now }
+    ensures count { IfOk result (λ table. vec_len table ≡ length rows.now.ids.items) }
+    ensures table { IfOk result (λ table. Narrows (holds_by query.now formula.now) rows.now set.now table.items) }
+{
+    let mut left = copied(query.alloc, set)?;
+    let mut at = formula;
+    'down: while let Formula::And(one, other) = at {
+        left = narrowed(&**one, query, rows, left.as_slice())?;
+        at = &**other;
+    }
+    if let Formula::Leads(way, inner) = at {
+        return leading(&**inner, query, *way, rows, left.as_slice(), into);
+    }
+    narrowed_alone(at, query, rows, left.as_slice())
+}
+
+// The rows of a set for which the condition holds.
+#[cycle(narrowed)]
+fn narrowed(
+    formula: &Formula,
+    query: &Query<'_>,
+    rows: &Rows,
+    set: &[bool],
+) -> Result<Vec<bool>, AllocError>
+    requires rows { AreRows query.now rows.now }
+    requires count { length set.now ≡ length rows.now.ids.items }
+    ensures count { IfOk result (λ table. vec_len table ≡ length rows.now.ids.items) }
+    ensures table { IfOk result (λ table. Narrows (holds_by query.now formula.now) rows.now set.now table.items) }
+{
+    let mut stations = stations(query.alloc, formula)?;
+    let mut into = Vec::new(query.alloc);
+    'back: while let Some(station) = stations.pop() {
+        let all = answers(query.alloc, set.len(), true)?;
+        into = narrowed_to(station, query, rows, all.as_slice(), into.as_slice())?;
+    }
+    narrowed_to(formula, query, rows, set, into.as_slice())
 }
 
 /// The rows that none of the selectors matches.

@@ -11,7 +11,7 @@ const PAGE: &str =
     "<!DOCTYPE html><ul id=a class=\"x y\"><li>1<li lang=en-GB>2<li><a href=u>3</a></ul><p title=\"one two\">4<p><a>5</a><p>6<b></b>";
 
 // Selectors, and the number of elements of the page that each selects.
-const ROWS: [(&str, usize); 11] = [
+const ROWS: [(&str, usize); 21] = [
     ("li", 3),
     ("ul.x.y#a", 1),
     ("LI[lang|=en]", 1),
@@ -23,6 +23,16 @@ const ROWS: [(&str, usize); 11] = [
     ("ul + p ~ p", 2),
     ("p:has(> a)", 1),
     (":root > :is(head, body):last-of-type", 2),
+    ("p:not([title", 2),
+    ("[title", 1),
+    ("p[title='one two", 1),
+    ("li:is(:lang, [lang='en-GB\\", 1),
+    ("ul./**/x", 1),
+    ("p:/**/last-of-type", 1),
+    (":is(li, ::before, p:hover, a[, b)", 3),
+    (":is(), :where(li:nope(a, (b])), b)", 1),
+    ("p:has(:is(:has(b)))", 0),
+    ("*|li, *|*:root", 4),
 ];
 
 fn check(
@@ -76,4 +86,32 @@ fn an_error_has_its_position(rt: HostRuntime) {
         problem: SelectorProblem::PseudoClass,
     };
     assert!(rt; Selector::parse(rt.alloc(), "p:hover").err() == Some(fault));
+    let fault = SelectorError::Invalid {
+        at: 7,
+        problem: SelectorProblem::Unclosed,
+    };
+    assert!(rt; Selector::parse(rt.alloc(), "[a='b\\'\n").err() == Some(fault));
+}
+
+// A pseudo-class in 32 others is too deep, and 1,000 parts aren't too many.
+#[test]
+fn selectors_have_limits(rt: HostRuntime) -> Result<(), Fail> {
+    let mut nested = String::new(rt.alloc());
+    for _level in 0..33 {
+        nested.push_str(":not(")?;
+    }
+    let fault = SelectorError::Invalid {
+        at: 160,
+        problem: SelectorProblem::TooDeep,
+    };
+    assert!(rt; Selector::parse(rt.alloc(), nested.as_str()).err() == Some(fault));
+    let mut long = String::from_str(rt.alloc(), "p")?;
+    for _part in 1..1000 {
+        long.push_str(">p")?;
+    }
+    let arena = Arena::new(rt.alloc())?;
+    let selector = Selector::parse(rt.alloc(), long.as_str())?;
+    let found = selector.select(&arena, arena.document())?;
+    assert!(rt; found.is_empty());
+    Ok(())
 }

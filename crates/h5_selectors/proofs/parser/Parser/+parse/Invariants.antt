@@ -1,7 +1,7 @@
 -- Nested selectors have less room. A function called at the same place is lower in the grammar.
-use Rattle.std.proofs.Common.{◌≡◌, ◌+◌, ◌-◌, ◌*◌, map, option_map}
-use Rattle.h5_selectors.specs.Asking.{AskOr, asked}
-use Rattle.h5_selectors.specs.Grammar.{arguments_within, comma_next, commas_at, link_asked, link_next, links_at, repeated, selector_at, simple_next, simples_at}
+use Rattle.std.proofs.Common.{◌≡◌, ◌+◌, ◌-◌, ◌*◌, [], ◌∷◌, map, option_map, option_to_list}
+use Rattle.h5_selectors.specs.Asking.{asked}
+use Rattle.h5_selectors.specs.Grammar.{arguments_within, comma_next, commas_at, forgiven_at, item_at, link_asked, link_next, links_at, repeated, simple_next, simples_at}
 use Rattle.h5_selectors.proofs.parser.Parser.+parse.Given as goal
 
 abbrev pub decreases-arguments : goal.decreases-arguments
@@ -43,8 +43,14 @@ decreases-list l = 16 * l.nesting.room + 10
 abbrev pub decreases-of : goal.decreases-of
 decreases-of l = 16 * l.nesting.room + 11
 
-abbrev pub decreases-list_or_none : goal.decreases-list_or_none
-decreases-list_or_none l = 16 * l.nesting.room + 11
+abbrev pub decreases-forgiven : goal.decreases-forgiven
+decreases-forgiven l = 16 * l.nesting.room + 8
+
+abbrev pub decreases-others_forgiven : goal.decreases-others_forgiven
+decreases-others_forgiven l = 16 * l.nesting.room + 9
+
+abbrev pub decreases-forgiving_list : goal.decreases-forgiving_list
+decreases-forgiving_list l = 16 * l.nesting.room + 11
 
 abbrev pub decreases-nth_child : goal.decreases-nth_child
 decreases-nth_child l = 16 * l.nesting.room + 12
@@ -52,7 +58,7 @@ decreases-nth_child l = 16 * l.nesting.room + 12
 abbrev pub invariant-simples-loop-step : goal.invariant-simples-loop-step
 invariant-simples-loop-step l =
     let arguments = arguments_within l.fn.nesting.room l.fn.nesting.is_in_has in
-    repeated (simple_next arguments) (l._step-end - l._step) (option_map asked l.all) l.self.parts l.self.scan.rest.now ≡ simples_at arguments (option_map asked l.fn.before) l.fn.self.parts l.fn.self.scan.rest.now
+    repeated (simple_next arguments) (l._step-end - l._step) (map asked l.all.items) l.self.parts l.self.scan.rest.now ≡ simples_at arguments (option_to_list (option_map asked l.fn.begun)) l.fn.self.parts l.fn.self.scan.rest.now
 
 abbrev pub invariant-links-loop-step : goal.invariant-links-loop-step
 invariant-links-loop-step l =
@@ -61,5 +67,11 @@ invariant-links-loop-step l =
 
 abbrev pub invariant-others-loop-step : goal.invariant-others-loop-step
 invariant-others-loop-step l =
-    let item = selector_at (arguments_within l.fn.nesting.room l.fn.nesting.is_in_has) l.fn.is_relative in
-    repeated (comma_next AskOr item) (l._step-end - l._step) (asked l.all) l.self.parts l.self.scan.rest.now ≡ commas_at AskOr item (asked l.fn.first) l.fn.self.parts l.fn.self.scan.rest.now
+    let item = item_at (arguments_within l.fn.nesting.room l.fn.nesting.is_in_has) l.fn.is_relative in
+    repeated (comma_next item) (l._step-end - l._step) (map asked l.all.items) l.self.parts l.self.scan.rest.now ≡ commas_at item (asked l.fn.first ∷ []) l.fn.self.parts l.fn.self.scan.rest.now
+
+abbrev pub invariant-others_forgiven-loop-step : goal.invariant-others_forgiven-loop-step
+invariant-others_forgiven-loop-step l =
+    let item = forgiven_at (arguments_within l.fn.nesting.room l.fn.nesting.is_in_has) in
+    repeated (comma_next item) (l._step-end - l._step) (map asked l.all.items) l.self.parts l.self.scan.rest.now
+    ≡ commas_at item (option_to_list (option_map asked l.fn.first)) l.fn.self.parts l.fn.self.scan.rest.now
