@@ -95,6 +95,11 @@ static void options(void)
     tree = parsed("<body><noscript><p>x</p></noscript>", HENGARUTO_SCRIPTING);
     CHECK(element(tree, "p") == HENGARUTO_NONE);
     CHECK(has_text(tree, element(tree, "noscript"), "<p>x</p>"));
+    CHECK(gave(html_of(tree, element(tree, "noscript"), 0), "<p>x</p>"));
+    free(tree.bytes);
+    /* A text in noscript stays one: it is escaped again. */
+    tree = parsed("<body><noscript>&lt;img src=x onerror=alert(1)&gt;</noscript>", 0);
+    CHECK(gave(html_of(tree, element(tree, "noscript"), 0), "&lt;img src=x onerror=alert(1)&gt;"));
     free(tree.bytes);
     tree = parsed("<p>x", HENGARUTO_IFRAME_SRCDOC);
     CHECK(hengaruto_quirks(tree.bytes, tree.length) == 0);

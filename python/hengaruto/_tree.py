@@ -108,7 +108,7 @@ class Document:
     """
 
     __slots__ = (
-        "block", "quirks", "_count", "_kinds", "_parents", "_ends", "_texts", "_rows", "_row_names", "_row_ends", "_spaces",
+        "block", "quirks", "scripting", "_count", "_kinds", "_parents", "_ends", "_texts", "_rows", "_row_names", "_row_ends", "_spaces",
         "_locals", "_keys", "_values_at", "_texts_at", "_words",
     )
 
@@ -116,6 +116,8 @@ class Document:
     """The tree as bytes. `load` makes a Document of them again."""
     quirks: int
     """0 no quirks, 1 limited quirks, 2 quirks."""
+    scripting: bool
+    """True if the page was parsed with `scripting=True`. The HTML of a `noscript` depends on it."""
 
     def __init__(self, block: bytes) -> None:
         view = memoryview(block)
@@ -126,7 +128,7 @@ class Document:
         pools = 4 * (_HEAD + 5 * nodes + 2 + 2 * rows + 2 * names)
         if words[1] != len(block) or pools + words[6] + words[7] + words[8] != len(block):
             raise _library.Error("not a tree: invalid block")
-        self.block, self.quirks, self._count = block, words[2], nodes
+        self.block, self.quirks, self.scripting, self._count = block, words[2] % 4, words[2] // 4 % 2 == 1, nodes
         parts, at = [], _HEAD
         for count in (nodes, nodes, nodes, nodes + 1, nodes + 1, rows, rows, names, names):
             parts.append(words[at : at + count])

@@ -108,6 +108,13 @@ def test_scripting():
     assert hengaruto.parse(page).find("p").text() == "x" and hengaruto.parse(page, scripting=True).find("p") is None
     assert hengaruto.parse_fragment("<noscript><p>x", scripting=True).find("p") is None
     assert hengaruto.parse("<p>x", iframe_srcdoc=True).quirks == 0
+    # A text in a noscript that was parsed without scripting is escaped again.
+    text = "<body><noscript>&lt;img src=x onerror=alert(1)&gt;</noscript>"
+    for scripting in (False, True):
+        doc = hengaruto.parse(text, scripting=scripting)
+        assert doc.scripting is scripting and hengaruto.load(doc.block).scripting is scripting
+        assert doc.find("noscript").to_html() == "<noscript>&lt;img src=x onerror=alert(1)&gt;</noscript>"
+        assert hengaruto.parse(doc.to_html(), scripting=scripting).to_html() == doc.to_html()
 
 
 def test_fragments():

@@ -1,6 +1,6 @@
 -- An arena with a copy after the existing nodes.
 use Rattle.std.proofs.Common.{◌≡◌, ◌∙◌, ℕ, ◌+◌, List, ◌++◌, ap, arith, length, subst, sym}
-use Rattle.std.specs.Prelude.{None, slice_get}
+use Rattle.std.specs.Prelude.{Bool, None, slice_get}
 use Rattle.std.specs.Option.{option_map}
 use Rattle.std.proofs.lemmas.List.{length-append, map-append}
 use Rattle.h5_interface.specs.Forest.{ElementNode, IsElement, IsForest, IsNode, Node, parent_of}
@@ -9,12 +9,12 @@ use Rattle.h5_serialize.specs.Standing.{new_standing, walk_text}
 use Rattle.h5_serialize.specs.declared.options.TraversalScope.TheVariants.{IncludeNode}
 use Rattle.h5_arena.specs.ArenaModel.{HasNotes, IsArena, forest_in, forest_of, node_view, node_views}
 use Rattle.h5_arena.specs.Copies.{AreCopies}
-use Rattle.h5_arena.specs.Copy.{IsCopyOf}
+use Rattle.h5_arena.specs.Copy.{AreBelowFirst, IsCopyOf}
 use Rattle.h5_arena.specs.Html.{opts_for, outer_html}
 use Rattle.h5_arena.specs.declared.attribute_names.AttributeNames.{AttributeNames}
 use Rattle.h5_arena.specs.declared.nodes.NodeData.{NodeData}
 use Rattle.h5_arena.proofs.CopyCalls.{copies_within, same_calls}
-use Rattle.h5_arena.proofs.CopyForest.{free, is_arena, others}
+use Rattle.h5_arena.proofs.CopyForest.{below_first, free, is_arena, others}
 
 module _ (ns slice copies news : List NodeData) (n index : ℕ) (lent : slice ≡ ns) (behind : news ≡ ns ++ copies) (at_end : index ≡ length (node_views ns)) (whole : IsForest (forest_in ns)) (made : AreCopies (forest_in slice) n (node_views copies)) where
   views : node_views news ≡ node_views ns ++ node_views copies
@@ -39,11 +39,17 @@ module _ (ns slice copies news : List NodeData) (n index : ℕ) (lent : slice �
       (subst (IsCopyOf (forest_in ns) (forest_of (node_views ns ++ node_views copies)) n) last
       (λ levels. copies_within (node_views ns) (node_views copies) n are_copies.0 whole are_copies.1 are_copies.2 levels 0 n None are_copies.1.start))
 
-  pub copy_html : outer_html (forest_in news) index ≡ outer_html (forest_in ns) n
-  copy_html =
+  pub copy_html : (scripting_enabled : Bool) → outer_html (forest_in news) index scripting_enabled ≡ outer_html (forest_in ns) n scripting_enabled
+  copy_html scripting_enabled =
       let long = ap length views in
       let more = length-append (node_views ns) (node_views copies) in
-      ap (walk_text (new_standing (opts_for IncludeNode))) (same_calls (forest_in ns) (forest_in news) n index whole (omega (arith, long, more)) copy_is_one)
+      ap (walk_text (new_standing (opts_for IncludeNode scripting_enabled))) (same_calls (forest_in ns) (forest_in news) n index whole (omega (arith, long, more)) copy_is_one)
+
+  pub copies_below : AreBelowFirst (forest_in news) (length (node_views ns)) (length (node_views news))
+  copies_below =
+      let long : length (node_views news) ≡ length (node_views ns) + length (node_views copies) = ap length views ∙ length-append (node_views ns) (node_views copies) in
+      subst (λ vs. AreBelowFirst (forest_of vs) (length (node_views ns)) (length (node_views news))) (sym views)
+      (λ m after within. below_first (node_views ns) (node_views copies) n are_copies.0 whole are_copies.1 are_copies.2 m after (omega (arith, within, long)))
 
   pub still_others : (m : ℕ) → IsNode (forest_in ns) m → slice_get (node_views news) m ≡ slice_get (node_views ns) m
   still_others m there =

@@ -11,6 +11,7 @@ use Rattle.h5_interface.specs.Forest.{AreParted, Child, ChildNode, ChildText, Fo
 use Rattle.h5_interface.proofs.ForestLaws.{child_is_node, document_is_node, node_of_kind, self_at}
 use Rattle.h5_arena.specs.ArenaModel.{HasNotes, IsArena, form_of, forest_of}
 use Rattle.h5_arena.specs.Copies.{AreCopied, IsCopied, Wanted, copied, renumbered}
+use Rattle.h5_arena.specs.Copy.{AreBelowFirst}
 use Rattle.h5_arena.specs.declared.attribute_names.AttributeNames.{AttributeNames}
 use Rattle.h5_arena.proofs.CallConditions.{some_same}
 use Rattle.h5_arena.proofs.CopyLaws.{get_left, get_right, get_there}
@@ -126,6 +127,16 @@ module _ (ns cs : List Node) (n : ℕ) (sources : List Wanted) (whole : IsForest
       let w = h.done i x.0 x.1 in
       let same = some_pair_parts w.source m w.parent p (sym w.is_wanted ∙ e) in
       ap (option_and_then (λ (d : Node). d.parent)) (new c i at ∙ x.1) ∙ ap (λ (d : Node). d.parent) w.is_copy ∙ same.1
+
+  -- each copy but the first is directly below a copy that comes before it
+  pub below_first : AreBelowFirst g base (base + length cs)
+  below_first m after within = by (m - base) (omega arith) (get_there sources (m - base) (omega (arith, all)))
+    where
+      by : (i : ℕ) → m ≡ base + i → (w : Wanted) × (slice_get sources i ≡ Some w) → (p : ℕ) × (parent_of g m ≡ Some p) × (base ≤ p) × (p < m)
+      by i at ((source, None), e) = absurd (let first = h.one_free i source e in omega (arith, first))
+      by i at ((source, Some p), e) =
+          let range = h.parents i source p e in
+          (p, parent_new m i source (Some p) at e, omega (arith, range.0), omega (arith, at, range.2))
 
   wanted_new : (c i p : ℕ) → c ≡ base + i → parent_of g c ≡ Some p → (m : ℕ) × (slice_get sources i ≡ Some (m, Some p))
   wanted_new c i p at e = by (slice_get cs i) refl

@@ -73,6 +73,7 @@ pub none_copied : (f : Forest) (n : ℕ) → IsNode f n → AreCopied f n ((n, N
 none_copied f n there = record {
   start = refl;
   are_nodes = λ i m p e. let v = only_first (n, None) (m, p) i e in subst (IsNode f) (ap (λ (w : Wanted). w.0) v.1) there;
+  one_free = λ i m e. (only_first (n, None) (m, None) i e).0;
   parents = λ i m p e. absurd (let v : None ≡ Some p = ap (λ (w : Wanted). w.1) (only_first (n, None) (m, Some p) i e).1 in cc);
   done = λ k copy e. absurd (let v : None ≡ Some copy = e in cc);
 }
@@ -133,6 +134,10 @@ module _ (f : Forest) (n : ℕ) (sources : List Wanted) (copies : List Node) (so
     are_nodes = λ i m p e. elim (get_split sources more i (m, p) e) [
       | inl v ↦ h.are_nodes i m p v
       | inr v ↦ below_is_node f source v.0 m d whole there (below_of_at (Some place) p (below d) v.0 m v.2).0
+    ];
+    one_free = λ i m e. elim (get_split sources more i (m, None) e) [
+      | inl v ↦ h.one_free i m v
+      | inr v ↦ absurd (let u : Some place ≡ None = (below_of_at (Some place) None (below d) v.0 m v.2).1 in cc)
     ];
     parents = λ i m p e. let long = length-append copies (copy ∷ []) in elim (get_split sources more i (m, Some p) e) [
       | inl v ↦ let u = h.parents i m p v in (u.0, omega (arith, long, u.1), u.2)

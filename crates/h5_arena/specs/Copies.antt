@@ -43,10 +43,11 @@ pub record IsCopied (f : Forest) (sources : List Wanted) (k : ℕ) (copy : Node)
   pub all_below : (j n : ℕ) → slice_get (below original) j ≡ Some n → slice_get sources (first + j) ≡ Some (n, Some (f.bound + k))
   pub none_else : (i n : ℕ) → slice_get sources i ≡ Some (n, Some (f.bound + k)) → (first ≤ i) × (i < first + length (below original))
 
--- the first sources are copied; the very first source is n
+-- the first sources are copied; the very first source is n, and only its copy has no parent
 pub record AreCopied (f : Forest) (n : ℕ) (sources : List Wanted) (copies : List Node) : Type 0 where
   pub start : slice_get sources 0 ≡ Some (n, None)
   pub are_nodes : (i m : ℕ) (p : Option ℕ) → slice_get sources i ≡ Some (m, p) → IsNode f m
+  pub one_free : (i m : ℕ) → slice_get sources i ≡ Some (m, None) → i ≡ 0
   pub parents : (i m p : ℕ) → slice_get sources i ≡ Some (m, Some p) → (f.bound ≤ p) × (p < f.bound + length copies) × (p < f.bound + i)
   pub done : (k : ℕ) (copy : Node) → slice_get copies k ≡ Some copy → IsCopied f sources k copy
 

@@ -1,8 +1,8 @@
 -- A node and its copy (DOM standard, section 4.4, "clone a node", with its subtree; HTML standard, sections 4.12.1 and 4.12.3, the
 -- cloning steps of a script and of a template).
-use Rattle.std.specs.Prelude.{◌≡◌, ◌≢◌, ℕ, List, [], ◌∷◌, Option, None, Some}
+use Rattle.std.specs.Prelude.{◌≡◌, ◌≢◌, ◌<◌, ◌≤◌, ℕ, List, [], ◌∷◌, Option, None, Some}
 use Prim.Native.Nat.{zero, suc}
-use Rattle.h5_interface.specs.Forest.{Child, ChildNode, ChildText, DocumentNode, Forest, Node, kind_of}
+use Rattle.h5_interface.specs.Forest.{Child, ChildNode, ChildText, DocumentNode, Forest, Node, kind_of, parent_of}
 use Rattle.h5_arena.specs.declared.fault.EditError.{EditError}
 use Rattle.h5_arena.specs.declared.fault.EditError.TheVariants.{IsDocument, Memory}
 
@@ -11,6 +11,10 @@ abbrev pub KeepsFromCopy : Forest → ℕ → EditError → Type 0
 KeepsFromCopy f n IsDocument = kind_of f n ≡ Some DocumentNode
 KeepsFromCopy f n Memory = kind_of f n ≢ Some DocumentNode
 KeepsFromCopy f n fault = ⊥
+
+-- each node from an index on, but the first of them, is directly below one of them that comes before it
+abbrev pub AreBelowFirst : Forest → (first : ℕ) → (bound : ℕ) → Type 0
+AreBelowFirst f first bound = (n : ℕ) → first < n → n < bound → (p : ℕ) × (parent_of f n ≡ Some p) × (first ≤ p) × (p < n)
 
 -- both are present and related, or both are missing
 abbrev pub ForBoth : {A : Type 0} → (A → A → Type 0) → Option A → Option A → Type 0

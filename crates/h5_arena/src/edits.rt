@@ -1,9 +1,9 @@
 //! The calls that edit a tree.
-ghost use Rattle.std.specs.Prelude.{◌≡◌, ◌≢◌, ◌≤◌, ℕ, IfErr, IfOk, List, None, OnErr, OnOk, Some, is_some, length};
+ghost use Rattle.std.specs.Prelude.{◌≡◌, ◌≢◌, ◌≤◌, ℕ, Bool, IfErr, IfOk, List, None, OnErr, OnOk, Some, is_some, length};
 ghost use Rattle.h5_interface.specs.Forest.{DocumentNode, IsElement, IsNode, attrs_of, children_of, kind_of, parent_of};
 ghost use Rattle.h5_interface.specs.Seen.{CanAppend, CanInsertBefore, after_append, after_append_before, changed, child_of};
 ghost use Rattle.h5_arena.specs.ArenaModel.{IsHeld, IsNoChild, KeepsErrors, forest_seen, place, seen_of, value_of};
-ghost use Rattle.h5_arena.specs.Copy.{IsCopyOf, KeepsFromCopy};
+ghost use Rattle.h5_arena.specs.Copy.{AreBelowFirst, IsCopyOf, KeepsFromCopy};
 ghost use Rattle.h5_arena.specs.Edits.{KeepsFromAppend, KeepsFromInsert, edit_attrs, take_out, text_alone, with_text, with_value, without_named};
 ghost use Rattle.h5_arena.specs.Html.{outer_html};
 ghost use Rattle.h5_arena.specs.declared.fault.EditError.TheVariants.{Memory};
@@ -100,7 +100,8 @@ impl Arena {
         ensures held { IfOk result (λ copy. IsHeld self.new copy) }
         ensures free { IfOk result (λ copy. parent_of (forest_seen self.new) copy.index ≡ None) }
         ensures copy { IfOk result (λ copy. IsCopyOf (forest_seen self.old) (forest_seen self.new) id.index copy.index) }
-        ensures html { IfOk result (λ copy. outer_html (forest_seen self.new) copy.index ≡ outer_html (forest_seen self.old) id.index) }
+        ensures html { IfOk result (λ copy. (scripting_enabled : Bool)
+            → outer_html (forest_seen self.new) copy.index scripting_enabled ≡ outer_html (forest_seen self.old) id.index scripting_enabled) }
         ensures others { (n : ℕ) → IsNode (forest_seen self.old) n → (forest_seen self.new).node n ≡ (forest_seen self.old).node n }
         ensures told { IfErr result (KeepsFromCopy (forest_seen self.old) id.index) }
         ensures may { OnOk result (kind_of (forest_seen self.old) id.index ≢ Some DocumentNode) }
@@ -108,6 +109,8 @@ impl Arena {
         ensures quirks { self.new.quirks ≡ self.old.quirks }
         ensures errors { KeepsErrors self.old self.new }
         ensures grows { length self.old.nodes ≤ length self.new.nodes }
+        // Each node that was made is the copy, or below it.
+        ensures inside { OnOk result (AreBelowFirst (forest_seen self.new) (length self.old.nodes) (length self.new.nodes)) }
         ensures elements { (n : ℕ) → IsElement (forest_seen self.old) n → IsElement (forest_seen self.new) n }
     {
         if matches!(self.kind(id), Kind::Document) {

@@ -17,7 +17,7 @@ pub enum EditError {
     #[error("the node has a parent")]
     HasParent,
     /// The child is the new parent, or an ancestor of it.
-    #[error("the node would stand below itself")]
+    #[error("the node would contain itself")]
     WouldBeCycle,
     /// The text is empty.
     #[error("the text is empty")]

@@ -16,12 +16,13 @@ fn html_bytes(
     arena: &Arena,
     id: NodeId,
     traversal_scope: TraversalScope,
+    scripting_enabled: bool,
 ) -> Result<Vec<u8>, SerializeFault>
     requires { IsHeld arena.now id }
-    ensures { IfOk result (λ html. html.items ≡ html_of (forest_seen arena.now) id.index traversal_scope) }
+    ensures { IfOk result (λ html. html.items ≡ html_of (forest_seen arena.now) id.index traversal_scope scripting_enabled) }
 {
     let opts = SerializeOpts {
-        scripting_enabled: true,
+        scripting_enabled,
         traversal_scope,
         create_missing_parent: false,
     };
@@ -34,11 +35,12 @@ fn html_text(
     arena: &Arena,
     id: NodeId,
     traversal_scope: TraversalScope,
+    scripting_enabled: bool,
 ) -> Result<String, AllocError>
     requires { IsHeld arena.now id }
-    ensures { IfOk result (λ html. string_bytes html ≡ html_of (forest_seen arena.now) id.index traversal_scope) }
+    ensures { IfOk result (λ html. string_bytes html ≡ html_of (forest_seen arena.now) id.index traversal_scope scripting_enabled) }
 {
-    match html_bytes(arena, id, traversal_scope) {
+    match html_bytes(arena, id, traversal_scope, scripting_enabled) {
         Ok(bytes) => match String::from_utf8(bytes) {
             Ok(html) => Ok(html),
             Err(_) => Err(AllocError),
@@ -63,22 +65,29 @@ fn name_copy(arena: &Arena, id: NodeId) -> Result<Option<QualName>, AllocError>
 
 impl Arena {
     /// Returns the HTML of a node with its content; for a document or a fragment, of the content only; for a template, its contents are
-    /// written as its content (HTML standard, section 13.3). Fails with `AllocError` if an allocation fails. `id` must be a node of this
-    /// arena.
-    pub fn outer_html(&self, id: NodeId) -> Result<String, AllocError>
+    /// written as its content (HTML standard, section 13.3). `scripting_enabled` must be the option that the tree was parsed with, since a
+    /// `noscript` parsed with scripting contains one text, which is written unescaped, and otherwise elements and texts. Fails with
+    /// `AllocError` if an allocation fails. `id` must be a node of this arena.
+    pub fn outer_html(&self, id: NodeId, scripting_enabled: bool) -> Result<String, AllocError>
         requires { IsHeld self.now id }
-        ensures { IfOk result (λ html. string_bytes html ≡ outer_html (forest_seen self.now) id.index) }
+        ensures { IfOk result (λ html. string_bytes html ≡ outer_html (forest_seen self.now) id.index scripting_enabled) }
     {
-        html_text(self, id, TraversalScope::IncludeNode)
+        html_text(self, id, TraversalScope::IncludeNode, scripting_enabled)
     }
 
     /// Returns the HTML of the content of a node: texts directly inside elements such as `style` are unescaped, all others escaped. For a
-    /// template, it is the content of its contents. Fails with `AllocError` if an allocation fails. `id` must be a node of this arena.
-    pub fn inner_html(&self, id: NodeId) -> Result<String, AllocError>
+    /// template, it is the content of its contents. `scripting_enabled` is that of `outer_html`. Fails with `AllocError` if an allocation
+    /// fails. `id` must be a node of this arena.
+    pub fn inner_html(&self, id: NodeId, scripting_enabled: bool) -> Result<String, AllocError>
         requires { IsHeld self.now id }
-        ensures { IfOk result (λ html. string_bytes html ≡ inner_html (forest_seen self.now) id.index) }
+        ensures { IfOk result (λ html. string_bytes html ≡ inner_html (forest_seen self.now) id.index scripting_enabled) }
     {
         let name = name_copy(self, id)?;
-        html_text(self, id, TraversalScope::ChildrenOnly(name))
+        html_text(
+            self,
+            id,
+            TraversalScope::ChildrenOnly(name),
+            scripting_enabled,
+        )
     }
 }

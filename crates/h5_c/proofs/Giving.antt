@@ -1,5 +1,5 @@
 -- Returned bytes have the properties of the bytes that were made.
-use Rattle.std.proofs.Common.{◌≡◌, ◌⊎◌, ℕ, List, Result, Ok, Err, inl, inr}
+use Rattle.std.proofs.Common.{◌≡◌, ℕ, List, Result, Ok, Err, inl, inr}
 use Rattle.std.specs.Prelude.{IfOk, MatchResult}
 use Rattle.h5_c.specs.Status.{HandsOut, HandsOutSuch}
 

@@ -36,7 +36,7 @@ pub record IsBlockOfPage (options : ℕ) (page block : List ℕ) : Type 0 where
   pub arena : ArenaView
   pub is_tree : IsTree options page arena
   pub columns : Columns
-  pub holds : held columns ≡ document_columns arena
+  pub holds : held columns ≡ document_columns arena (is_scripting options)
   pub packed : block ≡ block_of columns
 
 -- the namespaces of contexts, by their numbers
@@ -58,12 +58,12 @@ pub record IsBlockOfFragment (options : ℕ) (page : List ℕ) (name : QualName)
   pub arena : ArenaView
   pub is_tree : IsFragmentTree options page name arena
   pub columns : Columns
-  pub holds : held columns ≡ fragment_columns arena
+  pub holds : held columns ≡ fragment_columns arena (is_scripting options)
   pub packed : block ≡ block_of columns
 
--- the text of a page in lines of at most this width; 0 doesn't wrap them
+-- the text of a page, parsed without scripting, in lines of at most this width; 0 doesn't wrap them
 abbrev pub text_opts : (width : ℕ) → TextOpts
-text_opts width = record { width = if width == 0 then None else Some width; has_numbers = false }
+text_opts width = record { width = if width == 0 then None else Some width; has_numbers = false; scripting_enabled = false }
 
 pub record IsTextOfPage (page : List ℕ) (width : ℕ) (text : List ℕ) : Type 0 where
   pub arena : ArenaView

@@ -1,5 +1,5 @@
 //! Pages in encodings other than UTF-8: their encoding and their text.
-ghost use Rattle.std.specs.Prelude.{◌≡◌, None, Some, IfOk, take};
+ghost use Rattle.std.specs.Prelude.{◌≡◌, ◌≢◌, None, Some, IfOk, take};
 ghost use Rattle.h5_encodings.specs.Decoding.{start, text_from};
 ghost use Rattle.h5_encodings.specs.Labels.{encoding_labelled};
 ghost use Rattle.h5_encodings.specs.Sniffing.{encoding_of};
@@ -65,7 +65,8 @@ pub extern "C" fn hengaruto_encoding(
     name: &mut *mut u8,
     length: &mut usize,
 ) -> u32
-    ensures { HandsOut (name_said (encoding_of (opts_by (encoding_labelled label.now)) (take 1024 page.now))) result length.new }
+    ensures name { HandsOut (name_said (encoding_of (opts_by (encoding_labelled label.now)) (take 1024 page.now))) result length.new }
+    ensures kept { result ≢ 0 → length.new ≡ length.old }
 {
     give(name_for(alloc, page, label), name, length)
 }
@@ -81,6 +82,7 @@ pub extern "C" fn hengaruto_decode(
 ) -> u32
     ensures no_encoding { encoding_labelled label.now ≡ None → result ≡ 4 }
     ensures decoded { (encoding : Encoding) → encoding_labelled label.now ≡ Some encoding → HandsOut (text_from (start encoding) bytes.now) result length.new }
+    ensures kept { result ≢ 0 → length.new ≡ length.old }
 {
     match Encoding::for_label(label) {
         Some(encoding) => give(text_in(alloc, encoding, bytes), text, length),

@@ -1,5 +1,5 @@
 //! Whole pages: their text, their links, and their cleaned HTML.
-ghost use Rattle.std.specs.Prelude.{◌≡◌, ◌++◌, IfOk, OnOk};
+ghost use Rattle.std.specs.Prelude.{◌≡◌, ◌≢◌, ◌++◌, IfOk, OnOk};
 ghost use Rattle.std.specs.Str.Lossy.{utf8_lossy};
 ghost use Rattle.html_tree_builder.specs.Cleaned.{IsCleaned};
 ghost use Rattle.html_tree_builder.specs.DefaultPolicy.{default_rules};
@@ -13,13 +13,14 @@ use h5_page::{Link, TextOpts, links_of, text_with};
 use html_tree_builder::clean::{DefaultPolicy, clean};
 use std::alloc::{AllocError, Global};
 
-// The layout for lines of this width; 0 doesn't wrap them.
+// The layout for lines of this width; 0 doesn't wrap them. The page is parsed without scripting.
 fn opts_by(width: usize) -> TextOpts
     ensures { result ≡ text_opts width }
 {
     TextOpts {
         width: if width == 0 { None } else { Some(width) },
         has_numbers: false,
+        scripting_enabled: false,
     }
 }
 
@@ -78,7 +79,8 @@ pub extern "C" fn hengaruto_page_text(
     text: &mut *mut u8,
     length: &mut usize,
 ) -> u32
-    ensures { HandsOutSuch (IsTextOfPage page.now width) result length.new }
+    ensures text { HandsOutSuch (IsTextOfPage page.now width) result length.new }
+    ensures kept { result ≢ 0 → length.new ≡ length.old }
 {
     give(text_of(alloc, page, width), text, length)
 }
@@ -91,7 +93,8 @@ pub extern "C" fn hengaruto_page_links(
     links: &mut *mut u8,
     length: &mut usize,
 ) -> u32
-    ensures { HandsOutSuch (AreLinksOfPage page.now) result length.new }
+    ensures links { HandsOutSuch (AreLinksOfPage page.now) result length.new }
+    ensures kept { result ≢ 0 → length.new ≡ length.old }
 {
     give(link_bytes(alloc, page), links, length)
 }
@@ -104,7 +107,8 @@ pub extern "C" fn hengaruto_clean(
     cleaned_html: &mut *mut u8,
     length: &mut usize,
 ) -> u32
-    ensures { HandsOutSuch (IsCleaned default_rules (utf8_lossy html.now)) result length.new }
+    ensures cleaned { HandsOutSuch (IsCleaned default_rules (utf8_lossy html.now)) result length.new }
+    ensures kept { result ≢ 0 → length.new ≡ length.old }
 {
     give(cleaned(alloc, html), cleaned_html, length)
 }

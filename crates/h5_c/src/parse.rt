@@ -1,5 +1,5 @@
 //! Parsing: bytes become a block.
-ghost use Rattle.std.specs.Prelude.{◌≡◌, ◌≤◌, ℕ, [], IfOk, List, None, Some, option_map, true};
+ghost use Rattle.std.specs.Prelude.{◌≡◌, ◌≢◌, ◌≤◌, ℕ, [], IfOk, List, None, Some, false, option_map, true};
 ghost use Rattle.std.specs.Str.{IsUtf8};
 ghost use Rattle.html_tree_builder.specs.ArenaModel.{arena_choices, new_arena, place, seen_of};
 ghost use Rattle.html_tree_builder.specs.Fragments.{first_in_new, opts_in_context};
@@ -10,6 +10,7 @@ ghost use Rattle.h5_c.specs.Status.{HandsOutSuch};
 
 use super::status::{BAD_ARGUMENT, give};
 use h5_flat::{columns_of_document, columns_of_fragment};
+use html_tree_builder::token::BuildFault;
 use html_tree_builder::{
     Arena, LocalName, Namespace, ParseOpts, Parser, QualName, namespaces, parse_document,
     parse_fragment,
@@ -39,8 +40,10 @@ fn opts_of(options: u32) -> ParseOpts
     opts
 }
 
-/// A parser of text that hasn't failed has no other error.
-pub(crate) fn refused<F: Drop>(_fault: F) -> AllocError {
+// A parser that hasn't failed has no other error.
+fn refused(_fault: BuildFault) -> AllocError
+    requires { _fault ≡ BuildFault.Memory }
+{
     AllocError
 }
 
@@ -49,15 +52,17 @@ pub(crate) fn tree_of(alloc: Global, page: &[u8], options: u32) -> Result<Arena,
     ensures { IfOk result (λ arena. IsTree options page.now arena) }
 {
     let parser = parse_document(alloc, Arena::without_errors(alloc)?, opts_of(options));
-    let arena = parser.from_utf8().one(page).map_err(refused)?;
-    Ok(arena)
+    match parser.from_utf8().one(page) {
+        Ok(arena) => Ok(arena),
+        Err(fault) => Err(refused(fault)),
+    }
 }
 
 fn block_of(alloc: Global, page: &[u8], options: u32) -> Result<Vec<u8>, AllocError>
     ensures { IfOk result (λ block. IsBlockOfPage options page.now block.items) }
 {
     let arena = tree_of(alloc, page, options)?;
-    let columns = columns_of_document(alloc, &arena)?;
+    let columns = columns_of_document(alloc, &arena, is_scripting(options))?;
     drop(arena);
     let block = columns.pack(alloc)?;
     Ok(block)
@@ -87,13 +92,16 @@ fn parser_in(alloc: Global, context: QualName, options: u32) -> Result<Parser<Ar
     ensures builder { IfOk result (λ parser. building seen_of place parser.tokenizer.sink ≡ first_in_new arena_choices (seen_of new_arena) context [] (options_of options).tree_builder) }
     ensures reader { IfOk result (λ parser. parser.tokenizer.reader ≡ first (opts_in_context (is_scripting options) (building seen_of place parser.tokenizer.sink).view.world (options_of options).tokenizer)) }
     ensures waiting { IfOk result (λ parser. parser.waiting ≡ []) }
+    ensures failed { IfOk result (λ parser. parser.failed ≡ false) }
 {
     let arena = Arena::without_errors(alloc)?;
     let opts = opts_of(options);
     let attrs = Vec::new(alloc);
     let scripting = is_scripting(options);
-    let parser = parse_fragment(alloc, arena, opts, context, attrs, scripting).map_err(refused)?;
-    Ok(parser)
+    match parse_fragment(alloc, arena, opts, context, attrs, scripting) {
+        Ok(parser) => Ok(parser),
+        Err(fault) => Err(refused(fault)),
+    }
 }
 
 fn fragment_of(
@@ -105,8 +113,10 @@ fn fragment_of(
     ensures { IfOk result (λ arena. IsFragmentTree options page.now context arena) }
 {
     let parser = parser_in(alloc, context, options)?;
-    let arena = parser.from_utf8().one(page).map_err(refused)?;
-    Ok(arena)
+    match parser.from_utf8().one(page) {
+        Ok(arena) => Ok(arena),
+        Err(fault) => Err(refused(fault)),
+    }
 }
 
 fn fragment_block_of(
@@ -120,7 +130,7 @@ fn fragment_block_of(
 {
     let context = context_of(alloc, local, url)?;
     let arena = fragment_of(alloc, page, context, options)?;
-    let columns = columns_of_fragment(alloc, &arena)?;
+    let columns = columns_of_fragment(alloc, &arena, is_scripting(options))?;
     drop(arena);
     let block = columns.pack(alloc)?;
     Ok(block)
@@ -135,7 +145,8 @@ pub extern "C" fn hengaruto_parse(
     block: &mut *mut u8,
     length: &mut usize,
 ) -> u32
-    ensures { HandsOutSuch (IsBlockOfPage options page.now) result length.new }
+    ensures parsed { HandsOutSuch (IsBlockOfPage options page.now) result length.new }
+    ensures kept { result ≢ 0 → length.new ≡ length.old }
 {
     give(block_of(alloc, page, options), block, length)
 }
@@ -155,6 +166,7 @@ pub extern "C" fn hengaruto_parse_fragment(
     ensures no_namespace { context_url context_namespace ≡ None → result ≡ 4 }
     ensures parsed { IsUtf8 context.now → (url : List ℕ) → context_url context_namespace ≡ Some url
         → HandsOutSuch (IsBlockOfFragment options page.now (context_name context.now url)) result length.new }
+    ensures kept { result ≢ 0 → length.new ≡ length.old }
 {
     let (Ok(local), Some(url)) = (std::str::from_utf8(context), context_url(context_namespace))
     else {

@@ -1,5 +1,5 @@
 //! Reads of a block. If the bytes aren't a block, or there is no such node, each returns a status, 0 or `NOTHING`.
-ghost use Rattle.std.specs.Prelude.{◌≡◌, ◌<◌, ◌≤◌, ◌==◌, ◌⊎◌, ◌&&◌, MatchOption, false, if◌then◌else◌, not, true};
+ghost use Rattle.std.specs.Prelude.{◌≡◌, ◌≢◌, ◌<◌, ◌≤◌, ◌==◌, ◌⊎◌, ◌&&◌, MatchOption, false, if◌then◌else◌, not, true};
 ghost use Rattle.h5_c.specs.Status.{HandsOut};
 ghost use Rattle.h5_flat.specs.Block as b;
 ghost use Rattle.h5_flat.specs.Html as h;
@@ -23,6 +23,7 @@ pub extern "C" fn hengaruto_html(
     ensures no_node { b.is_block block.now ≡ true → b.nodes_in block.now ≤ node → result ≡ 2 }
     ensures written { b.is_block block.now ≡ true → node < b.nodes_in block.now
         → HandsOut (h.html_of block.now node (not (outer == 0))) result length.new }
+    ensures kept { result ≢ 0 → length.new ≡ length.old }
 {
     let Some(view) = View::of(block) else {
         return BAD_BLOCK;
@@ -171,7 +172,8 @@ pub extern "C" fn hengaruto_prefix(block: &[u8], name: u32) -> u32
 
 // Stores the offset and the length of bytes, if there are any.
 fn put(span: Option<Span>, at: &mut usize, count: &mut usize) -> u32
-    ensures { MatchOption span (result ≡ 2) (λ span. (result ≡ 0) × (at.new ≡ span.at) × (count.new ≡ span.count)) }
+    ensures is { MatchOption span (result ≡ 2) (λ span. (result ≡ 0) × (at.new ≡ span.at) × (count.new ≡ span.count)) }
+    ensures kept { result ≢ 0 → (at.new ≡ at.old) × (count.new ≡ count.old) }
 {
     match span {
         Some(span) => {
@@ -194,6 +196,7 @@ pub extern "C" fn hengaruto_name_text(
     ensures is { b.is_block block.now ≡ true → MatchOption (b.name_text_in block.now name) (result ≡ 2)
         (λ span. (result ≡ 0) × (at.new ≡ span.at) × (count.new ≡ span.count)) }
     ensures none { b.is_block block.now ≡ false → result ≡ 3 }
+    ensures kept { result ≢ 0 → (at.new ≡ at.old) × (count.new ≡ count.old) }
 {
     match View::of(block) {
         Some(view) => put(view.name_text(name), at, count),
@@ -207,6 +210,7 @@ pub extern "C" fn hengaruto_text(block: &[u8], node: u32, at: &mut usize, count:
     ensures is { b.is_block block.now ≡ true → MatchOption (b.text_in block.now node) (result ≡ 2)
         (λ span. (result ≡ 0) × (at.new ≡ span.at) × (count.new ≡ span.count)) }
     ensures none { b.is_block block.now ≡ false → result ≡ 3 }
+    ensures kept { result ≢ 0 → (at.new ≡ at.old) × (count.new ≡ count.old) }
 {
     match View::of(block) {
         Some(view) => put(view.text(node), at, count),
@@ -238,6 +242,7 @@ pub extern "C" fn hengaruto_attribute_at(
     ensures is { b.is_block block.now ≡ true → MatchOption (b.row_in block.now node index) (result ≡ 2)
         (λ row. (result ≡ 0) × (name.new ≡ row.name) × (at.new ≡ row.value.at) × (count.new ≡ row.value.count)) }
     ensures none { b.is_block block.now ≡ false → result ≡ 3 }
+    ensures kept { result ≢ 0 → (name.new ≡ name.old) × (at.new ≡ at.old) × (count.new ≡ count.old) }
 {
     let Some(view) = View::of(block) else {
         return BAD_BLOCK;

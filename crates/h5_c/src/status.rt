@@ -1,5 +1,5 @@
 //! The statuses of calls, and how bytes are returned to the caller.
-ghost use Rattle.std.specs.Prelude.{◌≡◌, IfOk, MatchResult};
+ghost use Rattle.std.specs.Prelude.{◌≡◌, ◌≢◌, ◌++◌, ◌∷◌, [], IfOk, MatchResult};
 ghost use Rattle.h5_flat.specs.Packed.{bytes_of_words};
 ghost use Rattle.h5_c.specs.Status.{HandsOut};
 
@@ -24,26 +24,35 @@ pub(crate) const BAD_ARGUMENT: u32 = 4;
 pub(crate) const BAD_SELECTOR: u32 = 5;
 
 // Bytes and a NUL after them: C may read them as a string, and even an empty result has its own memory.
-fn with_nul(bytes: Vec<u8>) -> Result<Vec<u8>, AllocError> {
+fn with_nul(bytes: Vec<u8>) -> Result<Vec<u8>, AllocError>
+    ensures { IfOk result (λ all. all.items ≡ bytes.items ++ 0 ∷ []) }
+{
     let mut bytes = bytes;
     bytes.push(0)?;
     Ok(bytes)
 }
 
+// Leaves bytes to the caller, which frees them with `free`.
+fn hand_over(bytes: Vec<u8>, out: &mut *mut u8) {
+    let mut bytes = bytes;
+    *out = bytes.as_mut_ptr();
+    forget(bytes);
+}
+
 /// Returns bytes to the caller, which frees them with `free`. If there are none because an allocation failed, nothing is returned.
 pub(crate) fn give(made: Result<Vec<u8>, AllocError>, out: &mut *mut u8, length: &mut usize) -> u32
-    ensures { MatchResult made (λ bytes. HandsOut bytes.items result length.new) (λ _. result ≡ 1) }
+    ensures status { MatchResult made (λ bytes. HandsOut bytes.items result length.new) (λ _. result ≡ 1) }
+    ensures kept { result ≢ 0 → length.new ≡ length.old }
 {
     let Ok(bytes) = made else {
         return NO_MEMORY;
     };
     let count = bytes.len();
-    let Ok(mut bytes) = with_nul(bytes) else {
+    let Ok(bytes) = with_nul(bytes) else {
         return NO_MEMORY;
     };
     *length = count;
-    *out = bytes.as_mut_ptr();
-    forget(bytes);
+    hand_over(bytes, out);
     OK
 }
 

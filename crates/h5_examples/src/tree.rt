@@ -74,7 +74,7 @@ pub fn around(alloc: Global, arena: &Arena, id: NodeId) -> anyhow::Result<String
         arena.siblings_before(id).len(),
         arena.siblings_after(id).len(),
     );
-    let inner = escape_text(alloc, arena.inner_html(id)?.as_str())?;
+    let inner = escape_text(alloc, arena.inner_html(id, true)?.as_str())?;
     let line = format!(in alloc; "{ancestors} above, {before} before, {after} after: {inner}")?;
     Ok(line)
 }

@@ -17,7 +17,7 @@ use Rattle.h5_serialize.specs.declared.options.SerializeOpts.{SerializeOpts}
 use Rattle.h5_serialize.proofs.EachLaws.{made_writes}
 use Rattle.h5_serialize.proofs.WalkSteps.{made_join, slice_attributes, start_made}
 use Rattle.h5_arena.specs.Html.{opts_for}
-use Rattle.h5_flat.specs.Block.{end_in, kind_in, name_in, nodes_in}
+use Rattle.h5_flat.specs.Block.{end_in, is_scripting_in, kind_in, name_in, nodes_in}
 use Rattle.h5_flat.specs.Html.{AreTold, begin_calls, calls_from, calls_in, calls_of, end_calls, ends_before, html_of, open_at, scope_in}
 use Rattle.h5_flat.specs.Read.{attributes_of, name_of, text_of, value_of}
 
@@ -187,7 +187,7 @@ where_ok (Ok done) follows h = follows h
 where_ok (Err fault) follows h = tt
 
 -- the HTML of a node
-pub html_written : (b : List ℕ) (n : ℕ) (is_outer : Bool) (opts : SerializeOpts) (old new : HtmlState) (html : List ℕ) → opts ≡ opts_for (scope_in b n is_outer) → old.standing ≡ new_standing opts → old.contents ≡ Some [] → new.contents ≡ Some html
+pub html_written : (b : List ℕ) (n : ℕ) (is_outer : Bool) (opts : SerializeOpts) (old new : HtmlState) (html : List ℕ) → opts ≡ opts_for (scope_in b n is_outer) (is_scripting_in b) → old.standing ≡ new_standing opts → old.contents ≡ Some [] → new.contents ≡ Some html
     → AreTold (calls_in b n is_outer) old new → html ≡ html_of b n is_outer
 unfolding html_of
 html_written b n is_outer opts old new html as_told stands empty holds told =

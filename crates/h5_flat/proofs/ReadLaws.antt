@@ -273,7 +273,7 @@ module _ (b : List ℕ) (c : Columns) (reads : AreWordsOf b (words_of c)) (long 
         is =
             both _ _ (eq-eqb _ _ (front_read 0 (omega arith)))
             (both _ _ (eq-eqb _ _ (front_read 1 (omega arith) ∙ sym long)) (eq-eqb _ _ length_read));
-        quirks = front_read 2 (omega arith);
+        mode = front_read 2 (omega arith);
         nodes = nodes_read;
         rows = rows_read;
         names = names_read;

@@ -46,7 +46,7 @@ no_ids = record { public_id = []; system_id = [] }
 -- the data between two calls: the nodes, rows, names and texts so far, the parent of the next nodes, and the identifiers of the next
 -- doctype
 pub record Held : Type 0 where
-  pub quirks : ℕ
+  pub mode : ℕ
   pub nodes : List FlatNode
   pub rows : Texts
   pub names : HeldNames
@@ -59,7 +59,7 @@ names_held n = record { met = n.numbered; texts = record { list = n.list.items; 
 
 unfoldable pub held : Columns → Held
 held c = record {
-  quirks = c.quirks;
+  mode = c.mode;
   nodes = c.nodes.items;
   rows = record { list = c.rows.items; bytes = c.values.items };
   names = names_held c.names;
@@ -169,10 +169,14 @@ quirks_number NoQuirks = 0
 quirks_number LimitedQuirks = 1
 quirks_number Quirks = 2
 
+-- the number of a quirks mode and of how the tree was parsed
+abbrev pub mode_number : QuirksMode → (scripting_enabled : Bool) → ℕ
+mode_number quirks scripting_enabled = quirks_number quirks + (if scripting_enabled then 4 else 0)
+
 -- no data yet
-abbrev pub nothing_held : (quirks : QuirksMode) → DoctypeIds → Held
-nothing_held quirks ids = record {
-  quirks = quirks_number quirks;
+abbrev pub nothing_held : (mode : ℕ) → DoctypeIds → Held
+nothing_held mode ids = record {
+  mode = mode;
   nodes = [];
   rows = no_texts;
   names = record { met = []; texts = no_texts };
@@ -182,8 +186,8 @@ nothing_held quirks ids = record {
 }
 
 -- the columns of the calls below a root of this kind
-abbrev pub columns_of : (kind : ℕ) → (quirks : QuirksMode) → DoctypeIds → List Call → Held
-columns_of kind quirks ids calls = closed (after_each after_call (opened kind (nothing_held quirks ids)) calls)
+abbrev pub columns_of : (kind mode : ℕ) → DoctypeIds → List Call → Held
+columns_of kind mode ids calls = closed (after_each after_call (opened kind (nothing_held mode ids)) calls)
 
 -- the identifiers of the first doctype among children
 abbrev pub ids_of_kind : Kind → Option DoctypeIds
@@ -198,11 +202,12 @@ unfoldable pub ids_among : Forest → List Child → DoctypeIds
 ids_among f [] = no_ids
 ids_among f (c ∷ cs) = unwrap_or (ids_of_child f c) (ids_among f cs)
 
--- the columns of a document: those of the calls of everything below it
-unfoldable pub document_columns : ArenaView → Held
-document_columns a =
-    let f = forest_seen a in columns_of 9 a.quirks (ids_among f (children_of f 0)) (walk_of f 0 (ChildrenOnly None))
+-- the columns of a document, parsed with or without scripting: those of the calls of everything below it
+unfoldable pub document_columns : ArenaView → (scripting_enabled : Bool) → Held
+document_columns a scripting_enabled =
+    let f = forest_seen a in columns_of 9 (mode_number a.quirks scripting_enabled) (ids_among f (children_of f 0)) (walk_of f 0 (ChildrenOnly None))
 
 -- the columns of a fragment: those of the calls of everything below its root, if there is one
-unfoldable pub fragment_columns : ArenaView → Held
-fragment_columns a = columns_of 11 a.quirks no_ids (option_map_or (λ root. walk_of (forest_seen a) root (ChildrenOnly None)) (fragment_root a) [])
+unfoldable pub fragment_columns : ArenaView → (scripting_enabled : Bool) → Held
+fragment_columns a scripting_enabled =
+    columns_of 11 (mode_number a.quirks scripting_enabled) no_ids (option_map_or (λ root. walk_of (forest_seen a) root (ChildrenOnly None)) (fragment_root a) [])

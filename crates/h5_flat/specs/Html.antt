@@ -7,7 +7,7 @@ use Rattle.h5_serialize.specs.Walk.{AreMade}
 use Rattle.h5_serialize.specs.declared.options.TraversalScope.{TraversalScope}
 use Rattle.h5_serialize.specs.declared.options.TraversalScope.TheVariants.{ChildrenOnly}
 use Rattle.h5_arena.specs.Html.{opts_for}
-use Rattle.h5_flat.specs.Block.{end_in, kind_in, name_in, nodes_in}
+use Rattle.h5_flat.specs.Block.{end_in, is_scripting_in, kind_in, name_in, nodes_in}
 use Rattle.h5_flat.specs.Read.{attributes_of, name_of, text_of, value_of}
 
 module _ (b : List ℕ) where
@@ -51,9 +51,9 @@ module _ (b : List ℕ) where
   unfoldable pub scope_in : (node : ℕ) → (is_outer : Bool) → TraversalScope
   scope_in n is_outer = if is_outer then ChildrenOnly None else (if kind_in b n == 1 then ChildrenOnly (Some (name_of b (name_in b n))) else ChildrenOnly None)
 
-  -- the HTML of a node
+  -- the HTML of a node, as the block's tree was parsed
   unfoldable pub html_of : (node : ℕ) → (is_outer : Bool) → List ℕ
-  html_of n is_outer = walk_text (new_standing (opts_for (scope_in n is_outer))) (calls_in n is_outer)
+  html_of n is_outer = walk_text (new_standing (opts_for (scope_in n is_outer) (is_scripting_in b))) (calls_in n is_outer)
 
 -- calls were made on the HTML serializer, and all succeeded
 abbrev pub AreTold : List Call → (old new : HtmlState) → Type 0

@@ -2,7 +2,7 @@
 use Rattle.std.specs.Prelude.{◌≡◌, ℕ, ◌+◌, ◌*◌, ◌<◌, ◌^◌, All, List, [], ◌∷◌, ◌++◌, get_or, length, map, true}
 use Rattle.std.specs.Int.{w32, to_le_bytes}
 use Rattle.std.specs.List.{flat_map}
-use Rattle.h5_flat.specs.Block.{ends_at, first_row_in, is_block, kind_word_in, name_ends_at, names_in, nodes_in, parents_at, quirks_in, row_ends_at, row_names_at, rows_in, space_word_in, texts_at, word_in}
+use Rattle.h5_flat.specs.Block.{ends_at, first_row_in, is_block, kind_word_in, mode_in, name_ends_at, names_in, nodes_in, parents_at, row_ends_at, row_names_at, rows_in, space_word_in, texts_at, word_in}
 use Rattle.h5_flat.specs.declared.columns.Columns.{Columns}
 use Rattle.h5_flat.specs.declared.columns.Ended.{Ended}
 use Rattle.h5_flat.specs.declared.columns.EndedWord.{EndedWord}
@@ -71,7 +71,7 @@ length_of c = (11 + 5 * length c.nodes.items + 2 * length c.rows.items + 2 * len
 -- the first nine words
 abbrev pub front_words : Columns → List ℕ
 front_words c =
-    0x31544748 ∷ length_of c ∷ c.quirks
+    0x31544748 ∷ length_of c ∷ c.mode
     ∷ length c.nodes.items ∷ length c.rows.items ∷ length c.names.list.items
     ∷ length c.names.text.items ∷ length c.values.items ∷ length c.text.items ∷ []
 
@@ -88,7 +88,7 @@ AreWordsOf b words = (i : ℕ) → i < length words → word_in b i ≡ get_or w
 -- a block is read as these columns: each node, each row and each name has its words
 pub record IsReadAs (b : List ℕ) (c : Columns) : Type 0 where
   pub is : is_block b ≡ true
-  pub quirks : quirks_in b ≡ c.quirks
+  pub mode : mode_in b ≡ c.mode
   pub nodes : nodes_in b ≡ length c.nodes.items
   pub rows : rows_in b ≡ length c.rows.items
   pub names : names_in b ≡ length c.names.list.items

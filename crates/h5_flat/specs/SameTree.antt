@@ -7,7 +7,7 @@ use Rattle.h5_names.specs.declared.qualified.QualName.{QualName}
 use Rattle.h5_interface.specs.Forest.{Child, ChildNode, ChildText, CommentNode, DoctypeNode, DocumentNode, ElementNode, FragmentNode, InstructionNode, Kind, Node}
 use Rattle.h5_interface.specs.declared.marks.QuirksMode.{QuirksMode}
 use Rattle.h5_interface.specs.declared.marks.QuirksMode.TheVariants.{LimitedQuirks, NoQuirks, Quirks}
-use Rattle.h5_arena.specs.ArenaModel.{place}
+use Rattle.h5_arena.specs.ArenaModel.{child_parent, place}
 use Rattle.h5_flat.specs.Block.{contents_in, first_child_in, kind_in, name_in, next_in, nodes_in, nothing, quirks_in, row_count_in}
 use Rattle.h5_flat.specs.Read.{attribute_of, name_of, text_of, value_of}
 use Rattle.h5_flat.specs.Sound.{all_below}
@@ -21,6 +21,10 @@ quirks_named n = if n == 1 then LimitedQuirks else (if n == 2 then Quirks else N
 -- the index of the node made for a number
 abbrev pub place_of : Unpacked → (number : ℕ) → Option ℕ
 place_of u n = option_map place (id_of u n)
+
+-- true if a node is a child of the document
+unfoldable pub is_below_document : Unpacked → (place : ℕ) → Bool
+is_below_document u place = option_map_or (λ (d : Node). option_eq nat_eq (child_parent d) (Some 0)) (slice_get u.arena.nodes place) false
 
 module _ (b : List ℕ) where
   -- true if an element has this number; number 0 is that of the `html` element whose content is a fragment
@@ -78,7 +82,12 @@ module _ (b : List ℕ) (u : Unpacked) where
       if kind_in b n == 3 then is_none (place_of u n)
       else option_map_or (is_same_in n) (place_of u n) false
 
+  -- true if the root of a fragment is right below the document
+  unfoldable pub is_root_right : Bool
+  is_root_right = if kind_in b 0 == 11 then option_map_or (is_below_document u) (place_of u 0) false else true
+
   -- THE TREE of the block
   pub record IsTreeOf : Type 0 where
     pub quirks : u.arena.quirks ≡ quirks_named (quirks_in b)
     pub nodes : all_below is_same_at (nodes_in b) ≡ true
+    pub root : is_root_right ≡ true

@@ -9,9 +9,8 @@ ghost use Rattle.h5_flat.specs.Packed.{ended_word, word_of};
 
 use super::names::Names;
 use super::numbers::{
-    COMMENT, DOCTYPE, ELEMENT, FRAGMENT, INSTRUCTION, KINDS, NOTHING, TEXT, quirks_number, short,
+    COMMENT, DOCTYPE, ELEMENT, FRAGMENT, INSTRUCTION, KINDS, NOTHING, TEXT, short,
 };
-use h5_interface::QuirksMode;
 use h5_names::QualName;
 use h5_serialize::{AttrRef, SerializeFault, Serializer};
 use std::alloc::{AllocError, Global};
@@ -81,7 +80,8 @@ impl Ended {
 /// The nodes of a tree, in tree order.
 #[derive(Drop)]
 pub struct Columns {
-    pub(crate) quirks: u32,
+    // The quirks mode, and whether the tree was parsed with scripting.
+    pub(crate) mode: u32,
     pub(crate) nodes: Vec<FlatNode>,
     // For each row, the number of its name, and the end of its value.
     pub(crate) rows: Vec<Ended>,
@@ -107,14 +107,14 @@ impl Columns {
     #[tactic(auto, unfolding(crate::specs::Columns::held))]
     pub(crate) fn new(
         alloc: Global,
-        quirks: QuirksMode,
+        mode: u32,
         public_id: &str,
         system_id: &str,
     ) -> Result<Columns, AllocError>
-        ensures { IfOk result (λ columns. held columns ≡ c.nothing_held quirks (record { public_id = public_id.now; system_id = system_id.now })) }
+        ensures { IfOk result (λ columns. held columns ≡ c.nothing_held mode (record { public_id = public_id.now; system_id = system_id.now })) }
     {
         Ok(Columns {
-            quirks: quirks_number(quirks),
+            mode,
             nodes: Vec::new(alloc),
             rows: Vec::new(alloc),
             names: Names::new(alloc)?,

@@ -198,9 +198,12 @@ impl<'a> View<'a> {
     // The options for a node, or for its subtree only.
     #[tactic(auto, unfolding(crate::specs::Html::scope_in))]
     fn options(&self, alloc: Global, node: u32, is_outer: bool) -> Result<SerializeOpts, AllocError>
-        ensures { IfOk result (λ opts. opts ≡ opts_for (h.scope_in self.now.block.now node is_outer)) }
+        ensures { IfOk result (λ opts. opts ≡ opts_for (h.scope_in self.now.block.now node is_outer) (b.is_scripting_in self.now.block.now)) }
     {
-        let mut opts = SerializeOpts::default();
+        let mut opts = SerializeOpts {
+            scripting_enabled: self.is_scripting(),
+            ..SerializeOpts::default()
+        };
         if !is_outer && self.kind(node) == ELEMENT {
             let parent = self.qual_name(alloc, self.name(node))?;
             opts.traversal_scope = TraversalScope::ChildrenOnly(Some(parent));

@@ -1,5 +1,5 @@
 //! Names, each with a number.
-ghost use Rattle.std.specs.Prelude.{◌≡◌, ◌<◌, ◌∷◌, ◌++◌, [], true, IfOk, OnOk, length};
+ghost use Rattle.std.specs.Prelude.{◌≡◌, ◌<◌, ◌∷◌, ◌++◌, [], true, IfOk, OnErr, OnOk, length};
 ghost use Rattle.std.specs.List.{position};
 ghost use Rattle.h5_names.specs.AttributeText.{is_same_name};
 ghost use Rattle.h5_flat.specs.Columns.{number_of};
@@ -63,6 +63,7 @@ impl NumberedNames {
         requires { number_of self.old name.now ≡ length self.old }
         ensures number { IfOk result (λ number. number ≡ length self.old) }
         ensures names { OnOk result (self.new ≡ self.old ++ name.now ∷ []) }
+        ensures err { OnErr result (self.new ≡ self.old) }
     {
         let number = short(self.names.len())?;
         let key = name.clone()?;

@@ -1,5 +1,5 @@
 //! The numbers of kinds (`nodeType` of the DOM standard), of namespaces and of prefixes.
-ghost use Rattle.std.specs.Prelude.{◌≡◌, ◌≤◌, ◌<◌, IfOk, option_copied};
+ghost use Rattle.std.specs.Prelude.{◌≡◌, ◌≤◌, ◌<◌, IfErr, IfOk, option_copied};
 ghost use Rattle.h5_flat.specs.Columns as c;
 ghost use Rattle.h5_flat.specs.Read as r;
 
@@ -103,7 +103,7 @@ pub(crate) fn prefix_text(number: u32) -> Option<&'static str>
 }
 
 /// The number of a quirks mode.
-pub(crate) fn quirks_number(quirks: QuirksMode) -> u32
+fn quirks_number(quirks: QuirksMode) -> u32
     ensures { result ≡ c.quirks_number quirks }
 {
     match quirks {
@@ -113,10 +113,18 @@ pub(crate) fn quirks_number(quirks: QuirksMode) -> u32
     }
 }
 
+/// The number of a quirks mode, and of whether the tree was parsed with scripting.
+pub(crate) fn mode_number(quirks: QuirksMode, scripting_enabled: bool) -> u32
+    ensures { result ≡ c.mode_number quirks scripting_enabled }
+{
+    quirks_number(quirks) + if scripting_enabled { 4 } else { 0 }
+}
+
 /// A length as a word. A length that doesn't fit fails as a failed allocation does; so does the greatest word, which means nothing.
 pub(crate) fn short(length: usize) -> Result<u32, AllocError>
     ensures length { IfOk result (λ word. word ≡ length) }
     ensures fits { IfOk result (λ word. word < 4294967295) }
+    ensures too_long { IfErr result (λ _. 4294967295 ≤ length) }
 {
     if length < NOTHING as usize {
         Ok(length as u32)

@@ -11,7 +11,7 @@ ghost use Rattle.h5_flat.specs.Columns.{held};
 ghost use Rattle.h5_flat.specs.Ids.{lent};
 
 use super::columns::Columns;
-use super::numbers::{DOCUMENT, FRAGMENT};
+use super::numbers::{DOCUMENT, FRAGMENT, mode_number};
 use h5_arena::{Arena, Child, Kind, NodeId};
 use h5_serialize::laws::calls_are_taken_in_turn;
 use h5_serialize::{Serialize, TraversalScope};
@@ -89,13 +89,19 @@ fn take_below(columns: &mut Columns, arena: &Arena, root: NodeId) -> Result<(), 
 }
 
 /// Returns the columns of a document. Fails with `AllocError` if an allocation fails, if a column has more than 4,294,967,294 entries or
-/// bytes, or if the tree has more than 16,777,214 names.
+/// bytes, or if the tree has more than 16,777,214 names. `scripting_enabled` must be the option that the tree was parsed with: the HTML of
+/// the block depends on it.
 #[tactic(auto, unfolding(crate::specs::Columns::document_columns))]
-pub fn columns_of_document(alloc: Global, arena: &Arena) -> Result<Columns, AllocError>
-    ensures { IfOk result (λ columns. held columns ≡ c.document_columns arena.now) }
+pub fn columns_of_document(
+    alloc: Global,
+    arena: &Arena,
+    scripting_enabled: bool,
+) -> Result<Columns, AllocError>
+    ensures { IfOk result (λ columns. held columns ≡ c.document_columns arena.now scripting_enabled) }
 {
     let ids = doctype_ids(arena);
-    let mut columns = Columns::new(alloc, arena.quirks(), ids.public_id, ids.system_id)?;
+    let mode = mode_number(arena.quirks(), scripting_enabled);
+    let mut columns = Columns::new(alloc, mode, ids.public_id, ids.system_id)?;
     columns.open(DOCUMENT)?;
     take_below(&mut columns, arena, arena.document())?;
     Ok(columns)
@@ -104,10 +110,15 @@ pub fn columns_of_document(alloc: Global, arena: &Arena) -> Result<Columns, Allo
 /// Returns the columns of a fragment, which is below the root that a fragment parser makes; an empty fragment if there is no root. Fails as
 /// [`columns_of_document`] does.
 #[tactic(auto, unfolding(crate::specs::Columns::fragment_columns))]
-pub fn columns_of_fragment(alloc: Global, arena: &Arena) -> Result<Columns, AllocError>
-    ensures { IfOk result (λ columns. held columns ≡ c.fragment_columns arena.now) }
+pub fn columns_of_fragment(
+    alloc: Global,
+    arena: &Arena,
+    scripting_enabled: bool,
+) -> Result<Columns, AllocError>
+    ensures { IfOk result (λ columns. held columns ≡ c.fragment_columns arena.now scripting_enabled) }
 {
-    let mut columns = Columns::new(alloc, arena.quirks(), "", "")?;
+    let mode = mode_number(arena.quirks(), scripting_enabled);
+    let mut columns = Columns::new(alloc, mode, "", "")?;
     columns.open(FRAGMENT)?;
     match arena.fragment_root() {
         Some(root) => take_below(&mut columns, arena, root)?,

@@ -1,5 +1,5 @@
 //! The block of a tree.
-ghost use Rattle.std.specs.Prelude.{◌≡◌, ◌<◌, ◌^◌, ◌++◌, ◌∷◌, [], IfOk, OnOk, length};
+ghost use Rattle.std.specs.Prelude.{◌≡◌, ◌<◌, ◌≤◌, ◌^◌, ◌++◌, ◌∷◌, [], IfErr, IfOk, OnOk, length};
 ghost use Rattle.std.specs.Int.{w32, to_le_bytes};
 ghost use Rattle.h5_flat.specs.Packed.{AreWords, AreWordsOf, IsReadAs, block_of, bytes_of_words, column, column_bytes, column_words, ended_column, ends_in, front_words, length_of, node_words, place_words, words_in, words_of};
 
@@ -63,7 +63,8 @@ fn put_ended(block: &mut Vec<u8>, list: &[Ended], which: EndedWord) -> Result<()
 impl Columns {
     // The length of the block in bytes.
     fn block_length(&self) -> Result<u32, AllocError>
-        ensures { IfOk result (λ n. n ≡ length_of self.now) }
+        ensures length { IfOk result (λ n. n ≡ length_of self.now) }
+        ensures too_long { IfErr result (λ _. 4294967295 ≤ length_of self.now) }
     {
         let nodes = 5 * self.nodes.len() as u128;
         let rows = 2 * self.rows.len() as u128;
@@ -85,7 +86,7 @@ impl Columns {
         Ok([
             MAGIC,
             length,
-            self.quirks,
+            self.mode,
             short(self.nodes.len())?,
             short(self.rows.len())?,
             short(self.names.list.len())?,

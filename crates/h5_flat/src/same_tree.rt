@@ -201,6 +201,28 @@ impl Unpacked {
         }
     }
 
+    // Returns true if a node is a child of the document.
+    #[tactic(auto, unfolding(crate::specs::SameTree::is_below_document))]
+    fn is_below_document(&self, id: NodeId) -> bool
+        ensures { result ≡ t.is_below_document self.now id.index }
+    {
+        self.arena.holds(id) && self.arena.parent(id) == Some(self.arena.document())
+    }
+
+    // Returns true if the root of a fragment is right below the document.
+    #[tactic(auto, unfolding(crate::specs::SameTree::is_root_right))]
+    pub(crate) fn is_root_right(&self, view: &View<'_>) -> bool
+        ensures { result ≡ t.is_root_right view.now.block.now self.now }
+    {
+        if view.kind(0) != FRAGMENT {
+            return true;
+        }
+        match self.id(0) {
+            Some(root) => self.is_below_document(root),
+            None => false,
+        }
+    }
+
     // Returns true if the node of each number is right.
     pub(crate) fn are_nodes_same(&self, view: &View<'_>) -> bool
         ensures { result ≡ s.all_below (t.is_same_at view.now.block.now self.now) (b.nodes_in view.now.block.now) }

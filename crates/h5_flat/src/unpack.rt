@@ -215,7 +215,7 @@ pub fn arena_of(alloc: Global, view: &View<'_>) -> Result<Option<Unpacked>, Allo
     };
     unpacked.add_all(alloc, view)?;
     unpacked.arena.set_quirks_mode(quirks_of(view.quirks()));
-    if unpacked.are_nodes_same(view) {
+    if unpacked.are_nodes_same(view) && unpacked.is_root_right(view) {
         Ok(Some(unpacked))
     } else {
         Ok(None)

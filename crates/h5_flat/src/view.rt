@@ -93,11 +93,18 @@ impl<'a> View<'a> {
         })
     }
 
-    /// The quirks mode: 0 none, 1 limited, 2 quirks.
+    /// The quirks mode: 0 none, 1 limited, 2 quirks; 3 only in bytes that weren't packed.
     pub fn quirks(&self) -> u32
         ensures { result ≡ b.quirks_in self.now.block.now }
     {
-        word_at(self.block, 2)
+        word_at(self.block, 2) % 4
+    }
+
+    /// Returns true if the tree was parsed with scripting, so the content of a `noscript` is one text, which is written unescaped.
+    pub fn is_scripting(&self) -> bool
+        ensures { result ≡ b.is_scripting_in self.now.block.now }
+    {
+        word_at(self.block, 2) / 4 % 2 == 1
     }
 
     /// The number of nodes.

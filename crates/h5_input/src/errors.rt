@@ -1,126 +1,43 @@
 //! The parse errors of a page, in the order of their lines.
-use super::page::Builder;
-use html_tree_builder::Arena;
+use super::tree_errors::TreeMessage;
 use html_tree_builder::standard::{Errors, LocatedError};
-use html_tree_builder::token::{BuildFault, Token, TokenSink, TokenSinkResult};
 use html_tree_builder::types::TreeError;
 use std::alloc::{AllocError, Global};
 
-/// A token sink that counts the errors it reported.
-pub trait Counting {
-    /// How many errors it reported.
-    fn error_count(&self) -> usize;
-}
-
-impl Counting for Builder {
-    fn error_count(&self) -> usize {
-        self.sink.errors().len()
-    }
-}
-
-/// Passes tokens on, and notes for each error that the sink reports the line of the token.
-#[derive(Drop)]
-pub struct Lined<S: TokenSink + Counting> {
-    pub sink: S,
-    pub lines: Vec<u64>,
-}
-
-impl<S: TokenSink + Counting> Lined<S> {
-    /// Nothing is noted yet.
-    pub fn new(alloc: Global, sink: S) -> Lined<S> {
-        Lined {
-            sink,
-            lines: Vec::new(alloc),
-        }
-    }
-}
-
-// Notes a line until there are `count` lines.
-fn note(lines: &mut Vec<u64>, line: u64, count: usize) -> Result<(), AllocError> {
-    for _ in lines.len()..count {
-        lines.push(line)?;
-    }
-    Ok(())
-}
-
-impl<S: TokenSink + Counting> TokenSink for Lined<S> {
-    type Handle = S::Handle;
-
-    ghost Meaning = { S.Meaning };
-
-    ghost meaning = { λ sink. S.meaning sink.sink };
-
-    ghost node = { S.node };
-
-    ghost reply_to = { S.reply_to };
-
-    ghost after = { S.after };
-
-    ghost ended = { S.ended };
-
-    ghost is_foreign = { S.is_foreign };
-
-    fn process_token(
-        &mut self,
-        token: Token,
-        line_number: u64,
-    ) -> Result<TokenSinkResult<S::Handle>, BuildFault> {
-        match self.sink.process_token(token, line_number) {
-            Ok(answer) => {
-                note(&mut self.lines, line_number, self.sink.error_count())?;
-                Ok(answer)
-            }
-            Err(fault) => Err(fault),
-        }
-    }
-
-    fn end(&mut self) {
-        self.sink.end();
-    }
-
-    fn adjusted_current_node_present_but_not_in_html_namespace(&self) -> bool {
-        self.sink
-            .adjusted_current_node_present_but_not_in_html_namespace()
-    }
-}
-
-/// The parse errors of a page.
+/// The parse errors of a page: the first ones, and how many there are.
 pub struct PageErrors {
-    /// Those of tokenization.
-    pub told: Errors,
-    /// The tree, which has the messages of the others.
-    pub tree: Arena,
-    /// The lines of these messages.
-    pub lines: Vec<u64>,
+    // Those of tokenization.
+    told: Errors,
+    // The first of tree construction.
+    built: Vec<TreeMessage>,
+    // How many of tree construction there are.
+    built_count: u64,
 }
 
 impl Drop for PageErrors {
     fn drop(self) {
         let PageErrors {
             told: _told,
-            tree: _tree,
-            lines: _lines,
+            built: _built,
+            built_count: _built_count,
         } = self;
     }
 }
 
-impl Lined<Builder> {
-    /// The errors of a page that was read, together with these of tokenization.
-    pub fn page_errors(self, told: Errors) -> PageErrors {
-        let tree = self.sink.into_sink();
+impl PageErrors {
+    /// The errors of tokenization, and of tree construction the first ones and the number of all.
+    pub(crate) fn new(told: Errors, built: Vec<TreeMessage>, built_count: u64) -> PageErrors {
         PageErrors {
             told,
-            tree,
-            lines: self.lines,
+            built,
+            built_count,
         }
     }
-}
 
-impl PageErrors {
-    /// Returns true if an allocation failed for one of them, where at most `limit` of tokenization are kept.
-    pub fn is_cut(&self, limit: usize) -> bool {
+    /// Returns true if an allocation failed for one of tokenization, of which at most `limit` are kept.
+    pub(crate) fn is_cut(&self, limit: usize) -> bool {
         let is_full = self.told.kept().len() >= limit;
-        self.tree.errors_lost() || (self.told.more() > 0 && !is_full)
+        self.told.more() > 0 && !is_full
     }
 
     /// The first errors, at most `limit`: by line, and in one line those of tokenization before those of tree construction. Fails if an
@@ -129,8 +46,7 @@ impl PageErrors {
         let mut first = Vec::new(alloc);
         let mut waiting = Waiting {
             told: self.told.kept(),
-            messages: self.tree.errors(),
-            lines: self.lines.as_slice(),
+            built: self.built.as_slice(),
         };
         for _ in 0..limit {
             match waiting.next() {
@@ -144,8 +60,8 @@ impl PageErrors {
     /// How many there are.
     pub fn count(&self) -> u64 {
         let kept = self.told.kept().len() as u64;
-        let built = self.tree.errors().len() as u64;
-        kept.saturating_add(self.told.more()).saturating_add(built)
+        kept.saturating_add(self.told.more())
+            .saturating_add(self.built_count)
     }
 }
 
@@ -153,8 +69,7 @@ impl PageErrors {
 #[derive(Drop)]
 struct Waiting<'a> {
     told: &'a [LocatedError],
-    messages: &'a [String],
-    lines: &'a [u64],
+    built: &'a [TreeMessage],
 }
 
 /// An error of a page.
@@ -169,8 +84,8 @@ pub enum PageError<'a> {
 impl<'a> Waiting<'a> {
     // Returns true if the next one is of tokenization: in one line these come first.
     fn is_text_next(&self) -> bool {
-        match (self.told.first(), self.lines.first()) {
-            (Some(told), Some(line)) => told.at.line <= *line,
+        match (self.told.first(), self.built.first()) {
+            (Some(told), Some(built)) => told.at.line <= built.line,
             (Some(_), None) => true,
             (None, _) => false,
         }
@@ -185,13 +100,11 @@ impl<'a> Waiting<'a> {
 
     // The next one of the tree.
     fn next_tree(&mut self) -> Option<PageError<'a>> {
-        let (line, lines) = self.lines.split_first()?;
-        let (message, messages) = self.messages.split_first()?;
-        self.lines = lines;
-        self.messages = messages;
+        let (built, rest) = self.built.split_first()?;
+        self.built = rest;
         Some(PageError::Tree {
-            line: *line,
-            message: message.as_str(),
+            line: built.line,
+            message: built.text.as_str(),
         })
     }
 

@@ -1,11 +1,13 @@
 //! Pages: trees, lines of tokens, and parse errors.
 use super::context::context_name;
 use super::decoding::HowRead;
-use super::errors::{Lined, PageErrors};
+use super::errors::PageErrors;
 use super::fault::InputFault;
+use super::joined_texts::JoinedTexts;
+use super::options::InputOpts;
 use super::source::{Fed, read_all};
 use super::tokens::Written;
-use html_tree_builder::encodings::EncodingOpts;
+use super::tree_errors::FirstErrors;
 use html_tree_builder::interface::{TreeSink, create_element};
 use html_tree_builder::standard::{
     BufferQueue, Errors, Parser, ReportingTokenizer, Tokenizer, TokenizerOpts, parse_document,
@@ -14,22 +16,31 @@ use html_tree_builder::standard::{
 use html_tree_builder::token::BuildFault;
 use html_tree_builder::token::states::State;
 use html_tree_builder::tree_builder::{TreeBuilder, TreeBuilderOpts};
-use html_tree_builder::{Arena, NodeId, ParseOpts, QualName};
+use html_tree_builder::{Arena, ParseOpts, QualName};
 use std::alloc::Global;
 use std::io::Read;
 
-/// The builder of the tree of a page.
-pub type Builder = TreeBuilder<NodeId, Arena>;
+// The options of a parser with or without scripting.
+fn parse_opts(scripting_enabled: bool) -> ParseOpts {
+    let mut opts = ParseOpts::default();
+    opts.tree_builder.scripting_enabled = scripting_enabled;
+    opts
+}
 
 // A parser of a document, or of a fragment in this context.
-fn parser_in(alloc: Global, context: Option<&str>) -> Result<Parser<Arena>, InputFault> {
+fn parser_in(
+    alloc: Global,
+    context: Option<&str>,
+    scripting_enabled: bool,
+) -> Result<Parser<Arena>, InputFault> {
     let arena = Arena::without_errors(alloc)?;
-    let opts = ParseOpts::default();
+    let opts = parse_opts(scripting_enabled);
     match context {
         None => Ok(parse_document(alloc, arena, opts)),
         Some(context) => {
             let name = context_name(alloc, context)?;
-            let parser = parse_fragment(alloc, arena, opts, name, Vec::new(alloc), true)?;
+            let attrs = Vec::new(alloc);
+            let parser = parse_fragment(alloc, arena, opts, name, attrs, scripting_enabled)?;
             Ok(parser)
         }
     }
@@ -40,11 +51,11 @@ fn parser_in(alloc: Global, context: Option<&str>) -> Result<Parser<Arena>, Inpu
 pub fn tree_of<R: Read>(
     alloc: Global,
     context: Option<&str>,
-    opts: EncodingOpts,
+    opts: InputOpts,
     input: &mut R,
 ) -> Result<(Arena, HowRead), InputFault> {
-    let mut parser = parser_in(alloc, context)?;
-    let how = read_all(alloc, opts, &mut parser, input)?;
+    let mut parser = parser_in(alloc, context, opts.scripting_enabled)?;
+    let how = read_all(alloc, opts.encodings, &mut parser, input)?;
     Ok((parser.finish()?, how))
 }
 
@@ -58,25 +69,26 @@ fn builder_in<Sink: TreeSink + Drop>(
     let mut sink = sink;
     let context = create_element(&mut sink, name, Vec::new(alloc))?;
     let builder = TreeBuilder::new_for_fragment(alloc, sink, context, None, opts)?;
-    let state = builder.tokenizer_state_for_context_elem(true);
+    let state = builder.tokenizer_state_for_context_elem(opts.scripting_enabled);
     Ok((builder, state))
 }
 
 // A builder of a document, or of a fragment in this context, and the options of its tokenizer.
-fn builder_for(
+fn builder_for<Sink: TreeSink + Drop>(
     alloc: Global,
-    arena: Arena,
+    sink: Sink,
     context: Option<&str>,
-) -> Result<(Builder, TokenizerOpts), InputFault> {
-    let opts = ParseOpts::default();
+    scripting_enabled: bool,
+) -> Result<(TreeBuilder<Sink::Handle, Sink>, TokenizerOpts), InputFault> {
+    let opts = parse_opts(scripting_enabled);
     match context {
         None => {
-            let builder = TreeBuilder::new(alloc, arena, opts.tree_builder);
+            let builder = TreeBuilder::new(alloc, sink, opts.tree_builder);
             Ok((builder, opts.tokenizer))
         }
         Some(context) => {
             let name = context_name(alloc, context)?;
-            let (builder, state) = builder_in(alloc, arena, name, opts.tree_builder)?;
+            let (builder, state) = builder_in(alloc, sink, name, opts.tree_builder)?;
             Ok((builder, opts.tokenizer.beginning_in(state)))
         }
     }
@@ -87,15 +99,16 @@ fn builder_for(
 pub fn tokens_of<R: Read>(
     alloc: Global,
     context: Option<&str>,
-    opts: EncodingOpts,
+    opts: InputOpts,
     input: &mut R,
 ) -> Result<(Vec<u8>, HowRead), InputFault> {
-    let (builder, begins) = builder_for(alloc, Arena::without_errors(alloc)?, context)?;
+    let arena = Arena::without_errors(alloc)?;
+    let (builder, begins) = builder_for(alloc, arena, context, opts.scripting_enabled)?;
     let mut fed = Fed {
         tokenizer: Tokenizer::new(alloc, Written::new(alloc, builder), begins),
         queue: BufferQueue::new(alloc),
     };
-    let how = read_all(alloc, opts, &mut fed, input)?;
+    let how = read_all(alloc, opts.encodings, &mut fed, input)?;
     fed.tokenizer.end()?;
     let Fed {
         tokenizer,
@@ -105,31 +118,38 @@ pub fn tokens_of<R: Read>(
 }
 
 /// The parse errors of a page, or of a fragment in this context, and how the page was read. At most `limit` errors of tokenization are
-/// kept. Fails with `Read` if the input can't be read, and with `Memory` if an allocation fails.
+/// kept, and as many of tree construction. Fails with `Read` if the input can't be read, and with `Memory` if an allocation fails.
 pub fn errors_of<R: Read>(
     alloc: Global,
     context: Option<&str>,
-    opts: EncodingOpts,
+    opts: InputOpts,
     limit: usize,
     input: &mut R,
 ) -> Result<(PageErrors, HowRead), InputFault> {
-    let (builder, begins) = builder_for(alloc, Arena::new(alloc)?, context)?;
-    let (lined, errors) = (Lined::new(alloc, builder), Errors::new(alloc, limit));
+    let sink = FirstErrors::new(alloc, Arena::without_errors(alloc)?, limit);
+    let (builder, begins) = builder_for(alloc, sink, context, opts.scripting_enabled)?;
+    let errors = Errors::new(alloc, limit);
     let mut fed = Fed {
-        tokenizer: ReportingTokenizer::new(alloc, lined, errors, begins),
+        tokenizer: ReportingTokenizer::new(alloc, JoinedTexts::new(alloc, builder), errors, begins),
         queue: BufferQueue::new(alloc),
     };
-    let how = read_all(alloc, opts, &mut fed, input)?;
+    let how = read_all(alloc, opts.encodings, &mut fed, input)?;
     fed.tokenizer.end()?;
     let Fed {
         tokenizer,
         queue: _queue,
     } = fed;
     let told = tokenizer.errors;
-    let lined = tokenizer.sink;
-    let errors = lined.page_errors(told);
-    if errors.is_cut(limit) {
-        return Err(InputFault::Memory);
+    let joined = tokenizer.sink;
+    let sink = joined.sink.into_sink();
+    match sink.into_errors() {
+        Some((built, count)) => {
+            let errors = PageErrors::new(told, built, count);
+            if errors.is_cut(limit) {
+                return Err(InputFault::Memory);
+            }
+            Ok((errors, how))
+        }
+        None => Err(InputFault::Memory),
     }
-    Ok((errors, how))
 }

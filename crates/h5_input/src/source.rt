@@ -8,7 +8,7 @@ use html_tree_builder::standard::{
 };
 use html_tree_builder::token::{BuildFault, TokenSink};
 use std::alloc::Global;
-use std::io::Read;
+use std::io::{self, ErrorKind, Read};
 
 /// A parser or a tokenizer that takes a text in chunks.
 pub trait TakeText {
@@ -61,10 +61,19 @@ impl<T: Feed + Drop> TakeText for Fed<T> {
     }
 }
 
-// The next bytes of an input, in this memory; none at its end.
-fn next_bytes<'c, R: Read>(input: &mut R, chunk: &'c mut Vec<u8>) -> Result<&'c [u8], InputFault> {
-    let count = input.read(chunk.as_mut_slice()).map_err(InputFault::Read)?;
-    Ok(&chunk.as_slice()[..count])
+// The next bytes of an input, in this memory; none at its end. A read that is interrupted is repeated.
+fn next_bytes<'c, R: Read>(input: &mut R, chunk: &'c mut [u8]) -> Result<&'c [u8], InputFault> {
+    for _ in 0..u64::MAX {
+        match input.read(chunk) {
+            Ok(count) => return Ok(&chunk[..count]),
+            Err(error) => {
+                if error.kind() != ErrorKind::Interrupted {
+                    return Err(InputFault::Read(error));
+                }
+            }
+        }
+    }
+    Err(InputFault::Read(io::Error::from(ErrorKind::Interrupted)))
 }
 
 // The number of bytes that decide the encoding of a page.
@@ -75,7 +84,7 @@ fn first_bytes<R: Read>(alloc: Global, input: &mut R) -> Result<Vec<u8>, InputFa
     let mut first = Vec::new(alloc);
     let mut chunk = vec![in alloc; 0u8; SNIFFED]?;
     for _ in 0..u64::MAX {
-        let bytes = next_bytes(input, &mut chunk)?;
+        let bytes = next_bytes(input, chunk.as_mut_slice())?;
         first.extend_from_slice(bytes)?;
         if bytes.is_empty() || first.len() >= SNIFFED {
             break;
@@ -93,7 +102,7 @@ fn read_rest<T: TakeText, R: Read>(
 ) -> Result<(), InputFault> {
     let mut chunk = vec![in alloc; 0u8; 65_536]?;
     for _ in 0..u64::MAX {
-        let bytes = next_bytes(input, &mut chunk)?;
+        let bytes = next_bytes(input, chunk.as_mut_slice())?;
         if bytes.is_empty() {
             break;
         }

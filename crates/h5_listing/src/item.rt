@@ -99,8 +99,8 @@ impl Item {
     }
 
     // The values with their names.
-    fn print_json(&self, out: &mut String) -> Result<(), AllocError> {
-        out.push('{')?;
+    fn print_json(&self, out: &mut String, path: Option<&str>) -> Result<(), AllocError> {
+        begin_object(self.alloc, out, path)?;
         let mut is_first = true;
         for field in self.fields.as_slice() {
             if !is_first {
@@ -114,11 +114,11 @@ impl Item {
         out.push('}')
     }
 
-    // Prints it, as a line or as an object.
-    fn print(&self, out: &mut String, form: Form) -> Result<(), AllocError> {
+    // Prints it, as a line or as an object with this path.
+    fn print(&self, out: &mut String, form: Form, path: Option<&str>) -> Result<(), AllocError> {
         match form {
             Form::Lines => self.print_values(out),
-            Form::Json | Form::Array => self.print_json(out),
+            Form::Json | Form::Array => self.print_json(out, path),
         }
     }
 }
@@ -131,20 +131,38 @@ fn print_array(items: &[Item], out: &mut String) -> Result<(), AllocError> {
         if !is_first {
             out.push(',')?;
         }
-        item.print_json(out)?;
+        item.print_json(out, None)?;
         is_first = false;
     }
     out.push(']')
 }
 
-/// Prints items, each followed by a newline, or as an array. Fails with `AllocError` if an allocation fails.
-pub fn print_items(items: &[Item], out: &mut String, form: Form) -> Result<(), AllocError> {
+/// Prints items, each followed by a newline, or as an array. An object that isn't in an array begins with this path, if there is one. Fails
+/// with `AllocError` if an allocation fails.
+pub fn print_items(
+    items: &[Item],
+    out: &mut String,
+    form: Form,
+    path: Option<&str>,
+) -> Result<(), AllocError> {
     if let Form::Array = form {
         return print_array(items, out);
     }
     for item in items {
-        item.print(out, form)?;
+        item.print(out, form, path)?;
         out.push('\n')?;
+    }
+    Ok(())
+}
+
+/// Begins a JSON object whose first member is this path, if there is one; another member must follow. Fails with `AllocError` if an
+/// allocation fails.
+pub fn begin_object(alloc: Global, out: &mut String, path: Option<&str>) -> Result<(), AllocError> {
+    out.push('{')?;
+    if let Some(path) = path {
+        out.push_str("\"path\":")?;
+        write_json(alloc, out, path)?;
+        out.push(',')?;
     }
     Ok(())
 }

@@ -1,26 +1,12 @@
 //! The links of a page.
+use super::entries::{Listing, entries_of};
 use super::item::Item;
-use super::words::{words_of, write_words};
+use super::words::write_words;
 use h5_page::links_of;
-use html_tree_builder::QualName;
 use html_tree_builder::arena::NodeRef;
 use std::alloc::{AllocError, Global};
 use std::fmt::Write;
 use url::Url;
-
-// The attribute of an HTML element that has its link or the resource that it embeds.
-fn attribute_of(name: &QualName) -> Option<&'static str> {
-    if !name.ns.is_html() {
-        return None;
-    }
-    match name.local.as_str() {
-        "a" | "area" | "link" => Some("href"),
-        "audio" | "embed" | "iframe" | "img" | "input" | "script" | "source" | "track" | "video" =>
-            { Some("src") }
-        "form" => Some("action"),
-        _ => None,
-    }
-}
 
 // A link resolved against a base. Without a base, or if it isn't a URL, it is unchanged.
 fn lead(alloc: Global, base: Option<&Url>, href: &str) -> Result<String, AllocError> {
@@ -106,38 +92,24 @@ pub fn references(
     Ok(found)
 }
 
-// A link or reference: the name of its element, its target, and its words.
-fn leading(
-    alloc: Global,
-    element: &str,
-    href: &str,
-    node: &NodeRef<'_>,
-    base: Option<&Url>,
-) -> Result<Item, AllocError> {
-    let href = lead(alloc, base, href)?;
-    let text = words_of(alloc, node)?;
-    let mut item = Item::new(alloc);
-    item.add("element", element)?;
-    item.add("href", href.as_str())?;
-    item.add("text", text.as_str())?;
-    Ok(item)
-}
-
-/// All links of a page and all resources that it embeds, in tree order: the name of the element, the target, and the words of its text. Fails
-/// with `AllocError` if an allocation fails.
+/// All links of a page and all resources that it embeds, in tree order: the name of the element, the target, and the words of its text. An
+/// element of the same name in it ends its text. Fails with `AllocError` if an allocation fails.
 pub fn all_links(
     alloc: Global,
     top: &NodeRef<'_>,
     base: Option<&Url>,
 ) -> Result<Vec<Item>, AllocError> {
-    let arena = top.arena;
+    let entries = entries_of(alloc, top, Listing::References)?;
     let mut found = Vec::new(alloc);
-    for id in arena.descendants(top.id)? {
-        if let Some(name) = arena.name(id) {
-            if let Some(href) = attribute_of(name).and_then(|attribute| arena.attr(id, attribute)) {
-                let element = name.local.as_str();
-                found.push(leading(alloc, element, href, &arena.at(id), base)?)?;
-            }
+    for entry in entries.list.as_slice() {
+        if let Some(target) = &entry.target {
+            let href = lead(alloc, base, target.as_str())?;
+            let text = entries.words_of(entry)?;
+            let mut item = Item::new(alloc);
+            item.add("element", entry.label)?;
+            item.add("href", href.as_str())?;
+            item.add("text", text.as_str())?;
+            found.push(item)?;
         }
     }
     Ok(found)

@@ -1,7 +1,7 @@
 //! The tree of a page as JSON.
 ghost use Rattle.std.specs.Iterator.{IsFinite};
 
-use super::item::write_json;
+use super::item::{begin_object, write_json};
 use html_tree_builder::QualName;
 use html_tree_builder::arena::NodeRef;
 use html_tree_builder::serialize::{
@@ -12,8 +12,10 @@ use std::fmt::Write;
 
 // A serializer that writes one JSON object per node, each on its own line.
 #[derive(Drop)]
-struct NodeLines {
+struct NodeLines<'a> {
     out: String,
+    // The path that each object begins with.
+    path: Option<&'a str>,
     level: usize,
     alloc: Global,
 }
@@ -64,11 +66,12 @@ fn write_attributes<T: AttrRef, I: Iterator<Item = T> + Drop>(
     Ok(())
 }
 
-impl NodeLines {
+impl<'a> NodeLines<'a> {
     // Begins an object: the level of the node and its kind.
     fn begin(&mut self, what: &str, text: &str) -> Result<(), AllocError> {
         let level = self.level;
-        write!(self.out, "{{\"level\":{level},\"{what}\":")?;
+        begin_object(self.alloc, &mut self.out, self.path)?;
+        write!(self.out, "\"level\":{level},\"{what}\":")?;
         write_json(self.alloc, &mut self.out, text)
     }
 
@@ -79,7 +82,7 @@ impl NodeLines {
     }
 }
 
-impl Serializer for NodeLines {
+impl<'a> Serializer for NodeLines<'a> {
     ghost use Rattle.std.specs.Prelude.{[], None, Ok};
 
     ghost Meaning = { Unit {0} };
@@ -141,10 +144,16 @@ impl Serializer for NodeLines {
 }
 
 /// The descendants of a node in tree order, one JSON object per line: its `level`, and its name as `element` with its `attributes`, or its
-/// `text`, `comment` or `doctype`. The contents of a template come below it. Fails with `AllocError` if an allocation fails.
-pub fn node_lines(alloc: Global, top: &NodeRef<'_>) -> Result<String, AllocError> {
+/// `text`, `comment` or `doctype`, after this path if there is one. The contents of a template come below it. Fails with `AllocError` if an
+/// allocation fails.
+pub fn node_lines(
+    alloc: Global,
+    top: &NodeRef<'_>,
+    path: Option<&str>,
+) -> Result<String, AllocError> {
     let mut lines = NodeLines {
         out: String::new(alloc),
+        path,
         level: 0,
         alloc,
     };

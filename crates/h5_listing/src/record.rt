@@ -1,7 +1,9 @@
 //! Records: pages in JSON lines, and their output lines.
 use super::item::write_json;
+use super::member::written_value;
 use serde_json::{Error, Value};
 use std::alloc::{AllocError, Global};
+use std::fmt::Write;
 
 /// The page of a record.
 #[derive(Clone, Copy)]
@@ -12,70 +14,73 @@ pub enum Page<'a> {
     Path(&'a str),
 }
 
-/// A record of a page.
-pub struct Record {
-    value: Value,
-    alloc: Global,
+/// Why a record has no page.
+#[derive(Clone, Copy)]
+pub enum NoPage {
+    /// It has neither `html` nor `path`.
+    Missing,
+    /// Its `html` isn't a string.
+    HtmlIsNoString,
+    /// It has no `html`, and its `path` isn't a string.
+    PathIsNoString,
 }
 
-impl Drop for Record {
+/// A record of a page.
+pub struct Record<'a> {
+    value: Value,
+    // The value of its `id`, as it is written.
+    id: Option<&'a str>,
+}
+
+impl<'a> Drop for Record<'a> {
     fn drop(self) {
         let Record {
             value: _value,
-            alloc: _alloc,
+            id: _id,
         } = self;
     }
 }
 
-impl Record {
+impl<'a> Record<'a> {
     /// The record in a line. Fails with an `Error` if the line isn't JSON, which says where, or if an allocation fails.
-    pub fn parse(alloc: Global, line: &str) -> Result<Record, Error> {
+    pub fn parse(alloc: Global, line: &'a str) -> Result<Record<'a>, Error> {
         let value = Value::from_str(alloc, line)?;
-        Ok(Record { value, alloc })
-    }
-
-    // The value of a key.
-    fn said(&self, name: &str) -> Option<&str> {
-        self.value.get(name).and_then(Value::as_str)
-    }
-
-    /// The page, if there is one: the value of `html`, or else the file with the name in `path`.
-    pub fn page(&self) -> Option<Page<'_>> {
-        match (self.said("html"), self.said("path")) {
-            (Some(html), _) => Some(Page::Html(html)),
-            (None, Some(path)) => Some(Page::Path(path)),
-            (None, None) => None,
-        }
-    }
-
-    // Writes its `id`, if it has one, as the first member of an object.
-    fn write_id(&self, out: &mut String) -> Result<bool, AllocError> {
-        let Some(id) = self.value.get("id") else {
-            return Ok(false);
+        let id = if value.is_object() {
+            written_value(alloc, line, "id")?
+        } else {
+            None
         };
-        let json = id.to_string(self.alloc)?;
-        out.push_str("{\"id\":")?;
-        out.push_str(json.as_str())?;
-        Ok(true)
+        Ok(Record { value, id })
+    }
+
+    /// The page: the value of `html`, or else the file with the name in `path`. Fails with `Missing` if the record has neither, and with
+    /// `HtmlIsNoString` or `PathIsNoString` if the value isn't a string.
+    pub fn page(&self) -> Result<Page<'_>, NoPage> {
+        match (self.value.get("html"), self.value.get("path")) {
+            (Some(html), _) => match html.as_str() {
+                Some(html) => Ok(Page::Html(html)),
+                None => Err(NoPage::HtmlIsNoString),
+            },
+            (None, Some(path)) => match path.as_str() {
+                Some(path) => Ok(Page::Path(path)),
+                None => Err(NoPage::PathIsNoString),
+            },
+            (None, None) => Err(NoPage::Missing),
+        }
     }
 }
 
-/// The start of an output line: an object with the `id` of the record, or the number of its line if it has none. Fails with `AllocError` if an
-/// allocation fails.
+/// The start of an output line: an object with the `id` of the record, as it was written, or the number of its line if it has none. Fails
+/// with `AllocError` if an allocation fails.
 pub fn begin_answer(
     alloc: Global,
-    record: Option<&Record>,
+    record: Option<&Record<'_>>,
     line: u64,
 ) -> Result<String, AllocError> {
     let mut out = String::new(alloc);
-    let has_id = match record {
-        Some(record) => record.write_id(&mut out)?,
-        None => false,
-    };
-    if !has_id {
-        let number = Value::from(line).to_string(alloc)?;
-        out.push_str("{\"line\":")?;
-        out.push_str(number.as_str())?;
+    match record.and_then(|record| record.id) {
+        Some(id) => write!(out, "{{\"id\":{id}")?,
+        None => write!(out, "{{\"line\":{line}")?,
     }
     Ok(out)
 }

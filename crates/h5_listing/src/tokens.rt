@@ -1,5 +1,5 @@
 //! The tokens of a page as JSON.
-use super::item::write_json;
+use super::item::{begin_object, write_json};
 use h5_print::read_escapes;
 use std::alloc::{AllocError, Global};
 
@@ -33,9 +33,14 @@ fn name_of(word: &str) -> &'static str {
 }
 
 // Writes the object of one line.
-fn write_token(alloc: Global, out: &mut String, line: &str) -> Result<(), AllocError> {
+fn write_token(
+    alloc: Global,
+    out: &mut String,
+    line: &str,
+    path: Option<&str>,
+) -> Result<(), AllocError> {
     let (word, rest) = line.split_once(' ').unwrap_or((line, ""));
-    out.push('{')?;
+    begin_object(alloc, out, path)?;
     if word == "A" {
         let (name, value) = rest.split_once(' ').unwrap_or((rest, ""));
         write_pair(alloc, out, "attribute", name)?;
@@ -47,12 +52,12 @@ fn write_token(alloc: Global, out: &mut String, line: &str) -> Result<(), AllocE
     out.push_str("}\n")
 }
 
-/// The lines that `h5 tokens` reads, one JSON object per line: the token, and for an attribute also its `value`. Fails with `AllocError` if an
-/// allocation fails.
-pub fn token_lines(alloc: Global, lines: &str) -> Result<String, AllocError> {
+/// The lines that `h5 tokens` reads, one JSON object per line: the token, and for an attribute also its `value`, after this path if there is
+/// one. Fails with `AllocError` if an allocation fails.
+pub fn token_lines(alloc: Global, lines: &str, path: Option<&str>) -> Result<String, AllocError> {
     let mut out = String::new(alloc);
     for line in lines.lines() {
-        write_token(alloc, &mut out, line)?;
+        write_token(alloc, &mut out, line, path)?;
     }
     Ok(out)
 }

@@ -1,7 +1,8 @@
--- How elements are shown without a style sheet (HTML standard, section 15.3, "Non-replaced elements").
+-- How elements are shown without a style sheet (HTML standard, section 15.3, "Non-replaced elements"; SVG 2, "User agent style
+-- sheet").
 use Rattle.std.specs.Prelude.{ℕ, Bool, true, false, List, [], codes, if◌then◌else◌, bytes_eq, ◌||◌}
 use Rattle.html_tree_builder.specs.AttributeText.{is_same_text}
-use Rattle.html_tree_builder.specs.Urls.{html_text}
+use Rattle.html_tree_builder.specs.Urls.{html_text, mathml_text, svg_text}
 use Rattle.html_tree_builder.specs.KnownNames.{known_name_of}
 use Rattle.html_tree_builder.specs.Types.{KnownName}
 use Rattle.html_tree_builder.specs.KnownVariants as known
@@ -58,7 +59,6 @@ wide_display known.Xmp = show.Preformatted
 wide_display known.Iframe = show.Nothing
 wide_display known.Noembed = show.Nothing
 wide_display known.Noframes = show.Nothing
-wide_display known.Noscript = show.Nothing
 wide_display known.Rp = show.Nothing
 wide_display known.Script = show.Nothing
 wide_display known.Style = show.Nothing
@@ -94,24 +94,42 @@ other_display name =
     else if bytes_eq name (codes "legend") then show.Block
     else show.Inline
 
-abbrev pub display_by : KnownName → List ℕ → Display
-display_by known.Other name = other_display name
-display_by number name = known_display number
+-- a `noscript` isn't shown if scripting is enabled: its content is text then
+abbrev pub display_by : (scripting_enabled : Bool) → KnownName → List ℕ → Display
+display_by scripting_enabled known.Noscript name = if scripting_enabled then show.Nothing else show.Inline
+display_by scripting_enabled known.Other name = other_display name
+display_by scripting_enabled number name = known_display number
 
-abbrev pub html_display : List ℕ → Display
-html_display name = display_by (known_name_of name) name
+abbrev pub html_display : (scripting_enabled : Bool) → List ℕ → Display
+html_display scripting_enabled name = display_by scripting_enabled (known_name_of name) name
 
--- names of SVG and MathML
-abbrev pub foreign_display : List ℕ → Display
-foreign_display name =
-    if bytes_eq name (codes "annotation") || bytes_eq name (codes "annotation-xml") || bytes_eq name (codes "desc")
-    || bytes_eq name (codes "metadata") || bytes_eq name (codes "script") || bytes_eq name (codes "style")
-    || bytes_eq name (codes "title") then show.Nothing
+-- names of SVG: elements that are never rendered, links, and texts
+abbrev pub is_unrendered : List ℕ → Bool
+is_unrendered name =
+    bytes_eq name (codes "clipPath") || bytes_eq name (codes "defs") || bytes_eq name (codes "desc")
+    || bytes_eq name (codes "linearGradient") || bytes_eq name (codes "marker") || bytes_eq name (codes "mask")
+    || bytes_eq name (codes "metadata") || bytes_eq name (codes "pattern") || bytes_eq name (codes "radialGradient")
+    || bytes_eq name (codes "script") || bytes_eq name (codes "style") || bytes_eq name (codes "symbol") || bytes_eq name (codes "title")
+
+abbrev pub svg_display : List ℕ → Display
+svg_display name =
+    if is_unrendered name then show.Nothing
     else if bytes_eq name (codes "a") then show.Link
+    else if bytes_eq name (codes "text") then show.Block
     else show.Inline
 
-abbrev pub display_of : QualName → Display
-display_of name = if is_same_text name.ns html_text then html_display name.local else foreign_display name.local
+-- names of MathML
+abbrev pub mathml_display : List ℕ → Display
+mathml_display name =
+    if bytes_eq name (codes "annotation") || bytes_eq name (codes "annotation-xml") then show.Nothing
+    else show.Inline
+
+abbrev pub display_of : (scripting_enabled : Bool) → QualName → Display
+display_of scripting_enabled name =
+    if is_same_text name.ns html_text then html_display scripting_enabled name.local
+    else if is_same_text name.ns svg_text then svg_display name.local
+    else if is_same_text name.ns mathml_text then mathml_display name.local
+    else show.Inline
 
 -- the attribute that a display uses
 abbrev pub asked : Display → List ℕ

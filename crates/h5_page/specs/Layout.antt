@@ -1,5 +1,5 @@
 -- The lines of a page, laid out text by text: the gap between two texts, and what is written for it.
-use Rattle.std.specs.Prelude.{ℕ, ◌+◌, ◌==◌, ◌||◌, Bool, true, false, nat_lt, if◌then◌else◌, List, [], ◌∷◌, ◌++◌, Option, None, Some}
+use Rattle.std.specs.Prelude.{ℕ, ◌==◌, ◌||◌, Bool, true, false, if◌then◌else◌, List, [], ◌∷◌, ◌++◌, Option, None, Some}
 use Rattle.h5_page.specs.Wrapped.{spaces, wrapped}
 use Rattle.h5_page.specs.declared.layout.Gap.{Gap}
 use Rattle.h5_page.specs.declared.layout.Gap.TheVariants.{Start, Front, Mark, Close, Blank, Line, Paragraph}

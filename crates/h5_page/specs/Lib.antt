@@ -5,6 +5,7 @@ pub mod Layout
 pub mod Links
 pub mod LinksOfPage
 pub mod Numbers
+pub mod Styles
 pub mod Text
 pub mod TextOfPage
 pub mod Wrapped

@@ -1,6 +1,7 @@
 -- The links of a page: by the calls of its walk, and as they are collected between calls.
-use Rattle.std.specs.Prelude.{ℕ, Bool, if◌then◌else◌, List, [], ◌∷◌, ◌++◌, map, Option, None, Some, option_map, bytes_eq, codes, string_bytes}
-use Rattle.html_tree_builder.specs.AttributeText.{AttributeText}
+use Rattle.std.specs.Prelude.{ℕ, Bool, ◌&&◌, ◌||◌, if◌then◌else◌, List, [], ◌∷◌, ◌++◌, map, Option, None, Some, option_map, bytes_eq, codes, string_bytes}
+use Rattle.html_tree_builder.specs.AttributeText.{AttributeText, is_same_text}
+use Rattle.html_tree_builder.specs.Urls.{html_text, svg_text}
 use Rattle.html_tree_builder.specs.Types.{QualName}
 use Rattle.html_tree_builder.specs.Call.{Call, StartOf, EndOf, TextOf}
 use Rattle.h5_page.specs.declared.links.Link.{Link}
@@ -17,9 +18,9 @@ link_text link = record { href = string_bytes link.href; text = string_bytes lin
 abbrev pub link_texts : List Link → List LinkText
 link_texts = map link_text
 
--- a link is an element with the local name `a`, in any namespace, that has an attribute with the local name `href`
+-- a link is an `a` of HTML or SVG that has an attribute with the local name `href`
 abbrev pub is_link : QualName → Bool
-is_link name = bytes_eq name.local (codes "a")
+is_link name = (is_same_text name.ns html_text || is_same_text name.ns svg_text) && bytes_eq name.local (codes "a")
 
 abbrev pub href_of : List AttributeText → Option (List ℕ)
 href_of [] = None

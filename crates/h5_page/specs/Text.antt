@@ -1,9 +1,8 @@
 -- The text of a page, as a browser shows it without a style sheet, by the calls of the page's walk.
 use Rattle.std.specs.Prelude.{ℕ, ◌+◌, ◌&&◌, ◌||◌, Bool, true, false, not, nat_lt, if◌then◌else◌, is_some, length, List, [], ◌∷◌, ◌++◌, Option, None, Some, codes}
 use Rattle.std.specs.Fmt.{decimal}
-use Rattle.std.specs.Option.{option_map_or, option_to_list}
+use Rattle.std.specs.Option.{option_map_or}
 use Rattle.html_tree_builder.specs.AttributeText.{AttributeText}
-use Rattle.html_tree_builder.specs.Types.{QualName}
 use Rattle.html_tree_builder.specs.Call.{Call, StartOf, EndOf, TextOf}
 use Rattle.html_tree_builder.specs.Walk.{after_each}
 use Rattle.h5_page.specs.Attributes.{SaidText, said_of}
@@ -132,9 +131,10 @@ finished show.Group in_list p = broken false p
 finished show.Dialog in_list p = broken false p
 finished display in_list p = p
 
--- the state between two calls: the item counts of the lists that follow, the open elements, the layout, and, if links have
--- numbers, the `href` of each
+-- the state between two calls: if scripting is enabled, the item counts of the lists that follow, the open elements, the
+-- layout, and, if links have numbers, the `href` of each
 pub record Kept : Type 0 where
+  pub scripting_enabled : Bool
   pub counts : List ℕ
   pub opened : Opened
   pub laid : Laid
@@ -142,10 +142,10 @@ pub record Kept : Type 0 where
   pub hrefs : List (List ℕ)
 
 abbrev pub plain_opts : TextOpts
-plain_opts = record { width = None; has_numbers = false }
+plain_opts = record { width = None; has_numbers = false; scripting_enabled = true }
 
 abbrev pub nothing_kept : TextOpts → (counts : List ℕ) → Kept
-nothing_kept opts counts = record { counts = counts; opened = none_open; laid = nothing_laid opts.width; has_numbers = opts.has_numbers; hrefs = [] }
+nothing_kept opts counts = record { scripting_enabled = opts.scripting_enabled; counts = counts; opened = none_open; laid = nothing_laid opts.width; has_numbers = opts.has_numbers; hrefs = [] }
 
 -- the `href` of a link that begins
 abbrev pub link_of : Display → SaidText → Option (List ℕ)
@@ -199,8 +199,11 @@ stopped k = record k { opened = left k.opened; laid = finished_in (left k.opened
 abbrev pub said : (text : List ℕ) → Kept → Kept
 said text k = record k { laid = if k.opened.current.is_shown then with_text k.opened.current.keeps_blanks k.opened.current.indent text k.laid else k.laid }
 
+abbrev pub started_as : Display → (ns : List ℕ) → List AttributeText → Kept → Kept
+started_as display ns attrs k = started display (said_of ns (asked display) attrs) k
+
 abbrev pub after_call : Kept → Call → Kept
-after_call k (StartOf name attrs) = started (display_of name) (said_of (asked (display_of name)) attrs) k
+after_call k (StartOf name attrs) = started_as (display_of k.scripting_enabled name) name.ns attrs k
 after_call k (EndOf name) = stopped k
 after_call k (TextOf text) = said text k
 after_call k call = k

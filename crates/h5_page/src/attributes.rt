@@ -1,13 +1,15 @@
 //! What an element's attributes say about how it is shown.
-ghost use Rattle.std.specs.Prelude.{◌≡◌, IfOk, List, map, option_map, string_bytes};
+ghost use Rattle.std.specs.Prelude.{◌≡◌, ◌||◌, IfOk, List, map, option_map, string_bytes};
 ghost use Rattle.std.specs.Iterator.{Drains, IsFinite};
 ghost use Rattle.h5_page.specs.Attributes as a;
 
+use super::style::hides;
+use html_tree_builder::names::Namespace;
 use html_tree_builder::serialize::AttrRef;
 use std::alloc::{AllocError, Global};
 use std::marker::Model;
 
-/// The `hidden` and `reversed` flags of an element, and the value of the attribute that its display uses.
+/// True flags if an element is hidden and if its numbers are reversed, and the value of the attribute that its display uses.
 #[derive(Drop)]
 pub struct Said {
     pub is_hidden: bool,
@@ -22,6 +24,50 @@ impl Model for Said {
     ghost Value = { SaidText };
 
     ghost view = { λ said. record { is_hidden = said.is_hidden; is_reversed = said.is_reversed; value = option_map string_bytes said.value } };
+}
+
+// Returns true if this attribute hides an element of this namespace.
+fn is_hiding<T: AttrRef>(alloc: Global, ns: &Namespace, attr: &T) -> Result<bool, AllocError>
+    ensures { IfOk result (λ is_hiding. is_hiding ≡ a.is_hiding ns.now (T.attribute attr.now)) }
+{
+    match attr.name().local.as_str() {
+        "hidden" => Ok(ns.is_html()),
+        "style" if ns.is_html() || ns.is_svg() => hides(alloc, attr.value()),
+        _ => Ok(false),
+    }
+}
+
+// Returns true if the element is hidden already, or if this attribute hides it.
+fn hidden_with<T: AttrRef>(
+    alloc: Global,
+    hidden: bool,
+    ns: &Namespace,
+    attr: &T,
+) -> Result<bool, AllocError>
+    ensures { IfOk result (λ more. more ≡ (hidden || a.is_hiding ns.now (T.attribute attr.now))) }
+{
+    if hidden {
+        return Ok(true);
+    }
+    is_hiding(alloc, ns, attr)
+}
+
+/// Returns true if these attributes hide an element of this namespace. Fails with `AllocError` if an allocation fails.
+pub fn is_hidden<T: AttrRef, I: Iterator<Item = T> + Drop>(
+    alloc: Global,
+    ns: &Namespace,
+    attrs: I,
+) -> Result<bool, AllocError>
+    requires can { I.can_next attrs }
+    requires ends { IsFinite (I.remaining attrs) }
+    ensures { IfOk result (λ hidden. (all : List _) × Drains I.next_gives attrs all
+        × (hidden ≡ a.is_hidden ns.now (map T.attribute all))) }
+{
+    let mut hidden = false;
+    'attributes: for attr in attrs {
+        hidden = hidden_with(alloc, hidden, ns, &attr)?;
+    }
+    Ok(hidden)
 }
 
 // Returns the value that was found before, or else that of this attribute, if it is the one that is used.
@@ -44,12 +90,13 @@ fn found_in<T: AttrRef>(
 fn with_attribute<T: AttrRef>(
     alloc: Global,
     said: Said,
+    ns: &Namespace,
     asked: &str,
     attr: &T,
 ) -> Result<Said, AllocError>
-    ensures { IfOk result (λ more. more ≡ a.with_attribute asked.now said (T.attribute attr.now)) }
+    ensures { IfOk result (λ more. more ≡ a.with_attribute ns.now asked.now said (T.attribute attr.now)) }
 {
-    let is_hidden = said.is_hidden || attr.name().local.as_str() == "hidden";
+    let is_hidden = hidden_with(alloc, said.is_hidden, ns, attr)?;
     let is_reversed = said.is_reversed || attr.name().local.as_str() == "reversed";
     let value = found_in(alloc, said.value, asked, attr)?;
     Ok(Said {
@@ -59,16 +106,18 @@ fn with_attribute<T: AttrRef>(
     })
 }
 
-/// Returns what these attributes say. `asked` is the name of the attribute that the display uses.
+/// Returns what these attributes say about an element of this namespace. `asked` is the name of the attribute that the display
+/// uses. Fails with `AllocError` if an allocation fails.
 pub fn said_of<T: AttrRef, I: Iterator<Item = T> + Drop>(
     alloc: Global,
+    ns: &Namespace,
     asked: &str,
     attrs: I,
 ) -> Result<Said, AllocError>
     requires can { I.can_next attrs }
     requires ends { IsFinite (I.remaining attrs) }
     ensures { IfOk result (λ said. (all : List _) × Drains I.next_gives attrs all
-        × (said ≡ a.said_of asked.now (map T.attribute all))) }
+        × (said ≡ a.said_of ns.now asked.now (map T.attribute all))) }
 {
     let mut said = Said {
         is_hidden: false,
@@ -76,7 +125,7 @@ pub fn said_of<T: AttrRef, I: Iterator<Item = T> + Drop>(
         value: None,
     };
     'attributes: for attr in attrs {
-        said = with_attribute(alloc, said, asked, &attr)?;
+        said = with_attribute(alloc, said, ns, asked, &attr)?;
     }
     Ok(said)
 }

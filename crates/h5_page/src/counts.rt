@@ -1,7 +1,8 @@
 //! The item counts of a page's lists.
-ghost use Rattle.std.specs.Prelude.{◌≡◌, OnOk};
+ghost use Rattle.std.specs.Prelude.{◌≡◌, false, OnOk};
 ghost use Rattle.h5_page.specs.Counts as c;
 
+use super::attributes::is_hidden;
 use super::display::{Display, display_of};
 use super::number::one_more;
 use html_tree_builder::names::QualName;
@@ -15,6 +16,7 @@ pub struct ItemCounter {
     counts: Vec<usize>,
     // For each open element: which of the lists it is, if any. The innermost is last.
     elements: Vec<Option<usize>>,
+    alloc: Global,
 }
 
 impl Model for ItemCounter {
@@ -34,6 +36,7 @@ impl ItemCounter {
         ItemCounter {
             counts: Vec::new(alloc),
             elements: Vec::new(alloc),
+            alloc,
         }
     }
 
@@ -62,10 +65,12 @@ impl ItemCounter {
     }
 
     // Begins an item.
-    fn begin_item(&mut self) -> Result<(), AllocError>
-        ensures { OnOk result (self.new ≡ c.started Display.Item self.old) }
+    fn begin_item(&mut self, is_hidden: bool) -> Result<(), AllocError>
+        ensures { OnOk result (self.new ≡ c.started Display.Item is_hidden self.old) }
     {
-        if let Some(Some(list)) = self.elements.last().copied() {
+        if let Some(Some(list)) = self.elements.last().copied()
+            && !is_hidden
+        {
             self.raise(list);
         }
         self.enter(None)
@@ -73,22 +78,11 @@ impl ItemCounter {
 
     // Begins a numbered list.
     fn begin_list(&mut self) -> Result<(), AllocError>
-        ensures { OnOk result (self.new ≡ c.started Display.Numbered self.old) }
+        ensures { OnOk result (self.new ≡ c.started Display.Numbered false self.old) }
     {
         let list = self.counts.len();
         self.counts.push(0)?;
         self.enter(Some(list))
-    }
-
-    // Begins an element.
-    fn start(&mut self, display: Display) -> Result<(), AllocError>
-        ensures { OnOk result (self.new ≡ c.started display self.old) }
-    {
-        match display {
-            Display::Numbered => self.begin_list(),
-            Display::Item => self.begin_item(),
-            _ => self.enter(None),
-        }
     }
 
     // Ends an element.
@@ -121,10 +115,23 @@ impl Serializer for ItemCounter {
     fn start_elem<T: AttrRef, I: Iterator<Item = T> + Drop>(
         &mut self,
         name: QualName,
-        _attrs: I,
+        attrs: I,
     ) -> Result<(), SerializeFault> {
-        self.start(display_of(&name))?;
-        Ok(())
+        match display_of(true, &name) {
+            Display::Item => {
+                let is_hidden = is_hidden(self.alloc, &name.ns, attrs)?;
+                self.begin_item(is_hidden)?;
+                Ok(())
+            }
+            Display::Numbered => {
+                self.begin_list()?;
+                Ok(())
+            }
+            _ => {
+                self.enter(None)?;
+                Ok(())
+            }
+        }
     }
 
     fn end_elem(&mut self, _name: QualName) -> Result<(), SerializeFault> {

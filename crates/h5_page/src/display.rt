@@ -2,9 +2,10 @@
 ghost use Rattle.std.specs.Prelude.{◌≡◌, codes};
 ghost use Rattle.h5_page.specs.Displays as d;
 
-use html_tree_builder::names::{KnownName, Namespace, QualName};
+use html_tree_builder::names::{KnownName, QualName};
 
-/// How an element is shown without a style sheet (HTML standard, section 15.3, "Non-replaced elements").
+/// How an element is shown without a style sheet (HTML standard, section 15.3, "Non-replaced elements"; SVG 2, "User agent style
+/// sheet").
 #[derive(Clone, Copy, Debug)]
 pub enum Display {
     /// In its line. This is the display of every element that isn't named below.
@@ -41,7 +42,7 @@ pub enum Display {
     Group,
     /// `dialog`: a block if it is open.
     Dialog,
-    /// `a`.
+    /// `a` of HTML or SVG.
     Link,
 }
 
@@ -101,7 +102,6 @@ fn wide_display(name: KnownName) -> Display
         KnownName::Iframe
         | KnownName::Noembed
         | KnownName::Noframes
-        | KnownName::Noscript
         | KnownName::Rp
         | KnownName::Script
         | KnownName::Style
@@ -144,36 +144,63 @@ fn other_display(name: &str) -> Display
 }
 
 // Names of HTML elements.
-fn html_display(name: &QualName) -> Display
-    ensures { result ≡ d.html_display name.now.local }
+fn html_display(scripting_enabled: bool, name: &QualName) -> Display
+    ensures { result ≡ d.html_display scripting_enabled name.now.local }
 {
     match name.local.known() {
+        KnownName::Noscript if scripting_enabled => Display::Nothing,
+        KnownName::Noscript => Display::Inline,
         KnownName::Other => other_display(name.local.as_str()),
         known => known_display(known),
     }
 }
 
-// Names of SVG and MathML elements.
-fn foreign_display(name: &QualName) -> Display
-    ensures { result ≡ d.foreign_display name.now.local }
+// Names of SVG elements.
+fn svg_display(name: &str) -> Display
+    ensures { result ≡ d.svg_display name.now }
 {
-    match name.local.as_str() {
-        "annotation" | "annotation-xml" | "desc" | "metadata" | "script" | "style" | "title" => {
-            Display::Nothing
-        }
+    match name {
+        "clipPath"
+        | "defs"
+        | "desc"
+        | "linearGradient"
+        | "marker"
+        | "mask"
+        | "metadata"
+        | "pattern"
+        | "radialGradient"
+        | "script"
+        | "style"
+        | "symbol"
+        | "title" => { Display::Nothing }
         "a" => Display::Link,
+        "text" => Display::Block,
+        _ => Display::Inline,
+    }
+}
+
+// Names of MathML elements.
+fn mathml_display(name: &str) -> Display
+    ensures { result ≡ d.mathml_display name.now }
+{
+    match name {
+        "annotation" | "annotation-xml" => Display::Nothing,
         _ => Display::Inline,
     }
 }
 
 /// Returns how an element with this name is shown.
-pub fn display_of(name: &QualName) -> Display
-    ensures { result ≡ d.display_of name.now }
+pub fn display_of(scripting_enabled: bool, name: &QualName) -> Display
+    ensures { result ≡ d.display_of scripting_enabled name.now }
 {
-    if name.ns == Namespace::html() {
-        html_display(name)
+    if name.ns.is_html() {
+        html_display(scripting_enabled, name)
+    } else if name.ns.is_svg() {
+        svg_display(name.local.as_str())
+    } else if name.ns.is_mathml() {
+        mathml_display(name.local.as_str())
     } else {
-        foreign_display(name)
+        Display::Inline
     }
 }
 

@@ -26,7 +26,7 @@ pub struct Links {
 fn is_link(name: &QualName) -> bool
     ensures { result ≡ is_link name.now }
 {
-    name.local.as_str() == "a"
+    (name.ns.is_html() || name.ns.is_svg()) && name.local.as_str() == "a"
 }
 
 // Returns the `href` that was found before, or else the value of this attribute if it is `href`.
@@ -132,10 +132,11 @@ impl Serializer for Links {
         name: QualName,
         attrs: I,
     ) -> Result<(), SerializeFault> {
-        if is_link(&name) {
-            let href = href_of(self.alloc, attrs)?;
-            self.open(href)?;
+        if !is_link(&name) {
+            return Ok(());
         }
+        let href = href_of(self.alloc, attrs)?;
+        self.open(href)?;
         Ok(())
     }
 

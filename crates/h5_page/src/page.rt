@@ -1,14 +1,23 @@
 //! The tree of a page, for its text and its links.
-ghost use Rattle.std.specs.Prelude.{IfOk, string_bytes};
+ghost use Rattle.std.specs.Prelude.{◌≡◌, IfOk, string_bytes};
 ghost use Rattle.html_tree_builder.specs.ArenaModel.{arena_choices, new_arena, seen_of};
 ghost use Rattle.html_tree_builder.specs.Options.{default_options};
 ghost use Rattle.html_tree_builder.specs.StandardTexts.{ParsesDocument};
 
+use html_tree_builder::serialize::SerializeFault;
+use html_tree_builder::token::BuildFault;
 use html_tree_builder::{Arena, ParseOpts, parse_document};
 use std::alloc::{AllocError, Global};
 
-/// Converts an error: a parser of text that hasn't failed, and a serializer into memory, only fail if an allocation fails.
-pub(crate) fn refused<F: Drop>(_fault: F) -> AllocError {
+// The only error of a parser that hasn't failed is a failed allocation.
+fn refused(_fault: BuildFault) -> AllocError
+    requires { _fault ≡ BuildFault.Memory }
+{
+    AllocError
+}
+
+/// Converts an error: a serializer into memory only fails if an allocation fails.
+pub(crate) fn unwritten(_fault: SerializeFault) -> AllocError {
     AllocError
 }
 
@@ -17,6 +26,8 @@ pub(crate) fn tree_of(alloc: Global, page: String) -> Result<Arena, AllocError>
     ensures { IfOk result (λ arena. ParsesDocument arena_choices (seen_of new_arena) default_options (string_bytes page) (seen_of arena)) }
 {
     let parser = parse_document(alloc, Arena::new(alloc)?, ParseOpts::default());
-    let arena = parser.one_owned(page).map_err(refused)?;
-    Ok(arena)
+    match parser.one_owned(page) {
+        Ok(arena) => Ok(arena),
+        Err(fault) => Err(refused(fault)),
+    }
 }

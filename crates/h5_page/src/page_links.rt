@@ -8,7 +8,7 @@ ghost use Rattle.h5_page.specs.Links.{after_call, kept, link_texts, links_of};
 ghost use Rattle.h5_page.specs.LinksOfPage.{AreLinksOf};
 
 use super::links::{Link, Links};
-use super::page::{refused, tree_of};
+use super::page::{tree_of, unwritten};
 use html_tree_builder::arena::NodeRef;
 use html_tree_builder::serialize::laws::calls_are_taken_in_turn;
 use html_tree_builder::serialize::{Serialize, SerializeFault, TraversalScope};
@@ -28,7 +28,7 @@ pub fn links_of(alloc: Global, node: &NodeRef<'_>) -> Result<Vec<Link>, AllocErr
     ensures { IfOk result (λ links. link_texts links.items ≡ links_of (walk_of (forest_seen node.now.arena.now) node.now.id.index (ChildrenOnly None))) }
 {
     let mut links = Links::new(alloc);
-    take_calls(&mut links, node).map_err(refused)?;
+    take_calls(&mut links, node).map_err(unwritten)?;
     let list = links.into_list()?;
     Ok(list)
 }

@@ -9,7 +9,7 @@ ghost use Rattle.h5_page.specs.Text.{after_call, hrefs_of, plain_opts, text_of};
 ghost use Rattle.h5_page.specs.TextOfPage.{IsTextOf};
 
 use super::counts::ItemCounter;
-use super::page::{refused, tree_of};
+use super::page::{tree_of, unwritten};
 use super::text_writer::{PageText, TextOpts, TextWriter};
 use html_tree_builder::arena::NodeRef;
 use html_tree_builder::serialize::laws::calls_are_taken_in_turn;
@@ -39,7 +39,7 @@ fn counts_below(alloc: Global, node: &NodeRef<'_>) -> Result<Vec<usize>, AllocEr
     ensures { IfOk result (λ counts. counts.items ≡ reverse (count.counts_of (walk_of (forest_seen node.now.arena.now) node.now.id.index (ChildrenOnly None)))) }
 {
     let mut counter = ItemCounter::new(alloc);
-    count_calls(&mut counter, node).map_err(refused)?;
+    count_calls(&mut counter, node).map_err(unwritten)?;
     let mut counts = counter.into_counts();
     counts.reverse();
     Ok(counts)
@@ -53,7 +53,7 @@ pub fn text_with(alloc: Global, node: &NodeRef<'_>, opts: TextOpts) -> Result<Pa
 {
     let counts = counts_below(alloc, node)?;
     let mut writer = TextWriter::new(alloc, opts, counts);
-    take_calls(&mut writer, node).map_err(refused)?;
+    take_calls(&mut writer, node).map_err(unwritten)?;
     let page = writer.into_text()?;
     Ok(page)
 }

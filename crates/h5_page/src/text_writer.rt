@@ -21,16 +21,19 @@ pub struct TextOpts {
     pub width: Option<usize>,
     /// If true, links have numbers.
     pub has_numbers: bool,
+    /// If true, a `noscript` isn't shown. Pass what the tree was parsed with: its content is text if scripting is enabled.
+    pub scripting_enabled: bool,
 }
 
 impl TextOpts {
-    /// Lines that aren't wrapped, and no numbers.
+    /// Lines that aren't wrapped, no numbers, and scripting as by default in a parser: enabled.
     pub fn plain() -> TextOpts
         ensures { result ≡ t.plain_opts }
     {
         TextOpts {
             width: None,
             has_numbers: false,
+            scripting_enabled: true,
         }
     }
 }
@@ -45,6 +48,7 @@ pub struct PageText {
 /// The text of the calls so far.
 #[derive(Drop)]
 pub struct TextWriter {
+    scripting_enabled: bool,
     // The item counts of the lists that follow; the first list is last.
     counts: Vec<usize>,
     elements: OpenElements,
@@ -60,7 +64,7 @@ impl Model for TextWriter {
 
     ghost Value = { Kept };
 
-    ghost view = { λ writer. record { counts = reverse writer.counts.items; opened = writer.elements; laid = writer.layout; has_numbers = writer.has_numbers; hrefs = map string_bytes writer.hrefs.items } };
+    ghost view = { λ writer. record { scripting_enabled = writer.scripting_enabled; counts = reverse writer.counts.items; opened = writer.elements; laid = writer.layout; has_numbers = writer.has_numbers; hrefs = map string_bytes writer.hrefs.items } };
 }
 
 // Returns the number of a link, as it appears in the text.
@@ -78,6 +82,7 @@ impl TextWriter {
         ensures { result ≡ t.nothing_kept opts (reverse counts.items) }
     {
         TextWriter {
+            scripting_enabled: opts.scripting_enabled,
             counts,
             elements: OpenElements::new(alloc),
             layout: Layout::new(alloc, opts.width),
@@ -199,8 +204,8 @@ impl Serializer for TextWriter {
         name: QualName,
         attrs: I,
     ) -> Result<(), SerializeFault> {
-        let display = display_of(&name);
-        let said = said_of(self.alloc, display.asked(), attrs)?;
+        let display = display_of(self.scripting_enabled, &name);
+        let said = said_of(self.alloc, &name.ns, display.asked(), attrs)?;
         self.start(display, &said)?;
         Ok(())
     }

@@ -14,7 +14,7 @@ fn new_items(alloc: Global) -> Result<Vec<Item>, AllocError> {
 
 fn printed(alloc: Global, items: &[Item], form: Form) -> Result<String, AllocError> {
     let mut text = String::new(alloc);
-    print_items(items, &mut text, form)?;
+    print_items(items, &mut text, form, None)?;
     Ok(text)
 }
 

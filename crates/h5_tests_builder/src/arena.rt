@@ -162,7 +162,7 @@ fn call_sink(arena: &mut Arena, alloc: Global, rt: &impl Abort) -> Result<NodeId
 fn copy(arena: &mut Arena, id: NodeId, rt: &impl Abort) -> Result<NodeId, Fail> {
     assert!(rt; arena.holds(id));
     let copy = arena.copy(id)?;
-    let html = arena.outer_html(copy)?;
+    let html = arena.outer_html(copy, true)?;
     assert_eq!(rt;
         html.as_str(),
         "<p id=\"x\" class=\"z\">some text<!--a note--><?xml y><template>held</template></p>"
@@ -198,7 +198,7 @@ fn edit(arena: &mut Arena, root: NodeId, alloc: Global, rt: &impl Abort) -> Resu
 }
 
 fn check_edited(arena: &Arena, rt: &impl Abort) -> Result<(), AllocError> {
-    let html = arena.inner_html(arena.document())?;
+    let html = arena.inner_html(arena.document(), true)?;
     assert_eq!(rt; html.as_str(), "a<p id=\"w\" class=\"z\">new</p>");
     let text = arena.text(arena.document())?;
     assert_eq!(rt; text.as_str(), "anew");

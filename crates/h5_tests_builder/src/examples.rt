@@ -69,7 +69,7 @@ const ROWS: [Row; 4] = [
 // The HTML of a tidied tree.
 fn tidied(alloc: Global, arena: &mut Arena) -> Result<String, Fail> {
     tidy(alloc, arena)?;
-    Ok(arena.outer_html(arena.document())?)
+    Ok(arena.outer_html(arena.document(), true)?)
 }
 
 // The surroundings of the first `em` of a reworded tree.

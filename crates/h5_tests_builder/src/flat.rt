@@ -11,7 +11,7 @@ use std::test::Fail;
 
 fn pack(arena: &mut Arena, alloc: Global, rt: &impl Abort) -> Result<Vec<u8>, Fail> {
     small_tree(arena, alloc, "x", "some text", rt)?;
-    let columns = columns_of_document(alloc, arena)?;
+    let columns = columns_of_document(alloc, arena, true)?;
     let block = columns.pack(alloc);
     drop(columns);
     Ok(block?)
@@ -29,6 +29,7 @@ fn check_nodes(rt: &impl Abort, view: &View<'_>) {
     assert!(rt; view.is_sound());
     assert_eq!(rt; view.node_count(), 4);
     assert_eq!(rt; view.quirks(), 0);
+    assert!(rt; view.is_scripting());
     assert_eq!(rt; view.kind(0), DOCUMENT);
     assert_eq!(rt; view.kind(1), ELEMENT);
     assert_eq!(rt; view.kind(2), TEXT);
@@ -65,7 +66,7 @@ fn check_html(rt: &impl Abort, alloc: Global, view: &View<'_>) -> Result<(), Fai
 fn check_unpacked(rt: &impl Abort, alloc: Global, unpacked: &Unpacked) -> Result<(), Fail> {
     let p = unpacked.id(1).ok_or("no node")?;
     assert!(rt; unpacked.arena.holds(p));
-    let inner = unpacked.arena.inner_html(p)?;
+    let inner = unpacked.arena.inner_html(p, true)?;
     assert_eq!(rt; inner.as_str(), "some text<!--a note-->");
     let numbers = unpacked.numbers(alloc, &[p])?.ok_or("no numbers")?;
     assert_eq!(rt; numbers.as_slice(), [1u32].as_slice());

@@ -102,7 +102,7 @@ fn build_nest(arena: &mut Arena, alloc: Global) -> Result<NodeId, Fail> {
 fn length_of_nest(arena: &mut Arena, alloc: Global, rt: &impl Abort) -> Result<usize, Fail> {
     let outer = build_nest(arena, alloc)?;
     assert!(rt; arena.holds(outer));
-    let html = arena.inner_html(outer)?;
+    let html = arena.inner_html(outer, true)?;
     Ok(html.len())
 }
 

@@ -2,52 +2,110 @@
 use super::fault::Fault;
 use super::parts::Parts;
 use super::select::{Selection, put_selected};
-use h5_command_line::What;
+use h5_command_line::RecordOpts;
+use h5_input::InputOpts;
 use h5_listing::{
-    Form, Item, about, all_links, base_of, headings, links, node_lines, print_items, references,
+    Form, Item, about, all_links, base_of, begin_object, headings, links, node_lines, print_items,
+    references,
 };
 use h5_page::{TextOpts, text_with};
 use h5_print::{print_quirks, write_tree};
 use html_tree_builder::arena::NodeRef;
 use html_tree_builder::clean::{AllowList, DefaultPolicy, clean_tree};
-use html_tree_builder::encodings::{Encoding, EncodingOpts};
+use html_tree_builder::encodings::Encoding;
 use html_tree_builder::serialize::{SerializeFault, serialize};
 use html_tree_builder::{Arena, QuirksMode, SerializeOpts};
 use std::alloc::{AllocError, Global};
 use std::io::{ErrorKind, Write};
 use url::Url;
 
-/// What to do with each page.
+/// What to print of the tree of a page.
 #[derive(Clone, Copy)]
-pub struct Asked<'a> {
-    /// The subcommand.
-    pub what: What,
-    /// How its encoding is found.
-    pub encodings: EncodingOpts,
+pub enum TreeOutput<'a> {
+    /// The tree, one line per node, and the quirks mode.
+    Nodes,
+    /// The tree as HTML.
+    Html,
+    /// The text, in this layout.
+    Text(TextOpts),
+    /// The links, or also other references, resolved against this URL unless the page has a base.
+    Links { is_all: bool, base: Option<&'a Url> },
+    /// What this policy allows of it, or else the default policy.
+    Clean(Option<&'a AllowList>),
+    /// The selected elements.
+    Select(Selection<'a>),
+    /// The headings.
+    Outline,
+    /// The metadata.
+    Meta,
+}
+
+/// What to print of a page.
+#[derive(Clone, Copy)]
+pub enum Output<'a> {
+    /// The tokens.
+    Tokens,
+    /// The parse errors, at most this number of them.
+    Errors { limit: usize },
+    /// Something of its tree.
+    Tree(TreeOutput<'a>),
+}
+
+impl Output<'_> {
+    /// Returns true if the output of a page in a record is JSON, and false if it is a text.
+    pub fn is_json(self) -> bool {
+        match self {
+            Output::Errors { limit: _ } => true,
+            Output::Tokens => false,
+            Output::Tree(tree) => match tree {
+                TreeOutput::Links { is_all: _, base: _ } => true,
+                TreeOutput::Select(_) | TreeOutput::Outline | TreeOutput::Meta => true,
+                TreeOutput::Nodes | TreeOutput::Html => false,
+                TreeOutput::Text(_) | TreeOutput::Clean(_) => false,
+            },
+        }
+    }
+}
+
+/// How a page is read, and how its output is printed.
+#[derive(Clone, Copy)]
+pub struct PageOpts<'a> {
+    /// How it is read.
+    pub input: InputOpts,
     /// The element in which it is parsed, if it is a fragment.
     pub context: Option<&'a str>,
-    /// The policy that cleans it, if it isn't the default policy.
-    pub policy: Option<&'a AllowList>,
-    /// The layout of its text.
-    pub text: TextOpts,
-    /// The elements to select, and what to print of them.
-    pub selection: Option<Selection<'a>>,
     /// Lines or JSON.
     pub form: Form,
-    /// `links` also lists other references.
-    pub is_all: bool,
-    /// The URL against which links are resolved, unless the page has a base.
-    pub base: Option<&'a Url>,
-    /// The greatest number of errors to print.
-    pub limit: usize,
     /// The name of its file, as the command line has it.
     pub file: &'a str,
-    /// Each line begins with the name of the file.
+    /// Each line begins with the name of the file, and each JSON object has it.
     pub has_name: bool,
-    /// The key of the result, if the pages are in records.
-    pub record: Option<&'a str>,
+    /// How they are answered, if the pages are in records.
+    pub records: Option<RecordOpts<'a>>,
     /// The process ends after this page, so its tree need not be dropped.
     pub is_last: bool,
+}
+
+/// What to print of a page, and how.
+#[derive(Clone, Copy)]
+pub struct Asked<'a> {
+    pub output: Output<'a>,
+    pub page: PageOpts<'a>,
+}
+
+impl<'a> PageOpts<'a> {
+    /// The name of the file that each JSON object has, if it has one.
+    pub fn path(&self) -> Option<&'a str> {
+        self.has_name.then_some(self.file)
+    }
+
+    /// The name of the file that each line of text begins with, if it has one.
+    pub fn front(&self) -> Option<&'a str> {
+        match self.form {
+            Form::Lines => self.path(),
+            Form::Json | Form::Array => None,
+        }
+    }
 }
 
 // The node that holds the page: the document, or the root of a fragment.
@@ -63,11 +121,12 @@ fn top_of(arena: &Arena, is_fragment: bool) -> NodeRef<'_> {
 // The links or references.
 fn links_asked(
     alloc: Global,
-    asked: &Asked<'_>,
+    is_all: bool,
+    base: Option<&Url>,
     top: &NodeRef<'_>,
 ) -> Result<Vec<Item>, AllocError> {
-    let base = base_of(alloc, top, asked.base)?;
-    if asked.is_all {
+    let base = base_of(alloc, top, base)?;
+    if is_all {
         all_links(alloc, top, base.as_ref())
     } else {
         links(alloc, top, base.as_ref())
@@ -75,34 +134,40 @@ fn links_asked(
 }
 
 // The text, followed by the targets of its links if they have numbers.
-fn text_asked(alloc: Global, asked: &Asked<'_>, top: &NodeRef<'_>) -> Result<String, AllocError> {
-    let page = text_with(alloc, top, asked.text)?;
+fn text_asked(alloc: Global, opts: TextOpts, top: &NodeRef<'_>) -> Result<String, AllocError> {
+    let page = text_with(alloc, top, opts)?;
     let mut text = page.text;
     if !page.hrefs.is_empty() {
-        let base = base_of(alloc, top, asked.base)?;
+        let base = base_of(alloc, top, None)?;
         let items = references(alloc, page.hrefs.as_slice(), base.as_ref())?;
         text.push('\n')?;
-        print_items(items.as_slice(), &mut text, Form::Lines)?;
+        print_items(items.as_slice(), &mut text, Form::Lines, None)?;
     }
     Ok(text)
 }
 
 // The items of a listing.
-fn items_text(alloc: Global, items: &[Item], form: Form) -> Result<String, AllocError> {
+fn items_text(alloc: Global, page: &PageOpts<'_>, items: &[Item]) -> Result<Vec<u8>, AllocError> {
     let mut text = String::new(alloc);
-    print_items(items, &mut text, form)?;
-    Ok(text)
+    print_items(items, &mut text, page.form, page.path())?;
+    Ok(text.into_bytes())
 }
 
 // Writes a tree as JSON: an object for each node, and one for the quirks mode.
-fn put_nodes<W: Write>(alloc: Global, top: &NodeRef<'_>, out: &mut W) -> Result<(), Fault> {
-    let mut lines = node_lines(alloc, top)?;
+fn put_nodes<W: Write>(
+    alloc: Global,
+    path: Option<&str>,
+    top: &NodeRef<'_>,
+    out: &mut W,
+) -> Result<(), Fault> {
+    let mut lines = node_lines(alloc, top, path)?;
     let mode = match top.arena.quirks() {
         QuirksMode::Quirks => "Quirks",
         QuirksMode::LimitedQuirks => "LimitedQuirks",
         QuirksMode::NoQuirks => "NoQuirks",
     };
-    write!(lines, "{{\"quirks\":\"{mode}\"}}\n").map_err(|_refused| Fault::Memory)?;
+    begin_object(alloc, &mut lines, path)?;
+    write!(lines, "\"quirks\":\"{mode}\"}}\n").map_err(|_refused| Fault::Memory)?;
     out.write_all(lines.as_bytes()).map_err(Fault::Write)
 }
 
@@ -120,9 +185,18 @@ fn put_tree<W: Write>(alloc: Global, arena: &Arena, out: &mut W) -> Result<(), F
 }
 
 // Writes a tree as HTML, in parts.
-fn put_html<W: Write>(alloc: Global, top: &NodeRef<'_>, out: &mut W) -> Result<(), Fault> {
+fn put_html<W: Write>(
+    alloc: Global,
+    page: &PageOpts<'_>,
+    top: &NodeRef<'_>,
+    out: &mut W,
+) -> Result<(), Fault> {
+    let opts = SerializeOpts {
+        scripting_enabled: page.input.scripting_enabled,
+        ..SerializeOpts::default()
+    };
     let mut parts = Parts::new(alloc, out);
-    if let Err(fault) = serialize(alloc, &mut parts, top, SerializeOpts::default()) {
+    if let Err(fault) = serialize(alloc, &mut parts, top, opts) {
         return Err(parts.fault(fault));
     }
     parts.finish()
@@ -154,38 +228,39 @@ fn about_read(
     Ok(items)
 }
 
-/// Writes what a subcommand prints of the tree of a document or a fragment, which was decoded from this encoding.
+/// Writes this output of the tree of a document or a fragment, which was decoded from this encoding.
 pub fn put_answer<W: Write>(
     alloc: Global,
-    asked: &Asked<'_>,
+    page: &PageOpts<'_>,
+    output: TreeOutput<'_>,
     arena: &Arena,
     encoding: Encoding,
     out: &mut W,
 ) -> Result<(), Fault> {
-    let top = top_of(arena, asked.context.is_some());
-    if let Some(selection) = asked.selection {
-        return put_selected(alloc, &top, selection, asked.form, out);
-    }
-    let text = match asked.what {
-        What::Html => return put_html(alloc, &top, out),
-        What::Text => text_asked(alloc, asked, &top)?.into_bytes(),
-        What::Links => {
-            let items = links_asked(alloc, asked, &top)?;
-            items_text(alloc, items.as_slice(), asked.form)?.into_bytes()
+    let top = top_of(arena, page.context.is_some());
+    let text = match output {
+        TreeOutput::Nodes => match page.form {
+            Form::Json => return put_nodes(alloc, page.path(), &top, out),
+            Form::Lines | Form::Array => return put_tree(alloc, arena, out),
+        },
+        TreeOutput::Html => return put_html(alloc, page, &top, out),
+        TreeOutput::Select(selection) => {
+            return put_selected(alloc, &top, selection, page.form, page.path(), out);
         }
-        What::Outline => {
+        TreeOutput::Text(opts) => text_asked(alloc, opts, &top)?.into_bytes(),
+        TreeOutput::Links { is_all, base } => {
+            let items = links_asked(alloc, is_all, base, &top)?;
+            items_text(alloc, page, items.as_slice())?
+        }
+        TreeOutput::Outline => {
             let items = headings(alloc, &top)?;
-            items_text(alloc, items.as_slice(), asked.form)?.into_bytes()
+            items_text(alloc, page, items.as_slice())?
         }
-        What::Meta => {
+        TreeOutput::Meta => {
             let items = about_read(alloc, &top, encoding)?;
-            items_text(alloc, items.as_slice(), asked.form)?.into_bytes()
+            items_text(alloc, page, items.as_slice())?
         }
-        What::Clean => cleaned(alloc, &top, asked.policy)?,
-        What::Tree if matches!(asked.form, Form::Json) => return put_nodes(alloc, &top, out),
-        What::Tree | What::Tokens | What::Select | What::Errors => {
-            return put_tree(alloc, arena, out);
-        }
+        TreeOutput::Clean(policy) => cleaned(alloc, &top, policy)?,
     };
     out.write_all(text.as_slice()).map_err(Fault::Write)
 }

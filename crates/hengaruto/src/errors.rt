@@ -31,12 +31,9 @@ fn write_line(out: &mut String, error: PageError<'_>, file: &str) -> Result<(), 
     }
 }
 
-// The fields of an error in JSON, after the path of the file if it is printed.
-fn item_of(alloc: Global, error: PageError<'_>, path: Option<&str>) -> Result<Item, AllocError> {
+// The fields of an error in JSON.
+fn item_of(alloc: Global, error: PageError<'_>) -> Result<Item, AllocError> {
     let mut item = Item::new(alloc);
-    if let Some(path) = path {
-        item.add("path", path)?;
-    }
     match error {
         PageError::Text(told) => {
             item.add_number("line", told.at.line)?;
@@ -62,19 +59,19 @@ fn lines_of(alloc: Global, errors: &[PageError<'_>], file: &str) -> Result<Strin
     Ok(text)
 }
 
-// The errors as objects, or as an array of them.
+// The errors as objects that begin with the name of the file, or as an array.
 fn objects_of(
     alloc: Global,
     errors: &[PageError<'_>],
-    path: Option<&str>,
+    file: &str,
     form: Form,
 ) -> Result<String, AllocError> {
     let mut items = Vec::new(alloc);
     for error in errors {
-        items.push(item_of(alloc, *error, path)?)?;
+        items.push(item_of(alloc, *error)?)?;
     }
     let mut text = String::new(alloc);
-    print_items(items.as_slice(), &mut text, form)?;
+    print_items(items.as_slice(), &mut text, form, Some(file))?;
     Ok(text)
 }
 
@@ -91,8 +88,7 @@ pub fn put_errors<W: Write>(
     let first = errors.first(alloc, limit)?;
     let text = match form {
         Form::Lines => lines_of(alloc, first.as_slice(), file)?,
-        Form::Json => objects_of(alloc, first.as_slice(), Some(file), form)?,
-        Form::Array => objects_of(alloc, first.as_slice(), None, form)?,
+        Form::Json | Form::Array => objects_of(alloc, first.as_slice(), file, form)?,
     };
     out.write_all(text.as_bytes()).map_err(Fault::Write)?;
     Ok(ErrorCount {

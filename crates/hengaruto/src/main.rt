@@ -1,12 +1,13 @@
 //! The program `hengaruto`, which shows people what a page consists of.
 //!
 //! `h5_command_line` has the command line, `h5_input` reads pages, and `h5_policy` reads the policies that clean them. `policy_file` opens the
-//! file of a policy, `answer` prints what a subcommand shows of a tree, `parts` writes HTML in parts, `select` prints what a selector matches,
-//! `errors` prints parse errors, `records` processes pages in JSON lines, `dress` prepares lines for a terminal, and `progress` shows how much
-//! of a long input was read. Begin with `src/run.rt`.
+//! file of a policy, `answer` prints what a subcommand shows of a tree, `parts` writes HTML in parts, `charset` makes a page
+//! declare UTF-8, `select` prints what a selector matches, `errors` prints parse errors, `records` processes pages in JSON lines, `dress`
+//! prepares lines for a terminal, and `progress` shows how much of a long input was read. Begin with `src/run.rt`.
 #![tactic(auto)]
 
 mod answer;
+mod charset;
 mod dress;
 mod errors;
 mod fault;

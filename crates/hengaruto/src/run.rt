@@ -1,17 +1,19 @@
 //! Runs the program.
-use super::answer::{Asked, put_answer};
+use super::answer::{Asked, Output, PageOpts, TreeOutput, put_answer};
+use super::charset::declare_utf8;
 use super::dress::dressed;
 use super::errors::{ErrorCount, put_errors, tell_count};
 use super::fault::Fault;
 use super::policy_file::policy_in;
 use super::progress::Watched;
 use super::records::show_records;
-use super::select::{Selection, Shown, tell_selector};
+use super::select::{Selection, tell_selector};
 use clap::ArgMatches;
-use h5_command_line::{What, what_named};
-use h5_input::{HowRead, errors_of, is_context, tokens_of, tree_of};
+use h5_command_line::{Request, Shown, What, request_of};
+use h5_input::{HowRead, InputOpts, errors_of, is_context, tokens_of, tree_of};
 use h5_listing::{Form, token_lines};
 use h5_page::TextOpts;
+use html_tree_builder::Arena;
 use html_tree_builder::encodings::{Encoding, EncodingOpts};
 use html_tree_builder::select::Selector;
 use std::alloc::Global;
@@ -23,16 +25,18 @@ use url::Url;
 // Writes tokens as lines or as JSON.
 fn put_tokens<W: Write>(
     alloc: Global,
-    asked: &Asked<'_>,
+    page: &PageOpts<'_>,
     text: Vec<u8>,
     out: &mut W,
 ) -> Result<(), Fault> {
-    if let Form::Json = asked.form {
-        let lines = String::from_utf8_lossy(alloc, text.as_slice())?;
-        let objects = token_lines(alloc, lines.as_str())?;
-        return out.write_all(objects.as_bytes()).map_err(Fault::Write);
+    match page.form {
+        Form::Json => {
+            let lines = String::from_utf8_lossy(alloc, text.as_slice())?;
+            let objects = token_lines(alloc, lines.as_str(), page.path())?;
+            out.write_all(objects.as_bytes()).map_err(Fault::Write)
+        }
+        Form::Lines | Form::Array => out.write_all(text.as_slice()).map_err(Fault::Write),
     }
-    out.write_all(text.as_slice()).map_err(Fault::Write)
 }
 
 /// How a page was read, and how many of its errors were printed.
@@ -53,33 +57,44 @@ fn without_errors(how: HowRead) -> Answered {
 // Writes the errors of a page.
 fn put_errors_of<R: Read, W: Write>(
     rt: &HostRuntime,
-    asked: &Asked<'_>,
+    page: &PageOpts<'_>,
+    limit: usize,
     input: &mut R,
     out: &mut W,
 ) -> Result<Answered, Fault> {
-    let (alloc, limit) = (rt.alloc(), asked.limit);
-    let (page, how) = errors_of(alloc, asked.context, asked.encodings, limit, input)?;
-    let errors = put_errors(alloc, &page, asked.file, limit, asked.form, out)?;
+    let alloc = rt.alloc();
+    let (errors, how) = errors_of(alloc, page.context, page.input, limit, input)?;
+    let errors = put_errors(alloc, &errors, page.file, limit, page.form, out)?;
     Ok(Answered { how, errors })
 }
 
-// Writes what the subcommand prints of the tree of a page.
+// Makes a page in another encoding than UTF-8 declare UTF-8, if it is to be written as HTML.
+fn prepare(arena: &mut Arena, output: TreeOutput<'_>, encoding: Encoding) -> Result<(), Fault> {
+    if matches!(output, TreeOutput::Html) && encoding != Encoding::Utf8 {
+        declare_utf8(arena)?;
+    }
+    Ok(())
+}
+
+// Writes this output of the tree of a page.
 fn put_tree_of<R: Read, W: Write>(
     rt: &HostRuntime,
-    asked: &Asked<'_>,
+    page: &PageOpts<'_>,
+    output: TreeOutput<'_>,
     input: &mut R,
     out: &mut W,
 ) -> Result<HowRead, Fault> {
-    let (arena, how) = tree_of(rt.alloc(), asked.context, asked.encodings, input)?;
-    let written = put_answer(rt.alloc(), asked, &arena, how.encoding, out);
-    if asked.is_last {
+    let (mut arena, how) = tree_of(rt.alloc(), page.context, page.input, input)?;
+    prepare(&mut arena, output, how.encoding)?;
+    let written = put_answer(rt.alloc(), page, output, &arena, how.encoding, out);
+    if page.is_last {
         mem::forget(arena);
     }
     written?;
     Ok(how)
 }
 
-/// Writes what the subcommand prints of a page. Returns how the page was read, and how many errors were printed.
+/// Writes what is asked for of a page. Returns how the page was read, and how many errors were printed.
 pub fn put_input<R: Read, W: Write>(
     rt: &HostRuntime,
     asked: &Asked<'_>,
@@ -87,15 +102,16 @@ pub fn put_input<R: Read, W: Write>(
     out: &mut W,
 ) -> Result<Answered, Fault> {
     let mut input = Watched::new(rt, input);
-    match asked.what {
-        What::Errors => put_errors_of(rt, asked, &mut input, out),
-        What::Tokens => {
-            let (text, how) = tokens_of(rt.alloc(), asked.context, asked.encodings, &mut input)?;
-            put_tokens(rt.alloc(), asked, text, out)?;
+    let page = &asked.page;
+    match asked.output {
+        Output::Errors { limit } => put_errors_of(rt, page, limit, &mut input, out),
+        Output::Tokens => {
+            let (text, how) = tokens_of(rt.alloc(), page.context, page.input, &mut input)?;
+            put_tokens(rt.alloc(), page, text, out)?;
             Ok(without_errors(how))
         }
-        _ => {
-            let how = put_tree_of(rt, asked, &mut input, out)?;
+        Output::Tree(output) => {
+            let how = put_tree_of(rt, page, output, &mut input, out)?;
             Ok(without_errors(how))
         }
     }
@@ -119,34 +135,33 @@ fn show_input<R: Read + Drop>(
     asked: &Asked<'_>,
     input: R,
 ) -> Result<ErrorCount, Fault> {
-    if let Some(word) = asked.record {
-        show_records(rt, asked, word, input)?;
+    if let Some(opts) = asked.page.records {
+        show_records(rt, asked, opts, input)?;
         return Ok(ErrorCount::none());
     }
     let mut input = input;
     let mut out = rt.stdout();
     let is_terminal = out.is_terminal();
-    if !is_terminal && !asked.has_name {
+    if !is_terminal && asked.page.front().is_none() {
         let answered = put_input(rt, asked, &mut input, &mut out)?;
-        tell_replaced(rt, asked.file, answered.how);
+        tell_replaced(rt, asked.page.file, answered.how);
         return Ok(answered.errors);
     }
     let mut bytes = Vec::new(rt.alloc());
     let answered = put_input(rt, asked, &mut input, &mut bytes)?;
-    tell_replaced(rt, asked.file, answered.how);
+    tell_replaced(rt, asked.page.file, answered.how);
     let text = String::from_utf8_lossy(rt.alloc(), bytes.as_slice())?;
-    let front = asked.has_name.then_some(asked.file);
-    let lines = dressed(rt.alloc(), text.as_str(), front, is_terminal)?;
+    let lines = dressed(rt.alloc(), text.as_str(), asked.page.front(), is_terminal)?;
     out.write_all(lines.as_bytes()).map_err(Fault::Write)?;
     Ok(answered.errors)
 }
 
 // Shows a file, or standard input if its name is `-`. Returns how many errors were printed.
 fn show(rt: &HostRuntime, asked: &Asked<'_>) -> Result<ErrorCount, Fault> {
-    if asked.file == "-" {
+    if asked.page.file == "-" {
         return show_input(rt, asked, rt.stdin());
     }
-    let file = fs::open(rt, asked.file).map_err(Fault::Read)?;
+    let file = fs::open(rt, asked.page.file).map_err(Fault::Read)?;
     show_input(rt, asked, file)
 }
 
@@ -171,12 +186,12 @@ fn is_closed(fault: &Fault) -> bool {
 fn show_one(rt: &HostRuntime, asked: &Asked<'_>) -> Option<u8> {
     match show(rt, asked) {
         Ok(errors) => {
-            tell_count(rt, asked.file, errors);
+            tell_count(rt, asked.page.file, errors);
             Some(if errors.all > 0 { 1 } else { 0 })
         }
         Err(fault) if is_closed(&fault) => None,
         Err(fault) => {
-            tell(rt, asked.file, &fault);
+            tell(rt, asked.page.file, &fault);
             Some(1)
         }
     }
@@ -186,12 +201,12 @@ fn show_one(rt: &HostRuntime, asked: &Asked<'_>) -> Option<u8> {
 fn show_each(rt: &HostRuntime, asked: &Asked<'_>, files: &[&str]) -> u8 {
     let mut status = 0;
     for (at, file) in files.iter().enumerate() {
-        let asked = Asked {
-            is_last: asked.record.is_none() && at + 1 == files.len(),
+        let page = PageOpts {
+            is_last: asked.page.records.is_none() && at + 1 == files.len(),
             file: *file,
-            ..*asked
+            ..asked.page
         };
-        let Some(shown) = show_one(rt, &asked) else {
+        let Some(shown) = show_one(rt, &Asked { page, ..*asked }) else {
             return status;
         };
         if shown > status {
@@ -202,91 +217,87 @@ fn show_each(rt: &HostRuntime, asked: &Asked<'_>, files: &[&str]) -> u8 {
 }
 
 // Shows each file of the command line, or standard input if there is none, and returns the exit status.
-fn show_all(rt: &HostRuntime, asked: &Asked<'_>, matches: &ArgMatches<'_>) -> u8 {
+fn show_all(
+    rt: &HostRuntime,
+    page: &PageOpts<'_>,
+    output: Output<'_>,
+    matches: &ArgMatches<'_>,
+) -> u8 {
+    let asked = Asked {
+        output,
+        page: *page,
+    };
     if let Some(files) = matches.get_strs("file") {
         if !files.is_empty() {
-            return show_each(rt, asked, files);
+            return show_each(rt, &asked, files);
         }
     }
-    show_each(rt, asked, &["-"])
+    show_each(rt, &asked, &["-"])
 }
 
-// Shows each page with the policy of a file. If the file has no policy, nothing is shown.
-fn show_by_policy(rt: &HostRuntime, asked: &Asked<'_>, name: &str, matches: &ArgMatches<'_>) -> u8 {
+// Shows this output of the tree of each page.
+fn show_trees(
+    rt: &HostRuntime,
+    page: &PageOpts<'_>,
+    output: TreeOutput<'_>,
+    matches: &ArgMatches<'_>,
+) -> u8 {
+    show_all(rt, page, Output::Tree(output), matches)
+}
+
+// Shows what a policy leaves of each page. If there is no policy of this name, nothing is shown.
+fn show_cleaned(
+    rt: &HostRuntime,
+    page: &PageOpts<'_>,
+    name: Option<&str>,
+    matches: &ArgMatches<'_>,
+) -> u8 {
+    let Some(name) = name else {
+        return show_trees(rt, page, TreeOutput::Clean(None), matches);
+    };
     match policy_in(rt, name) {
-        Some(policy) => {
-            let by_policy = Asked {
-                policy: Some(&policy),
-                ..*asked
-            };
-            show_all(rt, &by_policy, matches)
-        }
+        Some(policy) => show_trees(rt, page, TreeOutput::Clean(Some(&policy)), matches),
         None => 2,
     }
 }
 
-// What to print of each selected element.
-fn shown_by<'a>(matches: &ArgMatches<'a>) -> Shown<'a> {
-    match matches.get_str("attr") {
-        Some(name) => Shown::Attr(name),
-        None if matches.get_flag("text") => Shown::Text,
-        None => Shown::Html,
-    }
-}
-
 // Shows what a selector matches in each page. If the selector is invalid, nothing is shown.
-fn show_selected(rt: &HostRuntime, asked: &Asked<'_>, text: &str, matches: &ArgMatches<'_>) -> u8 {
+fn show_selected(
+    rt: &HostRuntime,
+    page: &PageOpts<'_>,
+    text: &str,
+    shown: Shown<'_>,
+    matches: &ArgMatches<'_>,
+) -> u8 {
     match Selector::parse(rt.alloc(), text) {
         Ok(selector) => {
-            let selecting = Asked {
-                selection: Some(Selection {
-                    selector: &selector,
-                    shown: shown_by(matches),
-                }),
-                ..*asked
+            let selection = Selection {
+                selector: &selector,
+                shown,
+                scripting_enabled: page.input.scripting_enabled,
             };
-            show_all(rt, &selecting, matches)
+            show_trees(rt, page, TreeOutput::Select(selection), matches)
         }
         Err(fault) => tell_selector(rt, text, &fault),
     }
 }
 
-// Lines or JSON.
-fn form_by(what: What, is_record: bool, matches: &ArgMatches<'_>) -> Form {
-    if is_record {
-        return Form::Array;
-    }
-    let is_listing = matches!(
-        what,
-        What::Links
-            | What::Outline
-            | What::Meta
-            | What::Select
-            | What::Tree
-            | What::Tokens
-            | What::Errors
-    );
-    if is_listing && matches.get_flag("json") {
-        Form::Json
-    } else {
-        Form::Lines
-    }
-}
-
-// Shows the links of each page, resolved against a URL. If the URL is invalid, nothing is shown.
-fn show_links_from(
+// Shows the links of each page, resolved against a URL if there is one. If that is invalid, nothing is shown.
+fn show_links(
     rt: &HostRuntime,
-    asked: &Asked<'_>,
-    text: &str,
+    page: &PageOpts<'_>,
+    is_all: bool,
+    base: Option<&str>,
     matches: &ArgMatches<'_>,
 ) -> u8 {
+    let Some(text) = base else {
+        let links = TreeOutput::Links { is_all, base: None };
+        return show_trees(rt, page, links, matches);
+    };
     match Url::parse(rt.alloc(), text) {
         Ok(base) => {
-            let leading = Asked {
-                base: Some(&base),
-                ..*asked
-            };
-            show_all(rt, &leading, matches)
+            let base = Some(&base);
+            show_trees(rt, page, TreeOutput::Links { is_all, base }, matches)
         }
         Err(error) => {
             let _told = writeln!(rt.stderr(), "hengaruto: invalid URL '{text}': {error}");
@@ -295,55 +306,87 @@ fn show_links_from(
     }
 }
 
-// Shows each page, with a policy, a selector or a URL if there is one.
-fn show_asked(rt: &HostRuntime, asked: &Asked<'_>, matches: &ArgMatches<'_>) -> u8 {
-    match asked.what {
-        What::Clean => match matches.get_str("policy") {
-            Some(file) => show_by_policy(rt, asked, file, matches),
-            None => show_all(rt, asked, matches),
-        },
-        What::Select => {
-            let text = matches.get_str("selector").unwrap_or("");
-            show_selected(rt, asked, text, matches)
-        }
-        What::Links => match matches.get_str("base") {
-            Some(text) => show_links_from(rt, asked, text, matches),
-            None => show_all(rt, asked, matches),
-        },
-        _ => show_all(rt, asked, matches),
-    }
-}
-
-// The layout of texts, or None if the value of --width isn't a number.
-fn text_opts(what: What, matches: &ArgMatches<'_>) -> Option<TextOpts> {
-    if !matches!(what, What::Text) {
-        return Some(TextOpts::plain());
-    }
-    let width = match matches.get_str("width") {
-        Some(text) => Some(text.parse::<usize>().ok()?),
-        None => None,
+// Shows the text of each page. If the width isn't a number, nothing is shown.
+fn show_texts(
+    rt: &HostRuntime,
+    page: &PageOpts<'_>,
+    width: Option<&str>,
+    has_numbers: bool,
+    matches: &ArgMatches<'_>,
+) -> u8 {
+    let Ok(width) = number_in(width) else {
+        let _told = writeln!(
+            rt.stderr(),
+            "hengaruto: invalid value for --width: expected a number of columns"
+        );
+        return 2;
     };
-    Some(TextOpts {
+    let opts = TextOpts {
         width,
-        has_numbers: matches.get_flag("links"),
-    })
+        has_numbers,
+        scripting_enabled: page.input.scripting_enabled,
+    };
+    show_trees(rt, page, TreeOutput::Text(opts), matches)
 }
 
-// The greatest number of errors to print for a page, or None if the value of --limit isn't a number.
-fn limit_by(what: What, matches: &ArgMatches<'_>) -> Option<usize> {
-    if !matches!(what, What::Errors) {
-        return Some(0);
+// Shows the errors of each page. If the limit isn't a number, nothing is shown.
+fn show_errors(
+    rt: &HostRuntime,
+    page: &PageOpts<'_>,
+    limit: Option<&str>,
+    matches: &ArgMatches<'_>,
+) -> u8 {
+    let Ok(limit) = number_in(limit) else {
+        let _told = writeln!(
+            rt.stderr(),
+            "hengaruto: invalid value for --limit: expected a number"
+        );
+        return 2;
+    };
+    let limit = limit.unwrap_or(usize::MAX);
+    show_all(rt, page, Output::Errors { limit }, matches)
+}
+
+// A text isn't a number.
+#[derive(Clone, Copy)]
+struct NoNumber;
+
+// The number in a text, if there is a text. Fails with `NoNumber` if it isn't one.
+fn number_in(text: Option<&str>) -> Result<Option<usize>, NoNumber> {
+    match text {
+        Some(text) => match text.parse::<usize>().ok() {
+            Some(number) => Ok(Some(number)),
+            None => Err(NoNumber),
+        },
+        None => Ok(None),
     }
-    match matches.get_str("limit") {
-        Some(text) => text.parse::<usize>().ok(),
-        None => Some(usize::MAX),
+}
+
+// Shows what is asked for of each page.
+fn show_what(
+    rt: &HostRuntime,
+    page: &PageOpts<'_>,
+    what: What<'_>,
+    matches: &ArgMatches<'_>,
+) -> u8 {
+    match what {
+        What::Tree => show_trees(rt, page, TreeOutput::Nodes, matches),
+        What::Html => show_trees(rt, page, TreeOutput::Html, matches),
+        What::Text { width, has_numbers } => show_texts(rt, page, width, has_numbers, matches),
+        What::Links { is_all, base } => show_links(rt, page, is_all, base, matches),
+        What::Tokens => show_all(rt, page, Output::Tokens, matches),
+        What::Clean { policy } => show_cleaned(rt, page, policy, matches),
+        What::Select { selector, shown } => show_selected(rt, page, selector, shown, matches),
+        What::Outline => show_trees(rt, page, TreeOutput::Outline, matches),
+        What::Meta => show_trees(rt, page, TreeOutput::Meta, matches),
+        What::Errors { limit } => show_errors(rt, page, limit, matches),
     }
 }
 
 // How the encoding of a page is found: the value of --encoding, or what the page declares, or else UTF-8, which all fragments are. None if no
 // encoding has the label.
-fn encodings_by(matches: &ArgMatches<'_>, is_fragment: bool) -> Option<EncodingOpts> {
-    let transport = match matches.get_str("encoding") {
+fn encodings_by(label: Option<&str>, is_fragment: bool) -> Option<EncodingOpts> {
+    let transport = match label {
         Some(label) => Some(Encoding::for_label(label.as_bytes())?),
         None if is_fragment => Some(Encoding::Utf8),
         None => None,
@@ -354,56 +397,50 @@ fn encodings_by(matches: &ArgMatches<'_>, is_fragment: bool) -> Option<EncodingO
     })
 }
 
+// Lines or JSON.
+fn form_by(request: &Request<'_>) -> Form {
+    if request.records.is_some() {
+        Form::Array
+    } else if request.is_json {
+        Form::Json
+    } else {
+        Form::Lines
+    }
+}
+
+// Returns true if the names of files are added: lines of errors always have them, and results of records never.
+fn adds_names(request: &Request<'_>) -> bool {
+    request.has_name
+        && request.records.is_none()
+        && !matches!(request.what, What::Errors { limit: _ })
+}
+
 // Runs a subcommand on pages or on records, and returns the exit status.
-fn show_word<'a>(rt: &HostRuntime, name: &'a str, is_record: bool, matches: &ArgMatches<'a>) -> u8 {
-    let what = what_named(name);
-    let Some(text) = text_opts(what, matches) else {
-        let _told = writeln!(
-            rt.stderr(),
-            "hengaruto: invalid value for --width: expected a number of columns"
-        );
-        return 2;
-    };
-    let Some(limit) = limit_by(what, matches) else {
-        let _told = writeln!(
-            rt.stderr(),
-            "hengaruto: invalid value for --limit: expected a number"
-        );
-        return 2;
-    };
-    let context = what.context(matches.get_str("fragment"));
-    let Some(encodings) = encodings_by(matches, context.is_some()) else {
-        let label = matches.get_str("encoding").unwrap_or("");
+fn show_request(rt: &HostRuntime, request: &Request<'_>, matches: &ArgMatches<'_>) -> u8 {
+    let context = request.context();
+    let Some(encodings) = encodings_by(request.encoding, context.is_some()) else {
+        let label = request.encoding.unwrap_or("");
         let _told = writeln!(rt.stderr(), "hengaruto: unknown encoding '{label}'");
         return 2;
     };
-    let asked = Asked {
-        what,
-        encodings,
+    let page = PageOpts {
+        input: InputOpts {
+            encodings,
+            scripting_enabled: request.parses_with_scripting(),
+        },
         context,
-        policy: None,
-        text,
-        selection: None,
-        form: form_by(what, is_record, matches),
-        is_all: matches!(what, What::Links) && matches.get_flag("all"),
-        base: None,
-        limit,
+        form: form_by(request),
         file: "-",
-        has_name: !is_record && !matches!(what, What::Errors) && matches.get_flag("with-name"),
-        record: is_record.then_some(name),
+        has_name: adds_names(request),
+        records: request.records,
         is_last: false,
     };
-    show_asked(rt, &asked, matches)
+    show_what(rt, &page, request.what, matches)
 }
 
 // Runs a subcommand, if the value of --fragment is the name of an element.
-fn show_in_context<'a>(
-    rt: &HostRuntime,
-    name: &'a str,
-    is_record: bool,
-    matches: &ArgMatches<'a>,
-) -> u8 {
-    match matches.get_str("fragment") {
+fn show_in_context(rt: &HostRuntime, request: &Request<'_>, matches: &ArgMatches<'_>) -> u8 {
+    match request.fragment {
         Some(context) if !is_context(context) => {
             let _told = writeln!(
                 rt.stderr(),
@@ -411,18 +448,14 @@ fn show_in_context<'a>(
             );
             2
         }
-        _ => show_word(rt, name, is_record, matches),
+        _ => show_request(rt, request, matches),
     }
 }
 
 /// Runs what the command line says, and returns the exit status.
 pub fn run(rt: &HostRuntime, matches: &ArgMatches<'_>) -> ExitCode {
-    let status = match matches.subcommand() {
-        Some(("records", records)) => match records.subcommand() {
-            Some((name, matches)) => show_in_context(rt, name, true, matches),
-            None => 2,
-        },
-        Some((name, matches)) => show_in_context(rt, name, false, matches),
+    let status = match request_of(matches) {
+        Some((request, own)) => show_in_context(rt, &request, own),
         None => 2,
     };
     ExitCode::from(status)

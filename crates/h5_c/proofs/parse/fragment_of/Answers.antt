@@ -8,10 +8,10 @@ use Rattle.h5_driver.proofs.OneTree.{fragment_parsed}
 use Rattle.h5_c.specs.Pages.{is_scripting, options_of}
 use Rattle.h5_c.proofs.parse.fragment_of.Goals as goal
 
-pub returns : goal.returns
-returns c =
+pub returns-in-Ok : goal.returns-in-Ok
+returns-in-Ok c =
     let parser = c.in_ok-parser.parser in
-    let told = seen_of c.in_ok-arena.arena in
+    let told = seen_of c.in-Ok.arena in
     let text = utf8_lossy c.args.page.now in
     let options = c.args.options in
     let building = building seen_of place parser.tokenizer.sink in

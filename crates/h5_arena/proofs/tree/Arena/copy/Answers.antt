@@ -1,7 +1,7 @@
 use Rattle.std.proofs.Common.{arith}
 use Rattle.std.proofs.lemmas.List.{length-map}
 use Rattle.h5_arena.specs.ArenaModel.{node_view}
-use Rattle.h5_arena.proofs.CopyEnds.{copy_html, copy_is_free, copy_is_one, still_arena, still_elements, still_others}
+use Rattle.h5_arena.proofs.CopyEnds.{copies_below, copy_html, copy_is_free, copy_is_one, still_arena, still_elements, still_others}
 use Rattle.h5_arena.proofs.tree.Arena.copy.Goals as goal
 
 pub invariant_of-self-2 : goal.invariant_of-self-2
@@ -37,3 +37,9 @@ returns-clause-elements c =
     let long = length-map c.self.inside.nodes.items node_view in
     rw (← c.self.view_is)
     (still_elements c.self.inside.nodes.items _ _ _ c.args.id.index c.len-index.result c.as_slice.ensures.value c.in_ok-append.ensures.items (omega (arith, long)) c.self.invariant.is_forest c.in_ok-copies.ensures)
+
+pub returns-clause-inside : goal.returns-clause-inside
+returns-clause-inside c =
+    let long = length-map c.self.inside.nodes.items node_view in
+    rw (← c.self.view_is)
+    (copies_below c.self.inside.nodes.items _ _ _ c.args.id.index c.len-index.result c.as_slice.ensures.value c.in_ok-append.ensures.items (omega (arith, long)) c.self.invariant.is_forest c.in_ok-copies.ensures)

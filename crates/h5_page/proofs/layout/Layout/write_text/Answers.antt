@@ -1,4 +1,4 @@
-use Rattle.std.proofs.Common.{◌≡◌, sym, ap, ◌∙◌, encode_utf8}
+use Rattle.std.proofs.Common.{sym, ap, ◌∙◌, encode_utf8}
 use Rattle.h5_page.specs.Layout.{with_text}
 use Rattle.h5_page.proofs.LayoutLaws.{text_join}
 use Rattle.h5_page.proofs.layout.Layout.write_text.Goals as goal
