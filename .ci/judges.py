@@ -60,7 +60,7 @@ def without_soupsieve():
 JUDGES = {
     "html5lib": Judge([".ci/html5lib"], ["hengaruto"], without_cases),
     "html5ever": Judge([".ci/html5ever", html5ever_folder(), "5000"], ["h5"], without_html5ever),
-    "errors": Judge([".ci/errors", "3000", "1"], ["hengaruto", "errors"], without_parse5),
+    "errors": Judge([".ci/errors", "3000", "1"], ["hengaruto", "errors", "--scripting"], without_parse5),
     "selectors": Judge([".ci/selectors", "2000", "1"], ["hengaruto", "select"], without_soupsieve),
     "sanitizer": Judge([".ci/sanitizer", "3000", "1"], ["hengaruto", "clean"], without_parse5),
 }

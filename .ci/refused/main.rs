@@ -13,6 +13,7 @@ mod commands;
 mod outcome;
 mod parsing;
 mod reading;
+mod root;
 mod tally;
 
 use std::alloc::{AllocError, Global};
@@ -46,6 +47,7 @@ fn run_all(rt: &HostRuntime, tally: &mut Tally) -> anyhow::Result<()> {
     reading::run_all(rt, tally)?;
     calls::run_all(rt, tally)?;
     commands::run_all(rt, tally)?;
+    root::run_all(rt, tally)?;
     Ok(())
 }
 
