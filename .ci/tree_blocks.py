@@ -90,7 +90,8 @@ class Block:
         words += [name for name, _ in self.rows] + [end for _, end in self.rows] + [space for space, _ in self.names] + name_ends
         length = 4 * (9 + len(words)) + len(name_bytes) + len(self.values) + len(self.text)
         counts = [len(self.nodes), len(self.rows), len(self.names), len(name_bytes), len(self.values), len(self.text)]
-        head = [0x31544748, length, 0, *counts]
+        # No quirks, and parsed with scripting, as html5ever's serializer assumes.
+        head = [0x31544748, length, 4, *counts]
         return struct.pack(f"<{9 + len(words)}I", *head, *words) + name_bytes + self.values + self.text
 
 

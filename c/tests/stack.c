@@ -14,10 +14,10 @@ static unsigned char *contents_of(const char *name, size_t *length)
 }
 
 /* Frees the result of a call, if it has one. */
-static void drop(uint32_t status, unsigned char *bytes)
+static void drop(uint32_t status, unsigned char **bytes)
 {
     if (status == HENGARUTO_OK || status == HENGARUTO_BAD_SELECTOR) {
-        free(bytes);
+        free(*bytes);
     }
 }
 
@@ -26,13 +26,13 @@ static void whole_pages(const unsigned char *page, size_t length)
     unsigned char *bytes;
     size_t count;
 
-    drop(hengaruto_page_text(page, length, 0, &bytes, &count), bytes);
-    drop(hengaruto_page_text(page, length, 40, &bytes, &count), bytes);
-    drop(hengaruto_page_links(page, length, &bytes, &count), bytes);
-    drop(hengaruto_clean(page, length, &bytes, &count), bytes);
-    drop(hengaruto_encoding(page, length, bytes_of("gbk"), 3, &bytes, &count), bytes);
-    drop(hengaruto_decode(page, length, bytes_of("gbk"), 3, &bytes, &count), bytes);
-    drop(hengaruto_parse_fragment(page, length, bytes_of("div"), 3, HENGARUTO_NS_HTML, 0, &bytes, &count), bytes);
+    drop(hengaruto_page_text(page, length, 0, &bytes, &count), &bytes);
+    drop(hengaruto_page_text(page, length, 40, &bytes, &count), &bytes);
+    drop(hengaruto_page_links(page, length, &bytes, &count), &bytes);
+    drop(hengaruto_clean(page, length, &bytes, &count), &bytes);
+    drop(hengaruto_encoding(page, length, bytes_of("gbk"), 3, &bytes, &count), &bytes);
+    drop(hengaruto_decode(page, length, bytes_of("gbk"), 3, &bytes, &count), &bytes);
+    drop(hengaruto_parse_fragment(page, length, bytes_of("div"), 3, HENGARUTO_NS_HTML, 0, &bytes, &count), &bytes);
 }
 
 static void select_all(struct given tree, const unsigned char *selector, size_t length)
@@ -40,7 +40,7 @@ static void select_all(struct given tree, const unsigned char *selector, size_t 
     unsigned char *bytes;
     size_t count;
 
-    drop(hengaruto_select(tree.bytes, tree.length, 0, selector, length, &bytes, &count), bytes);
+    drop(hengaruto_select(tree.bytes, tree.length, 0, selector, length, &bytes, &count), &bytes);
 }
 
 static void reads_of(struct given tree, uint32_t node)
@@ -73,7 +73,7 @@ static void trees(struct given tree)
     for (node = 0; node < nodes; node++) {
         reads_of(tree, node);
     }
-    drop(hengaruto_html(tree.bytes, tree.length, 0, 1, &bytes, &count), bytes);
+    drop(hengaruto_html(tree.bytes, tree.length, 0, 1, &bytes, &count), &bytes);
     select_all(tree, bytes_of("div > :not(p)"), 13);
 }
 
@@ -96,5 +96,5 @@ int main(int count, char **words)
     }
     free(tree.bytes);
     free(page);
-    return ended("stack");
+    return failures != 0;
 }

@@ -68,7 +68,7 @@ static inline int gave(struct given given, const char *text)
     return same;
 }
 
-static int ended(const char *name)
+static inline int ended(const char *name)
 {
     printf("%s: %d checks, %d failed\n", name, checks, failures);
     return failures == 0 && checks > 0 ? EXIT_SUCCESS : EXIT_FAILURE;

@@ -93,7 +93,7 @@ def test_select(doc):
     assert len(doc.select("a")) == 2 and doc.select("i") == []
 
 
-@pytest.mark.parametrize("selector", ["", "p >", "p::", "[a", "a,,b", ":nope", "p:nth-child(", "\ud800", "\ufffd >"])
+@pytest.mark.parametrize("selector", ["", "p >", "p::", "[a=", "a,,b", ":nope", "p:nth-child(", "\ud800", "\ufffd >"])
 def test_wrong_selectors(doc, selector):
     for call in (doc.select, doc.select_first, doc.root.select, doc.root.select_first):
         with pytest.raises(hengaruto.SelectorError) as caught:
