@@ -1,4 +1,4 @@
-//! Calls of the library's root that nothing is left of: each is made again where memory was refused, and then does what it should.
+//! Calls of the library's root. A call whose allocation failed is made again, and must then return what it should.
 use super::outcome::Outcome;
 use super::tally::Tally;
 use h5_flat::{View, arena_of, columns_of_document, html_of};
@@ -13,7 +13,7 @@ use html_tree_builder::{LocalName, Namespace, QualName};
 use std::alloc::{AllocError, Global};
 use std::io;
 
-/// What is done, each from the beginning.
+/// A call, with all that it needs.
 #[derive(Clone, Copy, Debug)]
 enum Call {
     Parse,
@@ -45,7 +45,7 @@ const PAGE: &str = "<!DOCTYPE html><title>t</title><p class=a>x &amp; <a href=u>
 
 const HTML: &str = "<!DOCTYPE html><html><head><title>t</title></head><body><p class=\"a\">x &amp; <a href=\"u\">y</a></p><table><tbody><tr><td>1<b>2</b></td></tr></tbody></table></body></html>";
 
-// The only error of a parser that hasn't failed, of a call after whose error none follows.
+// The only error of a parser that hasn't failed is a failed allocation. False for any other error.
 fn refused(fault: BuildFault) -> Result<bool, AllocError> {
     match fault {
         BuildFault::Memory => Err(AllocError),
@@ -69,7 +69,7 @@ fn parse(alloc: Global) -> Result<bool, AllocError> {
     }
 }
 
-// Once a chunk was answered `Memory`, each later call is answered `Failed`.
+// After a call that returned `Memory` each later one returns `Failed`.
 fn parse_in_characters(alloc: Global) -> Result<bool, AllocError> {
     let mut parser = new_parser(alloc)?;
     let mut outcome = Outcome::Whole;
@@ -119,7 +119,7 @@ fn parse_bytes(alloc: Global) -> Result<bool, AllocError> {
     }
 }
 
-// A decoder that was refused memory is unchanged.
+// A decoder is unchanged if an allocation fails: the same bytes are decoded again.
 fn decode(alloc: Global) -> Result<bool, AllocError> {
     let bytes = b"<meta charset=shift_jis>\x83\x65\x83\x58";
     let (encoding, _source) = sniff(alloc, EncodingOpts::default(), bytes)?;
@@ -179,7 +179,7 @@ fn block(alloc: Global) -> Result<bool, AllocError> {
     Ok(html.as_slice() == HTML.as_bytes() && is_page(&tree.arena)?)
 }
 
-// True where a call returns what it should.
+// Returns true if a call returns what it should.
 fn made(alloc: Global, call: Call) -> Result<bool, AllocError> {
     match call {
         Call::Parse => parse(alloc),
@@ -195,7 +195,7 @@ fn made(alloc: Global, call: Call) -> Result<bool, AllocError> {
     }
 }
 
-// The outcome of a call, which is made again where it was refused memory.
+// The outcome of a call, which is made again if an allocation failed.
 fn outcome_of(alloc: Global, call: Call) -> Outcome {
     match made(alloc, call) {
         Ok(holds) => Outcome::Whole.where_holds(holds),
