@@ -1,11 +1,11 @@
 -- Repetitions, step by step.
 use Rattle.std.proofs.Common.{◌≡◌, ◌∙◌, ℕ, suc, ◌+◌, ◌-◌, ◌<◌, ◌≤◌, true, false, if◌then◌else◌, List, [], ◌∷◌, ◌++◌, ap, arith, drop, map, subst, sym}
 use Rattle.std.proofs.lemmas.List.{map-append}
-use Rattle.std.specs.Prelude.{Option, None, Some}
+use Rattle.std.specs.Prelude.{None, Some}
 use Rattle.h5_selectors.specs.Asking.{Asked, asked, combinator_at}
 use Rattle.h5_selectors.specs.Counting.{Taken, taken}
 use Rattle.h5_selectors.specs.Fault.{◌>>=◌, Found, Outcome}
-use Rattle.h5_selectors.specs.Grammar.{ArgumentsReader, Ends, Goes, Linked, Next, NextReader, Reader, alone, comma_next, compound_at, going_on, link_asked, link_joined, link_next, linked, repeated, simple_at, simple_joined, simple_next}
+use Rattle.h5_selectors.specs.Grammar.{ArgumentsReader, Ends, Goes, Linked, NextReader, Reader, alone, comma_next, compound_at, going_on, link_asked, link_joined, link_next, linked, repeated, simple_at, simple_joined, simple_next}
 use Rattle.h5_selectors.specs.Reads.{Fails}
 use Rattle.h5_selectors.specs.Tokens.{begins_with, behind_blanks, behind_comments, reading}
 use Rattle.h5_selectors.specs.declared.fault.Refusal.{Refusal}

@@ -4,7 +4,7 @@ use Rattle.std.specs.Prelude.{not}
 use Rattle.std.proofs.lemmas.List.{map-append}
 use Rattle.h5_selectors.specs.Tables.{stations_of}
 use Rattle.h5_selectors.specs.Waiting.{size_of}
-use Rattle.h5_selectors.specs.declared.formula.Formula.{Formula, Any, Name, Id, Class, Attr, Root, Scope, Empty, Link, NthOfType, Nth', Not', And', Or', Leads'}
+use Rattle.h5_selectors.specs.declared.formula.Formula.{Formula, Any, Name, Id, Class, Attr, Root, Scope, Empty, Link, Html, Lang, NthOfType, Nth', Not', And', Or', Leads'}
 
 none : {A : Type 0} (xs : List Formula) (y : Formula) (done : List Formula) → [] ≡ xs ++ y ∷ done → A
 none [] y done e = absurd (cc)
@@ -31,6 +31,8 @@ stations_along Root xs y done e = none xs y done e
 stations_along Scope xs y done e = none xs y done e
 stations_along Empty xs y done e = none xs y done e
 stations_along Link xs y done e = none xs y done e
+stations_along Html xs y done e = none xs y done e
+stations_along (Lang ranges) xs y done e = none xs y done e
 stations_along (NthOfType indices side) xs y done e = none xs y done e
 stations_along (Nth' indices side p of) xs y done e = none xs y done e
 stations_along (Not' p inner) xs y done e = none xs y done e

@@ -10,7 +10,7 @@ use Rattle.h5_arena.specs.ArenaModel.{IsHeld, place}
 use Rattle.h5_arena.specs.declared.nodes.NodeId.{NodeId}
 use Rattle.h5_selectors.specs.Query.{holds_by, seen_by}
 use Rattle.h5_selectors.specs.Waiting.{AreAdded, AreSteps, AreTested, IsStep, size_of, step_holds, sum_of, tests_by, tests_left, tests_of}
-use Rattle.h5_selectors.specs.declared.formula.Formula.{Formula, Any, Name, Id, Class, Attr, Root, Scope, Empty, Link, NthOfType, Nth', Not', And', Or', Leads'}
+use Rattle.h5_selectors.specs.declared.formula.Formula.{Formula, Any, Name, Id, Class, Attr, Root, Scope, Empty, Link, Html, Lang, NthOfType, Nth', Not', And', Or', Leads'}
 use Rattle.h5_selectors.specs.declared.holds.Query.{Query}
 use Rattle.h5_selectors.specs.declared.holds.Step.{Step}
 
@@ -61,6 +61,8 @@ tests_least f Root n = omega arith
 tests_least f Scope n = omega arith
 tests_least f Empty n = omega arith
 tests_least f Link n = omega arith
+tests_least f Html n = omega arith
+tests_least f (Lang ranges) n = omega arith
 tests_least f (NthOfType indices side) n = omega arith
 tests_least f (Nth' indices side p of) n = omega arith
 tests_least f (Not' p inner) n = omega arith

@@ -1,22 +1,17 @@
--- The conditions of the parts of a selector: types, combinators and pseudo-classes (Selectors Level 4, section 17, "Grammar").
-use Rattle.std.specs.Prelude.{ℕ, ◌==◌, ◌&&◌, ◌||◌, Bool, false, bytes_eq, codes, drop, if◌then◌else◌, List, [], ◌∷◌, not, Option, None, Some, string_bytes, unwrap_or}
+-- The conditions of the parts of a selector: types and combinators (Selectors Level 4, section 17, "Grammar").
+use Rattle.std.specs.Prelude.{ℕ, ◌==◌, ◌&&◌, ◌||◌, Bool, drop, if◌then◌else◌, List, [], ◌∷◌, map, not, Option, None, Some, string_bytes, unwrap_or}
 use Rattle.std.specs.Str.{str_to_ascii_lowercase}
 use Rattle.h5_selectors.specs.Attributes.{TestText, test_text}
-use Rattle.h5_selectors.specs.Indices.{indices}
 use Rattle.h5_selectors.specs.Fault.{◌>>=◌, Found, Outcome, wrong_at}
 use Rattle.h5_selectors.specs.Tokens.{Reading, begins, begins_with, behind_blanks, behind_comments, in_utf8, is_at_name, is_spaced, name_at, reading, unqualified_at}
-use Rattle.h5_selectors.specs.declared.fault.SelectorProblem.{SelectorProblem}
-use Rattle.h5_selectors.specs.declared.fault.SelectorProblem.TheVariants.{Name as NoName, PseudoClass, PseudoElement}
+use Rattle.h5_selectors.specs.declared.fault.SelectorProblem.TheVariants.{Name as NoName}
 use Rattle.h5_selectors.specs.declared.formula.AnPlusB.{AnPlusB}
-use Rattle.h5_selectors.specs.declared.formula.Formula.{Formula, Any, Name, Id, Class, Attr, Root, Scope, Empty, Link, NthOfType, Nth', Not', And', Or', Leads'}
+use Rattle.h5_selectors.specs.declared.formula.Formula.{Formula, Any, Name, Id, Class, Attr, Root, Scope, Empty, Link, Html, Lang, NthOfType, Nth', Not', And', Or', Leads'}
 use Rattle.h5_selectors.specs.declared.formula.Side.{Side}
-use Rattle.h5_selectors.specs.declared.formula.Side.TheVariants.{First, Last}
 use Rattle.h5_selectors.specs.declared.formula.Way.{Way}
 use Rattle.h5_selectors.specs.declared.formula.Way.TheVariants.{Ancestor, Below, Child as ToChild, Earlier, Later, Next, Parent, Previous}
 use Rattle.h5_selectors.specs.declared.parser.Combinator.{Combinator}
 use Rattle.h5_selectors.specs.declared.parser.Combinator.TheVariants as combinator
-use Rattle.h5_selectors.specs.declared.parser.Function.{Function}
-use Rattle.h5_selectors.specs.declared.parser.Function.TheVariants as function
 
 -- a condition on an element, independent of where it is in memory
 pub data Asked : Type 0 where
@@ -29,6 +24,8 @@ pub data Asked : Type 0 where
   AskScope : Asked
   AskEmpty : Asked
   AskLink : Asked
+  AskHtml : Asked
+  AskLang : (ranges : List (List ℕ)) → Asked
   AskNthOfType : (indices : AnPlusB) → (side : Side) → Asked
   AskNth : (indices : AnPlusB) → (side : Side) → (of : Asked) → Asked
   AskNot : (inner : Asked) → Asked
@@ -46,6 +43,8 @@ asked Root = AskRoot
 asked Scope = AskScope
 asked Empty = AskEmpty
 asked Link = AskLink
+asked Html = AskHtml
+asked (Lang ranges) = AskLang (map string_bytes ranges.items)
 asked (NthOfType indices side) = AskNthOfType indices side
 asked (Nth' indices side p of) = AskNth indices side (asked of)
 asked (Not' p inner) = AskNot (asked inner)
@@ -121,43 +120,3 @@ unprefixed_type_at text =
 
 unfoldable pub type_at : List ℕ → Outcome (Reading (Option Asked))
 type_at text = if has_any_namespace text then prefixed_type_at (behind_any_namespace text) else unprefixed_type_at text
-
--- the first or the last child
-abbrev pub first : AnPlusB
-first = indices 0 false 1 false
-
-abbrev pub end_child : Side → Asked
-end_child side = AskNth first side AskAny
-
--- a pseudo-class without arguments, by its name in lower case
-unfoldable pub plain_of : List ℕ → Option Asked
-plain_of name =
-    if bytes_eq name (codes "root") then Some AskRoot
-    else (if bytes_eq name (codes "scope") then Some AskScope
-    else (if bytes_eq name (codes "empty") then Some AskEmpty
-    else (if bytes_eq name (codes "any-link") then Some AskLink
-    else (if bytes_eq name (codes "link") then Some AskLink
-    else (if bytes_eq name (codes "first-child") then Some (end_child First)
-    else (if bytes_eq name (codes "last-child") then Some (end_child Last)
-    else (if bytes_eq name (codes "only-child") then Some (AskAnd (end_child First) (end_child Last))
-    else (if bytes_eq name (codes "first-of-type") then Some (AskNthOfType first First)
-    else (if bytes_eq name (codes "last-of-type") then Some (AskNthOfType first Last)
-    else (if bytes_eq name (codes "only-of-type") then Some (AskAnd (AskNthOfType first First) (AskNthOfType first Last)) else None))))))))))
-
--- the problem of another name in lower case
-abbrev pub problem_of : List ℕ → SelectorProblem
-problem_of name =
-    if bytes_eq name (codes "before") || bytes_eq name (codes "after") || bytes_eq name (codes "first-line") || bytes_eq name (codes "first-letter")
-    then PseudoElement else PseudoClass
-
--- a pseudo-class with arguments, by its name in lower case
-unfoldable pub function_of : List ℕ → Option Function
-function_of name =
-    if bytes_eq name (codes "not") then Some function.Not
-    else (if bytes_eq name (codes "is") then Some function.Is
-    else (if bytes_eq name (codes "where") then Some function.Is
-    else (if bytes_eq name (codes "has") then Some function.Has
-    else (if bytes_eq name (codes "nth-child") then Some (function.NthChild First)
-    else (if bytes_eq name (codes "nth-last-child") then Some (function.NthChild Last)
-    else (if bytes_eq name (codes "nth-of-type") then Some (function.NthOfType First)
-    else (if bytes_eq name (codes "nth-last-of-type") then Some (function.NthOfType Last) else None)))))))

@@ -4,12 +4,13 @@ use Rattle.std.specs.Prelude.{ℕ, ◌==◌, ◌||◌, Bool, true, false, bytes_
 use Prim.Native.Nat.{zero, suc}
 use Rattle.std.specs.Option.{option_to_list}
 use Rattle.std.specs.Str.{str_to_ascii_lowercase}
-use Rattle.h5_selectors.specs.Asking.{Asked, AskAny, AskAttr, AskClass, AskId, AskLeads, AskNot, AskNth, AskNthOfType, AskOr, asked, back, both, combinator_at, forth, function_of, leading_at, plain_of, problem_of, type_at}
-use Rattle.h5_selectors.specs.Attributes.{attribute_at}
+use Rattle.h5_selectors.specs.Asking.{Asked, AskAny, AskAttr, AskClass, AskId, AskLang, AskLeads, AskNot, AskNth, AskNthOfType, AskOr, asked, back, both, combinator_at, forth, leading_at, type_at}
+use Rattle.h5_selectors.specs.Attributes.{attribute_at, value_at}
 use Rattle.h5_selectors.specs.Counting.{Taken, part, partless, seen_as, taken}
 use Rattle.h5_selectors.specs.Fault.{◌>>=◌, Found, Outcome, Wrong, wrong_at}
 use Rattle.h5_selectors.specs.Indices.{indices_at, lower_name_at}
-use Rattle.h5_selectors.specs.Tokens.{Reading, begins, begins_with, behind_blanks, behind_comments, behind_values, closed_at, ends, is_at_name, named_at}
+use Rattle.h5_selectors.specs.PseudoClasses.{function_of, plain_of, problem_of}
+use Rattle.h5_selectors.specs.Tokens.{Reading, begins, begins_with, behind_blanks, behind_comments, behind_values, closed_at, ends, is_at_name, named_at, reading}
 use Rattle.h5_selectors.specs.declared.fault.SelectorProblem.{SelectorProblem}
 use Rattle.h5_selectors.specs.declared.fault.SelectorProblem.TheVariants as problem
 use Rattle.h5_selectors.specs.declared.formula.Side.{Side}
@@ -93,6 +94,20 @@ commas_at item all parts text = repeated (comma_next item) (length text) all par
 -- as a list of one
 abbrev pub alone : {A : Type 0} → Reader A → Reader (List A)
 alone item parts text = seen_as (λ one. one ∷ []) (item parts text)
+
+-- a language range, a string or a name, and the whitespace after it
+unfoldable pub range_at : List ℕ → Outcome (Reading (List ℕ))
+range_at text = value_at text >>= (λ range. Found (reading range.value (behind_blanks range.rest)))
+
+abbrev pub range_item : Reader (List ℕ)
+range_item parts text = partless (λ range. range) parts (range_at text)
+
+-- the ranges of `:lang()`, separated by commas
+unfoldable pub languages_at : Reader Asked
+languages_at parts text = do
+  first ← alone range_item parts text
+  all ← commas_at (alone range_item) first.value first.parts first.rest
+  Found (taken (AskLang all.value) all.parts all.rest)
 
 -- true for the problems that aren't forgiven: those of a selector that is too large
 abbrev pub is_limit : SelectorProblem → Bool
@@ -252,6 +267,7 @@ arguments_by nested in_has is_in_has function.Is begin parts text = forgiving_li
 arguments_by nested in_has is_in_has function.Has begin parts text = if is_in_has then Wrong problem.NestedHas begin else list_at in_has true parts text
 arguments_by nested in_has is_in_has (function.NthChild side) begin parts text = nth_child_at nested side parts text
 arguments_by nested in_has is_in_has (function.NthOfType side) begin parts text = partless (λ indices. AskNthOfType indices side) parts (indices_at text)
+arguments_by nested in_has is_in_has function.Lang begin parts text = languages_at parts text
 
 -- pseudo-classes with arguments, in each other at most this number of levels deep
 unfoldable pub arguments_within : (depth : ℕ) → (is_in_has : Bool) → ArgumentsReader

@@ -1,5 +1,5 @@
 -- The elements that a selector matches (Selectors Level 4; HTML standard, section 4.16.2, "Case-sensitivity of selectors").
-use Rattle.std.specs.Prelude.{ℕ, ◌+◌, ◌==◌, ◌&&◌, ◌||◌, Bool, true, false, if◌then◌else◌, not, is_some, length, List, Option, codes, string_bytes}
+use Rattle.std.specs.Prelude.{ℕ, ◌+◌, ◌==◌, ◌&&◌, ◌||◌, Bool, true, false, if◌then◌else◌, not, is_some, length, List, map, Option, codes, string_bytes}
 use Rattle.std.specs.List.{filter, list_any}
 use Rattle.std.specs.Option.{option_map_or}
 use Rattle.h5_names.specs.AttributeText.{AttributeText, is_same_text}
@@ -8,10 +8,11 @@ use Rattle.h5_names.specs.declared.qualified.QualName.{QualName}
 use Rattle.h5_interface.specs.Forest.{Forest, attrs_of}
 use Rattle.h5_arena.specs.ArenaModel.{value_of}
 use Rattle.h5_selectors.specs.AnPlusB.{is_index}
+use Rattle.h5_selectors.specs.Languages.{has_language}
 use Rattle.h5_selectors.specs.Values.{are_same, compares, includes}
 use Rattle.h5_selectors.specs.Ways.{counted, is_empty, is_root, led, name_of}
 use Rattle.h5_selectors.specs.declared.formula.AttrTest.{AttrTest}
-use Rattle.h5_selectors.specs.declared.formula.Formula.{Formula, Any, Name, Id, Class, Attr, Root, Scope, Empty, Link, NthOfType, Nth', Not', And', Or', Leads'}
+use Rattle.h5_selectors.specs.declared.formula.Formula.{Formula, Any, Name, Id, Class, Attr, Root, Scope, Empty, Link, Html, Lang, NthOfType, Nth', Not', And', Or', Leads'}
 use Rattle.h5_selectors.specs.declared.formula.Written.{Written}
 
 abbrev pub is_html : QualName → Bool
@@ -67,6 +68,8 @@ module _ (f : Forest) (quirky : Bool) (scope : Option ℕ) where
   holds Scope n = is_scope n
   holds Empty n = is_empty f n
   holds Link n = asks_name (λ name. is_link name (attrs_of f n)) n
+  holds Html n = asks_name is_html n
+  holds (Lang ranges) n = has_language f (map string_bytes ranges.items) n
   holds (NthOfType indices side) n = is_index indices (length (filter (is_alike n) (counted side f n)) + 1)
   holds (Nth' indices side p of) n = holds of n && is_index indices (length (filter (holds of) (counted side f n)) + 1)
   holds (Not' p inner) n = not (holds inner n)

@@ -1,11 +1,14 @@
 pub mod AnPlusB
 pub mod Asking
 pub mod Attributes
+pub mod Controls
 pub mod Counting
 pub mod Fault
 pub mod Grammar
 pub mod Holds
 pub mod Indices
+pub mod Languages
+pub mod PseudoClasses
 pub mod Query
 pub mod Reads
 pub mod Rows

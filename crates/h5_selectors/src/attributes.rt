@@ -98,10 +98,10 @@ fn operator_at(text: &[char]) -> Option<(Operator, &[char])>
 
 // A comparison of an attribute's value: the operator, the text, and the flag for case, if there is one.
 #[derive(Drop)]
-struct Comparison {
-    operator: Operator,
-    text: String,
-    flag: Option<bool>,
+pub(crate) struct Comparison {
+    pub(crate) operator: Operator,
+    pub(crate) text: String,
+    pub(crate) flag: Option<bool>,
 }
 
 impl<'a> Scan<'a> {
@@ -120,7 +120,7 @@ impl<'a> Scan<'a> {
 
     // A string or a name.
     #[tactic(auto, unfolding(crate::specs::Attributes::value_at))]
-    fn value(&mut self, alloc: Global) -> Result<String, Refusal>
+    pub(crate) fn value(&mut self, alloc: Global) -> Result<String, Refusal>
         ensures { Reads string_bytes result self.new.rest.now (value_at self.old.rest.now) }
     {
         self.skip_blanks();
@@ -190,8 +190,8 @@ impl<'a> Scan<'a> {
     }
 }
 
-// The test of an attribute with this name.
-fn test_of(name: Written, compared: Comparison) -> AttrTest
+/// The test of an attribute with this name.
+pub(crate) fn test_of(name: Written, compared: Comparison) -> AttrTest
     ensures { test_text result ≡ test_by name.exact name.lower (comparison compared.operator (string_bytes compared.text) compared.flag) }
 {
     let is_caseless = is_caseless(name.lower.as_str());

@@ -91,6 +91,10 @@ pub enum Formula {
     Empty,
     /// It is a link.
     Link,
+    /// It is an HTML element.
+    Html,
+    /// Its language is in one of these ranges.
+    Lang(Vec<String>),
     /// Its index among the siblings with its name is one of these.
     NthOfType(AnPlusB, Side),
     /// The inner condition holds for it, and its index among the siblings for which it also holds is one of these.
@@ -111,8 +115,9 @@ impl Drop for Formula {
                 Formula::Leads(_, inner) => self = Box::into_inner(inner),
                 Formula::And(_, other) => self = Box::into_inner(other),
                 Formula::Or(_, other) => self = Box::into_inner(other),
-                Formula::Any | Formula::Root | Formula::Scope | Formula::Empty | Formula::Link =>
-                    return,
+                Formula::Any | Formula::Root | Formula::Scope | Formula::Empty => return,
+                Formula::Link | Formula::Html => return,
+                Formula::Lang(_ranges) => return,
                 Formula::NthOfType(_, _) => return,
                 Formula::Name(_written) => return,
                 Formula::Id(_text) => return,

@@ -1,15 +1,17 @@
 //! Tests of conditions on one element.
-ghost use Rattle.std.specs.Prelude.{◌≡◌, ◌+◌, ◌&&◌, ◌≤◌, ◌<◌, All, IfOk, OnOk, cond, length, map};
+ghost use Rattle.std.specs.Prelude.{◌≡◌, ◌+◌, ◌&&◌, ◌≤◌, ◌<◌, All, IfOk, OnOk, cond, length, map, string_bytes};
 ghost use Rattle.std.specs.List.{filter, list_any};
 ghost use Rattle.h5_arena.specs.ArenaModel.{IsHeld, optional_place, place};
 ghost use Rattle.h5_selectors.specs.Holds as h;
 ghost use Rattle.h5_selectors.specs.AnPlusB.{is_index};
+ghost use Rattle.h5_selectors.specs.Languages.{has_language};
 ghost use Rattle.h5_selectors.specs.Values.{are_same};
 ghost use Rattle.h5_selectors.specs.Query.{holds_by, quirky_by, scope_by, seen_by};
 ghost use Rattle.h5_selectors.specs.Waiting.{AreAdded, AreTested, sum_of, tests_by};
 ghost use Rattle.h5_selectors.specs.Ways.{ancestors, counted, led, parent_element};
 ghost use Rattle.h5_selectors.specs.declared.holds.Query.{Query as QueryAt};
 
+use super::languages::{is_in_ranges, language_of};
 use super::values::{compares, includes};
 use super::ways::{
     are_alike, counted, is_element, is_empty, is_root, led, name_of, parent_element, parent_of,
@@ -137,6 +139,16 @@ pub(crate) fn has_class(query: &Query<'_>, id: NodeId, text: &str) -> bool
     }
 }
 
+pub(crate) fn is_html_element(query: &Query<'_>, id: NodeId) -> bool
+    requires { IsHeld query.now.arena.now id }
+    ensures { result ≡ holds_by query.now Formula.Html id.index }
+{
+    match name_of(query.arena, id) {
+        Some(name) => is_html(name),
+        None => false,
+    }
+}
+
 pub(crate) fn is_link(query: &Query<'_>, id: NodeId) -> bool
     requires { IsHeld query.now.arena.now id }
     ensures { result ≡ holds_by query.now Formula.Link id.index }
@@ -157,6 +169,15 @@ pub(crate) fn is_scope(query: &Query<'_>, id: NodeId) -> bool
         Some(scope) => scope == id,
         None => is_root(query.arena, id),
     }
+}
+
+// Returns true if the language of an element is in one of these ranges.
+fn has_language(query: &Query<'_>, id: NodeId, ranges: &[String]) -> Result<bool, AllocError>
+    requires { IsHeld query.now.arena.now id }
+    ensures { IfOk result (λ answer. answer ≡ has_language (seen_by query.now) (map string_bytes ranges.now) id.index) }
+{
+    let language = language_of(query.alloc, query.arena, id)?;
+    is_in_ranges(query.alloc, ranges, language)
 }
 
 /// Adds 1 if `counts` is set.
@@ -250,6 +271,8 @@ fn tested<'a>(
         Formula::Scope => Ok(is_scope(query, id)),
         Formula::Empty => Ok(is_empty(query.arena, id)),
         Formula::Link => Ok(is_link(query, id)),
+        Formula::Html => Ok(is_html_element(query, id)),
+        Formula::Lang(ranges) => has_language(query, id, ranges.as_slice()),
         Formula::NthOfType(indices, side) => is_nth_of_type(query, id, *indices, *side),
         Formula::Nth(indices, side, of) => is_nth(&**of, query, id, *indices, *side),
         Formula::Not(inner) => Ok(!holds(&**inner, query, id)?),

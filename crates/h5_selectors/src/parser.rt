@@ -1,10 +1,11 @@
 //! Parses selectors (Selectors Level 4, sections 4.1 and 17). Each combinator becomes a relation: backwards or, inside `:has()`, forwards.
 ghost use Rattle.std.specs.Prelude.{◌≡◌, ◌-◌, ◌==◌, ◌&&◌, [], ◌∷◌, ◌++◌, IfErr, IfNone, IfOk, MatchOption, MatchResult, None, OnOk, Some, bytes_eq, codes, false, if◌then◌else◌, length, map, option_map, option_to_list, string_bytes, true};
 ghost use Rattle.std.specs.Str.{chars};
-ghost use Rattle.h5_selectors.specs.Asking.{AskAnd, AskLeads, AskNot, AskNth, AskNthOfType, AskOr, asked, back, behind_any_namespace, both, combinator_at, end_child, first, forth, function_of, has_any_namespace, leading_at, plain_of, prefixed_type_at, problem_of, sign_at, type_at, unprefixed_type_at};
+ghost use Rattle.h5_selectors.specs.Asking.{AskAnd, AskLeads, AskNthOfType, asked, back, behind_any_namespace, combinator_at, forth, has_any_namespace, leading_at, prefixed_type_at, sign_at, type_at, unprefixed_type_at};
 ghost use Rattle.h5_selectors.specs.Counting.{taken};
 ghost use Rattle.h5_selectors.specs.Fault.{Found, IsWithin, Tells};
-ghost use Rattle.h5_selectors.specs.Grammar.{all_of, any_of, arguments_within, backwards, both_if, commas_at, complex_at, compound_at, forgiven_at, forgiving_list_at, forwards, function_at, is_limit, is_selector_end, item_at, left_out, link_asked, links_at, list_at, most_parts, nth_child_at, of_at, plain_by, pseudo_class_at, relative_at, selector_at, selectors_of, simple_at, simples_at, top_at};
+ghost use Rattle.h5_selectors.specs.Grammar.{all_of, any_of, arguments_within, backwards, both_if, alone, commas_at, complex_at, compound_at, forgiven_at, forgiving_list_at, forwards, function_at, is_limit, is_selector_end, item_at, languages_at, left_out, link_asked, links_at, list_at, most_parts, nth_child_at, of_at, plain_by, pseudo_class_at, range_at, range_item, relative_at, selector_at, selectors_of, simple_at, simples_at, top_at};
+ghost use Rattle.h5_selectors.specs.PseudoClasses.{end_child, first, function_of, plain_of, problem_of};
 ghost use Rattle.h5_selectors.specs.Reads.{Fails, Reads, Takes};
 ghost use Rattle.h5_selectors.specs.Tokens.{behind_blanks, named_at, reading};
 ghost use Rattle.h5_selectors.specs.declared.fault.Refusal.TheVariants.{Invalid};
@@ -12,6 +13,8 @@ ghost use Rattle.h5_selectors.specs.declared.fault.SelectorProblem.TheVariants.{
 ghost use Rattle.h5_selectors.specs.declared.formula.Side.TheVariants.{First, Last};
 
 use super::attributes::written;
+use super::conditions::{along, both, either, negated, nth};
+use super::controls::{checked, disabled, enabled};
 use super::fault::{Refusal, SelectorError, SelectorProblem};
 use super::formula::{AnPlusB, Formula, Side, Way};
 use super::scan::Scan;
@@ -30,46 +33,6 @@ const FIRST: AnPlusB = AnPlusB {
     offset: 1,
     is_under: false,
 };
-
-fn boxed(alloc: Global, formula: Formula) -> Result<Box<Formula>, AllocError>
-    ensures { IfOk result (λ kept. kept.value ≡ formula) }
-{
-    let kept = Box::new(alloc, formula)?;
-    Ok(kept)
-}
-
-fn negated(alloc: Global, formula: Formula) -> Result<Formula, AllocError>
-    ensures { IfOk result (λ made. asked made ≡ AskNot (asked formula)) }
-{
-    Ok(Formula::Not(boxed(alloc, formula)?))
-}
-
-fn both(alloc: Global, one: Formula, other: Formula) -> Result<Formula, AllocError>
-    ensures { IfOk result (λ made. asked made ≡ both (asked one) (asked other)) }
-{
-    if let Formula::Any = &one {
-        return Ok(other);
-    }
-    Ok(Formula::And(boxed(alloc, one)?, boxed(alloc, other)?))
-}
-
-fn either(alloc: Global, one: Formula, other: Formula) -> Result<Formula, AllocError>
-    ensures { IfOk result (λ made. asked made ≡ AskOr (asked one) (asked other)) }
-{
-    Ok(Formula::Or(boxed(alloc, one)?, boxed(alloc, other)?))
-}
-
-fn along(alloc: Global, way: Way, formula: Formula) -> Result<Formula, AllocError>
-    ensures { IfOk result (λ made. asked made ≡ AskLeads way (asked formula)) }
-{
-    Ok(Formula::Leads(way, boxed(alloc, formula)?))
-}
-
-fn nth(alloc: Global, indices: AnPlusB, side: Side, of: Formula) -> Result<Formula, AllocError>
-    ensures { IfOk result (λ made. asked made ≡ AskNth indices side (asked of)) }
-{
-    Ok(Formula::Nth(indices, side, boxed(alloc, of)?))
-}
 
 // The first or the last child.
 fn first_child(alloc: Global, side: Side) -> Result<Formula, AllocError>
@@ -229,7 +192,7 @@ impl<'a> Scan<'a> {
 }
 
 // The condition of a pseudo-class without arguments, by its name in lower case.
-#[tactic(auto, unfolding(crate::specs::Asking::plain_of))]
+#[tactic(auto, unfolding(crate::specs::PseudoClasses::plain_of))]
 fn plain(alloc: Global, name: &str, begin: Scan<'_>) -> Result<Formula, Refusal>
     ensures { MatchResult result (λ made. plain_of name.now ≡ Some (asked made)) (λ refusal. Fails refusal (plain_by name.now (length begin.entry.rest.now) (plain_of name.now))) }
 {
@@ -238,6 +201,9 @@ fn plain(alloc: Global, name: &str, begin: Scan<'_>) -> Result<Formula, Refusal>
         "scope" => Ok(Formula::Scope),
         "empty" => Ok(Formula::Empty),
         "any-link" | "link" => Ok(Formula::Link),
+        "checked" => Ok(checked(alloc)?),
+        "disabled" => Ok(disabled(alloc)?),
+        "enabled" => Ok(enabled(alloc)?),
         "first-child" => Ok(first_child(alloc, Side::First)?),
         "last-child" => Ok(first_child(alloc, Side::Last)?),
         "only-child" => Ok(only_child(alloc)?),
@@ -300,10 +266,11 @@ enum Function {
     Has,
     NthChild(Side),
     NthOfType(Side),
+    Lang,
 }
 
 // The pseudo-class with this name in lower case.
-#[tactic(auto, unfolding(crate::specs::Asking::function_of))]
+#[tactic(auto, unfolding(crate::specs::PseudoClasses::function_of))]
 fn function_of(name: &str) -> Option<Function>
     ensures { result ≡ function_of name.now }
 {
@@ -315,6 +282,7 @@ fn function_of(name: &str) -> Option<Function>
         "nth-last-child" => Some(Function::NthChild(Side::Last)),
         "nth-of-type" => Some(Function::NthOfType(Side::First)),
         "nth-last-of-type" => Some(Function::NthOfType(Side::Last)),
+        "lang" => Some(Function::Lang),
         _ => None,
     }
 }
@@ -445,6 +413,42 @@ impl<'a> Parser<'a> {
         Ok(None)
     }
 
+    // A language range, and the whitespace after it.
+    #[tactic(auto, unfolding(crate::specs::Grammar::range_at))]
+    fn range(&mut self) -> Result<String, Refusal>
+        ensures { Takes string_bytes result self.new.parts self.new.scan.rest.now (range_item self.old.parts self.old.scan.rest.now) }
+    {
+        let range = self.scan.value(self.alloc)?;
+        self.scan.skip_blanks();
+        Ok(range)
+    }
+
+    // The language ranges after the first, each after a comma.
+    fn more_ranges(&mut self, first: String) -> Result<Vec<String>, Refusal>
+        ensures { Takes (λ ranges. map string_bytes ranges.items) result self.new.parts self.new.scan.rest.now
+            (commas_at (alone range_item) (string_bytes first ∷ []) self.old.parts self.old.scan.rest.now) }
+    {
+        let mut ranges = Vec::new(self.alloc);
+        ranges.push(first)?;
+        for _step in 0..self.scan.rest.len() {
+            if !self.scan.take(',') {
+                return Ok(ranges);
+            }
+            ranges.push(self.range()?)?;
+        }
+        Ok(ranges)
+    }
+
+    // The condition of `:lang()`.
+    #[tactic(auto, unfolding(crate::specs::Grammar::languages_at))]
+    fn languages(&mut self) -> Result<Formula, Refusal>
+        ensures { Takes asked result self.new.parts self.new.scan.rest.now (languages_at self.old.parts self.old.scan.rest.now) }
+    {
+        let first = self.range()?;
+        let ranges = self.more_ranges(first)?;
+        Ok(Formula::Lang(ranges))
+    }
+
     // The arguments of a pseudo-class, which begins at `begin`.
     #[cycle(parse)]
     #[tactic(auto, unfolding(crate::specs::Grammar::arguments_within, crate::specs::Grammar::arguments_by))]
@@ -481,6 +485,7 @@ impl<'a> Parser<'a> {
             Function::NthOfType(side) => {
                 Ok(Formula::NthOfType(self.scan.indices(self.alloc)?, side))
             }
+            Function::Lang => self.languages(),
         }
     }
 

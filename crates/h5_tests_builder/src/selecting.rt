@@ -35,6 +35,32 @@ const ROWS: [(&str, usize); 21] = [
     ("*|li, *|*:root", 4),
 ];
 
+const FORM: &str =
+    "<!DOCTYPE html><fieldset disabled><legend><input type=CHECKBOX checked></legend><legend><button></button></legend><input type=radio></fieldset><select><optgroup disabled><option><option selected disabled>";
+
+// Selectors of the states of form controls.
+const FORM_ROWS: [(&str, usize); 6] = [
+    (":checked", 2),
+    (":disabled", 6),
+    (":enabled", 2),
+    ("legend > :enabled", 1),
+    ("legend + legend > :disabled", 1),
+    ("option:not([disabled]):disabled", 1),
+];
+
+const TEXT: &str =
+    "<!DOCTYPE html><div lang=en-GB><b></b><p lang=\"\"></p><p lang=de-Latn-DE></p><svg lang=fr xml:lang=de-CH><g></g></svg></div>";
+
+// Selectors of languages.
+const TEXT_ROWS: [(&str, usize); 6] = [
+    (":lang(en)", 2),
+    ("b:LANG(fr, 'EN-gb')", 1),
+    (":lang(de-de)", 1),
+    (":lang(d)", 0),
+    (":lang('*-CH', fr)", 2),
+    (":lang('')", 4),
+];
+
 fn check(
     rt: &impl Abort,
     alloc: Global,
@@ -44,6 +70,19 @@ fn check(
     let selector = Selector::parse(alloc, text)?;
     let found = selector.select(arena, arena.document())?;
     assert_eq!(rt; found.len(), count, "{text}");
+    Ok(())
+}
+
+fn check_page(
+    rt: &impl Abort,
+    alloc: Global,
+    page: &str,
+    rows: &[(&str, usize)],
+) -> Result<(), Fail> {
+    let arena = parse_document(alloc, Arena::new(alloc)?, ParseOpts::default()).one(page)?;
+    for &row in rows {
+        check(rt, alloc, &arena, row)?;
+    }
     Ok(())
 }
 
@@ -77,6 +116,12 @@ fn elements_are_selected(rt: HostRuntime) -> Result<(), Fail> {
     let checked = check_all(&rt, rt.alloc(), &arena);
     drop(arena);
     checked
+}
+
+#[test]
+fn states_and_languages_are_selected(rt: HostRuntime) -> Result<(), Fail> {
+    check_page(&rt, rt.alloc(), FORM, &FORM_ROWS)?;
+    check_page(&rt, rt.alloc(), TEXT, &TEXT_ROWS)
 }
 
 #[test]
