@@ -25,7 +25,7 @@ use Rattle.h5_states.specs.Reading.{ReaderPlace, Passes, passed, outcome, is_dro
 use Rattle.h5_states.specs.Spots.{is_inside, position, spot_again, spot_behind, spot_behind_all, spot_past}
 use Rattle.h5_states.specs.States.{State, Text}
 use Rattle.h5_states.specs.SeenAhead.{seen_ahead, told_of_row}
-use Rattle.h5_states.specs.Telling.{Reached, Reaches, begins, drops, goes, again, hands_text, hands_nothing, hands_token, asks, at_first, row_errors, told_at_byte}
+use Rattle.h5_states.specs.Telling.{Reached, begins, drops, goes, again, hands_text, hands_nothing, hands_token, asks, at_first, row_errors, told_at_byte}
 use Rattle.h5_states.specs.Told.{Tells, told_at}
 use Rattle.h5_states.specs.Turn.{Consumed, Reconsumed, Emitted, Asks}
 use Rattle.h5_states.proofs.ToldLaws.{input_first, none_at_byte, row_alone, row_first, tells_none, tells_twice}
@@ -34,10 +34,9 @@ use Rattle.h5_machine.specs.declared.machine.Step.{Step}
 use Rattle.h5_machine.specs.declared.machine.Step.TheVariants as step
 use Rattle.h5_machine.specs.OutcomeOf.{made_of}
 use Rattle.h5_machine.specs.declared.transition.CurrentToken.{CurrentToken}
-use Rattle.h5_machine.specs.StateOf.{state_of}
 use Rattle.h5_machine.specs.Wide.{takes_wide}
 use Rattle.h5_standard.specs.Steps.{HandsOn, progress_of}
-use Rattle.h5_standard.specs.Telling.{Came, CameBefore, CameOn, CameRefused, CameTo, FailsTelling, LeadsTelling, MakesTelling, TellsRow}
+use Rattle.h5_standard.specs.Telling.{CameBefore, CameOn, CameRefused, CameSomewhere, up_to, with_byte, CameTo, FailsTelling, LeadsTelling, MakesTelling, TellsRow}
 use Rattle.h5_standard.proofs.EncodingLaws.{first_same}
 use Rattle.h5_standard.proofs.TakeLaws.{normal_wide}
 use Rattle.h5_standard.proofs.WideRows.{WideRow, is_wide, wide_row, wide_so}
@@ -257,7 +256,7 @@ module _ {M : Type 0} (reply_to : M → TokenText → Reply) (after : M → Toke
       → HandsOn reply_to after node r l token line q k result → LeadsTelling reply_to after foreign told start first node [] q.began q s k xs now result
   leads_telling node s l xs now token line r q k (Ok None) h e = record { reply = reply_to l token; goes_on = e.answer; came = answered_so refl e.place e.meaning h }
   leads_telling node s l xs now token line r q k (Ok (Some stop)) h e = answered_so e.answer e.place e.meaning h
-  leads_telling node s l xs now token line r q k (Err fault.Memory) h e = tt
+  leads_telling node s l xs now token line r q k (Err fault.Memory) h e = up_to h
   leads_telling node s l xs now token line r q k (Err fault.AfterEnd) h e = refused_so fault.AfterEnd e h
   leads_telling node s l xs now token line r q k (Err fault.NotInText) h e = refused_so fault.NotInText e h
   leads_telling node s l xs now token line r q k (Err fault.Failed) h e = refused_so fault.Failed e h
@@ -302,6 +301,11 @@ module _ {M : Type 0} (reply_to : M → TokenText → Reply) (after : M → Toke
   at_front : {text : List ℕ} {line : ℕ} {p : ReaderPlace} {s : Spot} {l : M} {x : ℕ} {now : E} (rest : List ℕ) → rest ≡ x ∷ drop 1 rest
       → CameBefore reply_to after foreign told start first text line p s l rest x now → CameBefore reply_to after foreign told start first text line p s l (x ∷ drop 1 rest) x now
   at_front {text} {line} {p} {s} {l} {x} {now} rest front h = subst (λ r. CameBefore reply_to after foreign told start first text line p s l r x now) front h
+
+  -- and an allocation fails
+  pub fails_at_byte : {text : List ℕ} {line : ℕ} {p : ReaderPlace} {s : Spot} {l : M} {x : ℕ} {now : E} (rest : List ℕ) → rest ≡ x ∷ drop 1 rest → is_dropped p x ≡ false
+      → CameBefore reply_to after foreign told start first text line p s l rest x now → CameSomewhere reply_to after foreign told start first now
+  fails_at_byte rest front kept h = with_byte (at_front rest front h) kept
 
   with_spot : {text : List ℕ} {line : ℕ} {p : ReaderPlace} {s t : Spot} {m : M} {xs : List ℕ} {now : E} → t ≡ s → CameOn reply_to after foreign told start first text line p s m xs now
       → CameOn reply_to after foreign told start first text line p t m xs now

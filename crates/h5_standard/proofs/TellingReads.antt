@@ -1,8 +1,8 @@
 -- What reports errors reads, as any tokenizer does.
-use Rattle.std.proofs.Common.{◌≡◌, ◌⊎◌, inl, inr, ℕ, ◌+◌, ◌-◌, Bool, true, List, [], length, refl, sym, ap, ◌∙◌, subst, Result, Ok, Err}
+use Rattle.std.proofs.Common.{◌≡◌, ◌⊎◌, inl, inr, ℕ, ◌+◌, ◌-◌, Bool, List, [], length, refl, sym, ap, ◌∙◌, subst, Result, Ok, Err}
 use Rattle.std.specs.Io.Iter.{u64_saturate}
 use Rattle.h5_token.specs.TokenText.{TokenText}
-use Rattle.h5_token.specs.Reply.{Reply, Continues, RunsScript, Indicates, Refuses}
+use Rattle.h5_token.specs.Reply.{Reply, Continues, RunsScript, Refuses}
 use Rattle.h5_token.specs.declared.fault.BuildFault.{BuildFault}
 use Rattle.h5_token.specs.declared.fault.BuildFault.TheVariants as fault
 use Rattle.h5_reading.specs.Stops.{result_of, stops_as}

@@ -4,7 +4,6 @@ use Rattle.std.proofs.lemmas.Bool.{false≢true}
 use Rattle.std.specs.Char.{to_ascii_lowercase}
 use Rattle.h5_states.specs.declared.kinds.TextKind.TheVariants as kind
 use Rattle.h5_states.specs.declared.kinds.Quote.TheVariants as quote
-use Rattle.h5_states.specs.declared.kinds.Identifier.TheVariants as id
 use Rattle.h5_states.specs.Construction.{named_further, attribute_named_further, value_further, new_doctype, doctype_named_further, identifier_further}
 use Rattle.h5_states.specs.Machine.{turn}
 use Rattle.h5_states.specs.ReferenceTable.{references}

@@ -1,6 +1,6 @@
 -- What steps of the tokenizer that reports errors did.
 use Rattle.std.specs.List.{list_all}
-use Rattle.std.specs.Prelude.{◌≡◌, ◌≤◌, ◌∷◌, ℕ, ◌+◌, ◌-◌, Bool, true, List, [], Result, Ok, Err, Option, Some, None, length, string_bytes}
+use Rattle.std.specs.Prelude.{◌≡◌, ◌≤◌, ◌∷◌, ℕ, ◌+◌, ◌-◌, Bool, true, false, List, [], Result, Ok, Err, Option, Some, None, length, string_bytes}
 use Rattle.std.specs.Io.Iter.{u64_saturate}
 use Rattle.h5_token.specs.TokenText.{TokenText}
 use Rattle.h5_token.specs.Reply.{Reply, Refuses, RunsScript, Indicates}
@@ -15,7 +15,7 @@ use Rattle.h5_states.specs.declared.errors.ParseError.{ParseError}
 use Rattle.h5_states.specs.declared.position.Spot.{Spot}
 use Rattle.h5_states.specs.declared.position.LocatedError.{LocatedError}
 use Rattle.h5_states.specs.InputErrors.{InputErrors}
-use Rattle.h5_states.specs.Reading.{ReaderPlace}
+use Rattle.h5_states.specs.Reading.{ReaderPlace, is_dropped}
 use Rattle.h5_states.specs.ReferenceTable.{references}
 use Rattle.h5_states.specs.Spots.{is_inside, position}
 use Rattle.h5_states.specs.Telling.{Reached, Reaches, told_at_byte}
@@ -70,9 +70,15 @@ module _ {M : Type 0} (reply_to : M → TokenText → Reply) (after : M → Toke
     pub rest : List ℕ
     pub came : CameTo (Refuses refused) place spot m rest now
 
-  -- the sink's error, or a failed allocation, after which nothing is known
+  -- Reading got somewhere, and the errors up to there were reported, or also those at the current byte, and no others.
+  pub data CameSomewhere (now : E) : Type 0 where
+    up_to : {r : Reached M} → Came r now → CameSomewhere now
+    with_byte : {text : List ℕ} {line : ℕ} {p : ReaderPlace} {s : Spot} {m : M} {x : ℕ} {xs : List ℕ}
+        → CameBefore text line p s m (x ∷ xs) x now → is_dropped p x ≡ false → CameSomewhere now
+
+  -- the sink's error, or a failed allocation, after which nothing is known about the sink of tokens
   abbrev pub FailsTelling : M → E → BuildFault → Type 0
-  FailsTelling m now fault.Memory = Unit {0}
+  FailsTelling m now fault.Memory = CameSomewhere now
   FailsTelling m now fault.AfterEnd = CameRefused m now fault.AfterEnd
   FailsTelling m now fault.NotInText = CameRefused m now fault.NotInText
   FailsTelling m now fault.Failed = CameRefused m now fault.Failed

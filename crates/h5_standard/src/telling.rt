@@ -59,7 +59,8 @@ impl<Sink: TokenSink, E: ErrorSink> ReportingTokenizer<Sink, E> {
     /// errors come first, and those that the standard reports while it looks ahead have their position before these bytes.
     ///
     /// A position has the line as tokens have it, the column in code points from 1, and the offset in bytes of all that was
-    /// fed, including a byte order mark. If the call fails, the errors that it reported remain reported.
+    /// fed, including a byte order mark. If the call fails, the errors that it reported remain reported: with `Memory`, those up
+    /// to some place in the input, and no others; with another error of the sink, those up to the token that it rejected.
     pub fn feed(
         &mut self,
         input: &mut BufferQueue,

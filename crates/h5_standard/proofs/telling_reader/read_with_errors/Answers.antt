@@ -1,4 +1,4 @@
-use Rattle.std.proofs.Common.{rules, ◌≡◌, ◌+◌, ◌-◌, ◌∙◌, Ok, length, subst}
+use Rattle.std.proofs.Common.{rules, ◌≡◌, ◌+◌, ◌-◌, ◌∙◌, length, subst}
 use Rattle.std.specs.Io.Iter.{u64_saturate}
 use Rattle.h5_machine.specs.MachineText.{place_of}
 use Rattle.h5_reading.specs.Stops.{stops_as}

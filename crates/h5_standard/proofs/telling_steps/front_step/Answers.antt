@@ -1,7 +1,8 @@
 use Rattle.std.proofs.Common.{string_bytes, drop, ap, sym, ◌∙◌, ◌++◌, encode_utf8}
+use Rattle.std.proofs.lemmas.Result.{err_from_is_err_and}
 use Rattle.h5_machine.specs.MachineText.{place_of}
 use Rattle.h5_standard.proofs.EncodingLaws.{behind_is_shorter, encoded_wide}
-use Rattle.h5_standard.proofs.TellingLaws.{wide_tells}
+use Rattle.h5_standard.proofs.TellingLaws.{fails_at_byte, wide_tells}
 use Rattle.h5_standard.proofs.WeightLaws.{shorter_is_less}
 use Rattle.h5_standard.proofs.telling_steps.front_step.Goals as goal
 
@@ -10,6 +11,14 @@ wide_step-requires-clause-character g c =
     let wide = c.is_taken_wide.ensures.wide c.if-is_taken_wide.true in
     let w = encoded_wide c.in-Some.c c.args.b c.in-Some.behind.now (drop 1 c.args.rest.now) (sym c.in-Some.ensures.rest ∙ c.requires.front) wide.0 in
     record { first = c.args.b; others = w.others; split = c.in-Some.ensures.front ∙ w.split; wide = wide.0; within = w.within }
+
+pub returns-in_err-wide_step-clause-makes : goal.returns-in_err-wide_step-clause-makes
+returns-in_err-wide_step-clause-makes g c = λ start first h.
+    let S = g.S.TokenSink in
+    let r = err_from_is_err_and c.from_residual.result c.from_residual.ensures.1 in
+    rw (r.1, r.2)
+    (fails_at_byte S.reply_to S.after S.is_foreign g.E.ErrorSink.Told start first c.args.rest.now c.requires.front c.requires.kept
+    (record { old = c.args.errors.now; on = h; row = c.tell_front.ensures c.args.rest.now c.in-Some.behind.now c.in-Some.ensures.rest }))
 
 pub returns-then-is_taken_wide-clause-makes : goal.returns-then-is_taken_wide-clause-makes
 returns-then-is_taken_wide-clause-makes g c = λ start first h.

@@ -3,7 +3,7 @@ use Rattle.std.proofs.lemmas.Result.{err_from_is_err_and}
 use Rattle.h5_machine.specs.MachineText.{place_of}
 use Rattle.h5_states.specs.Spots.{position}
 use Rattle.h5_standard.proofs.TakeLaws.{reconsumed_is_less_at, consumed_is_ascii, completed_is_ascii, wondered_is_ascii, front_is_ascii}
-use Rattle.h5_standard.proofs.TellingLaws.{tells_consumed, tells_question, tells_reconsumed, tells_token, turns_telling, fails_telling}
+use Rattle.h5_standard.proofs.TellingLaws.{tells_consumed, tells_question, tells_reconsumed, turns_telling, fails_at_byte, fails_telling}
 use Rattle.h5_standard.proofs.telling_steps.telling_byte_step.Goals as goal
 
 pub behind_byte-requires-clause-ascii : goal.behind_byte-requires-clause-ascii
@@ -20,6 +20,12 @@ pub behind_byte-requires-in-Asks-clause-ascii : goal.behind_byte-requires-in-Ask
 behind_byte-requires-in-Asks-clause-ascii g c =
     front_is_ascii c.args.b c.args.rest.now c.requires.front
     (wondered_is_ascii c.args.machine.now c.take.new.self c.args.b (string_bytes c.args.emitted.now.text) (string_bytes c.take.new.out) c.requires.narrow (rw c.in-Asks.is at c.in_ok-take.ensures))
+
+pub returns-in_err-take-clause-makes : goal.returns-in_err-take-clause-makes
+returns-in_err-take-clause-makes g c = λ start first h.
+    let S = g.S.TokenSink in
+    let r = err_from_is_err_and c.from_residual.result c.from_residual.ensures.1 in
+    rw (r.1, r.2) (fails_at_byte S.reply_to S.after S.is_foreign g.E.ErrorSink.Told start first c.args.rest.now c.requires.front c.requires.kept h)
 
 pub returns-in-Reconsumed-clause-less : goal.returns-in-Reconsumed-clause-less
 returns-in-Reconsumed-clause-less g c =

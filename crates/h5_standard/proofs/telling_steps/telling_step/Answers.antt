@@ -1,7 +1,13 @@
 use Rattle.std.proofs.Common.{rules, ◌≡◌, ◌∷◌, drop, string_bytes}
 use Rattle.std.proofs.lemmas.Result.{err_from_is_err_and}
+use Rattle.h5_standard.specs.Telling.{up_to}
 use Rattle.h5_standard.proofs.TellingLaws.{tells_dropped}
 use Rattle.h5_standard.proofs.telling_steps.telling_step.Goals as goal
+
+pub returns-in_err-after-clause-makes : goal.returns-in_err-after-clause-makes
+returns-in_err-after-clause-makes g c = λ start first h.
+    let r = err_from_is_err_and c.from_residual.result c.from_residual.ensures.1 in
+    rw (r.1, r.2) (up_to h.came)
 
 pub returns-then-is_dropped-clause-makes : goal.returns-then-is_dropped-clause-makes
 returns-then-is_dropped-clause-makes g c = λ start first h.
