@@ -1,7 +1,6 @@
 //! The parse errors of a page, in the order of their lines.
 use super::tree_errors::TreeMessage;
 use html_tree_builder::standard::{Errors, LocatedError};
-use html_tree_builder::types::TreeError;
 use std::alloc::{AllocError, Global};
 
 /// The parse errors of a page: the first ones, and how many there are.
@@ -77,8 +76,12 @@ struct Waiting<'a> {
 pub enum PageError<'a> {
     /// One of tokenization, with its place.
     Text(LocatedError),
-    /// One of tree construction: the line of its token, and its message.
-    Tree { line: u64, message: &'a str },
+    /// One of tree construction: the line of its token, its name, and what its message says, which may be nothing.
+    Tree {
+        line: u64,
+        name: &'a str,
+        message: &'a str,
+    },
 }
 
 impl<'a> Waiting<'a> {
@@ -104,6 +107,7 @@ impl<'a> Waiting<'a> {
         self.built = rest;
         Some(PageError::Tree {
             line: built.line,
+            name: built.name.as_str(),
             message: built.text.as_str(),
         })
     }
@@ -114,19 +118,6 @@ impl<'a> Waiting<'a> {
             self.next_text()
         } else {
             self.next_tree()
-        }
-    }
-}
-
-impl<'a> PageError<'a> {
-    /// Its name, or its message if that is of no error with a name.
-    pub fn name(self) -> &'a str {
-        match self {
-            PageError::Text(told) => told.error.name(),
-            PageError::Tree { line: _, message } => match TreeError::of_message(message) {
-                Some(error) => error.name(),
-                None => message,
-            },
         }
     }
 }

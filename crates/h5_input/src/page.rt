@@ -78,9 +78,8 @@ fn builder_for<Sink: TreeSink + Drop>(
     alloc: Global,
     sink: Sink,
     context: Option<&str>,
-    scripting_enabled: bool,
+    opts: ParseOpts,
 ) -> Result<(TreeBuilder<Sink::Handle, Sink>, TokenizerOpts), InputFault> {
-    let opts = parse_opts(scripting_enabled);
     match context {
         None => {
             let builder = TreeBuilder::new(alloc, sink, opts.tree_builder);
@@ -103,7 +102,8 @@ pub fn tokens_of<R: Read>(
     input: &mut R,
 ) -> Result<(Vec<u8>, HowRead), InputFault> {
     let arena = Arena::without_errors(alloc)?;
-    let (builder, begins) = builder_for(alloc, arena, context, opts.scripting_enabled)?;
+    let parse_opts = parse_opts(opts.scripting_enabled);
+    let (builder, begins) = builder_for(alloc, arena, context, parse_opts)?;
     let mut fed = Fed {
         tokenizer: Tokenizer::new(alloc, Written::new(alloc, builder), begins),
         queue: BufferQueue::new(alloc),
@@ -127,7 +127,10 @@ pub fn errors_of<R: Read>(
     input: &mut R,
 ) -> Result<(PageErrors, HowRead), InputFault> {
     let sink = FirstErrors::new(alloc, Arena::without_errors(alloc)?, limit);
-    let (builder, begins) = builder_for(alloc, sink, context, opts.scripting_enabled)?;
+    let mut parse_opts = parse_opts(opts.scripting_enabled);
+    // An exact message begins with the name of its error.
+    parse_opts.tree_builder.exact_errors = true;
+    let (builder, begins) = builder_for(alloc, sink, context, parse_opts)?;
     let errors = Errors::new(alloc, limit);
     let mut fed = Fed {
         tokenizer: ReportingTokenizer::new(alloc, JoinedTexts::new(alloc, builder), errors, begins),

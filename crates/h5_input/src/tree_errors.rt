@@ -6,10 +6,11 @@ use html_tree_builder::interface::{ElementFlags, NodeOrText, QuirksMode, TreeSin
 use html_tree_builder::{Attribute, QualName};
 use std::alloc::{AllocError, Global};
 
-/// An error of tree construction: the line of its token, and its message.
+/// An error of tree construction: the line of its token, its name, and the rest of the message.
 #[derive(Drop)]
 pub struct TreeMessage {
     pub line: u64,
+    pub name: String,
     pub text: String,
 }
 
@@ -50,13 +51,15 @@ impl<S: TreeSink + Drop> FirstErrors<S> {
         Some((self.first, self.count))
     }
 
-    // Keeps an error.
+    // Keeps an error, whose message begins with its name.
     fn keep(&mut self, message: &str) -> Result<(), AllocError>
         ensures { self.new.sink ≡ self.old.sink }
     {
-        let text = String::from_str(self.alloc, message)?;
+        let (name, text) = message.split_once(": ").unwrap_or((message, ""));
+        let name = String::from_str(self.alloc, name)?;
+        let text = String::from_str(self.alloc, text)?;
         let line = self.line;
-        self.first.push(TreeMessage { line, text })?;
+        self.first.push(TreeMessage { line, name, text })?;
         Ok(())
     }
 

@@ -17,7 +17,7 @@ use h5_insertion::{
 };
 use h5_interface::TreeSink;
 use h5_names::{Attribute, KnownName, LocalName};
-use h5_state::{State, Turn, in_scope_named, report_error, set_frameset_not_ok, unexpected_tag};
+use h5_state::{State, Turn, in_scope_named, report_error, report_tag, set_frameset_not_ok};
 use h5_tables::{ProcessResult, TreeError};
 use h5_token::Tag;
 use std::alloc::AllocError;
@@ -30,7 +30,7 @@ fn check_a<S: TreeSink>(sink: &mut S, state: &State<S::Handle>, tag: &Tag)
 {
     let a = LocalName::from_known(KnownName::A);
     if is_named_listed(sink, state, &a) {
-        unexpected_tag(sink, state, tag);
+        report_tag(sink, state, TreeError::NestedLinks, tag);
     }
 }
 
@@ -115,7 +115,7 @@ fn error_unless_closing_one<S: TreeSink>(sink: &mut S, state: &State<S::Handle>,
     ensures quiet { closes_one tag.now.name (world_of S.TreeSink sink.old state.now) ≡ true → errors_of S.TreeSink sink.new ≡ errors_of S.TreeSink sink.old }
 {
     if !closes_one(sink, state, &tag.name) {
-        unexpected_tag(sink, state, tag);
+        report_tag(sink, state, TreeError::FormattingElementNotCurrent, tag);
     }
 }
 
@@ -179,7 +179,7 @@ pub(crate) fn in_body_end_br<S: TreeSink>(
     requires { IsSound S.TreeSink sink.old state.old }
     ensures { TakesTag S.TreeSink in_body_end_br tag sink.old state.old sink.new state.new result }
 {
-    unexpected_tag(sink, state, &tag);
+    report_tag(sink, state, TreeError::BrEndTag, &tag);
     let attrs = Vec::new(state.alloc);
     insert_leaf(sink, state, tag.name, attrs, tag.had_duplicate_attributes)?;
     Ok(ProcessResult::DoneAckSelfClosing)

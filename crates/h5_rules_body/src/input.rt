@@ -17,7 +17,7 @@ use h5_insertion::{
 use h5_interface::TreeSink;
 use h5_names::{KnownName, LocalName};
 use h5_state::{
-    State, Turn, in_scope_named, pop_until_named, report_error, set_frameset_not_ok, unexpected_tag,
+    State, Turn, in_scope_named, pop_until_named, report_error, report_tag, set_frameset_not_ok,
 };
 use h5_tables::{ProcessResult, TreeError};
 use h5_token::Tag;
@@ -33,7 +33,7 @@ pub fn in_body_start_image<S: TreeSink>(
     requires { IsSound S.TreeSink sink.old state.old }
     ensures { TakesTag S.TreeSink in_body_start_image tag sink.old state.old sink.new state.new result }
 {
-    unexpected_tag(sink, state, &tag);
+    report_tag(sink, state, TreeError::ImageStartTag, &tag);
     reconstruct_active_formatting_elements(sink, state)?;
     let img = LocalName::from_known(KnownName::Img);
     insert_and_pop_element(sink, state, img, tag.attrs, tag.had_duplicate_attributes)?;
@@ -86,7 +86,7 @@ pub fn in_body_start_input<S: TreeSink>(
     let select = LocalName::from_known(KnownName::Select);
     match find_in_default_scope(sink, state, &select) {
         Some(place) => {
-            unexpected_tag(sink, state, &tag);
+            report_tag(sink, state, TreeError::InputInSelect, &tag);
             pop_until_named(sink, state, &select, place);
             insert_input(sink, state, tag)?;
             Ok(ProcessResult::DoneAckSelfClosing)

@@ -16,7 +16,7 @@ use h5_interface::TreeSink;
 use h5_names::{KnownName, LocalName};
 use h5_state::{
     State, Turn, find_before_special, generate_implied_end_except, in_scope_named, is_current_html,
-    is_select_context, pop, pop_until_named, report_error, unexpected_tag,
+    is_select_context, pop, pop_until_named, report_error, report_tag,
 };
 use h5_tables::{ProcessResult, TreeError};
 use h5_token::Tag;
@@ -34,13 +34,13 @@ pub fn in_body_start_select<S: TreeSink>(
     ensures { TakesTag S.TreeSink in_body_start_select tag sink.old state.old sink.new state.new result }
 {
     if is_select_context(sink, state) {
-        unexpected_tag(sink, state, &tag);
+        report_tag(sink, state, TreeError::SelectInSelect, &tag);
         return Ok(ProcessResult::Done);
     }
     let select = LocalName::from_known(KnownName::Select);
     match find_in_default_scope(sink, state, &select) {
         Some(place) => {
-            unexpected_tag(sink, state, &tag);
+            report_tag(sink, state, TreeError::SelectInSelect, &tag);
             pop_until_named(sink, state, &select, place);
             Ok(ProcessResult::Done)
         }

@@ -5,8 +5,8 @@ ghost use Rattle.h5_state.specs.Turn.{TakesTag};
 
 use h5_insertion::add_attrs_to_html;
 use h5_interface::TreeSink;
-use h5_state::{State, Turn, has_open_template, unexpected_tag};
-use h5_tables::ProcessResult;
+use h5_state::{State, Turn, has_open_template, report_tag};
+use h5_tables::{ProcessResult, TreeError};
 use h5_token::Tag;
 
 /// A start tag `html`: the root gets the attributes that it doesn't have, unless a template is open.
@@ -16,7 +16,7 @@ pub fn in_body_start_html<S: TreeSink>(sink: &mut S, state: &mut State<S::Handle
     requires { IsOpen S.TreeSink sink.old state.old }
     ensures { TakesTag S.TreeSink in_body_start_html tag sink.old state.old sink.new state.new result }
 {
-    unexpected_tag(sink, state, &tag);
+    report_tag(sink, state, TreeError::SecondHtml, &tag);
     if has_open_template(sink, state) {
         Ok(ProcessResult::Done)
     } else {

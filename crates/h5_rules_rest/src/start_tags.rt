@@ -13,8 +13,8 @@ use super::step::ForeignStep;
 use h5_insertion::{adjusted_current_node, insert_foreign_for, leave_foreign_content};
 use h5_interface::TreeSink;
 use h5_names::Namespace;
-use h5_state::{State, Turn, unexpected_tag};
-use h5_tables::{Token, adjust_svg_tag_name};
+use h5_state::{State, Turn, report_tag};
+use h5_tables::{Token, TreeError, adjust_svg_tag_name};
 use h5_token::Tag;
 use std::alloc::AllocError;
 
@@ -28,7 +28,7 @@ pub(crate) fn unexpected_in_foreign_content<S: TreeSink>(
     ensures came { CameTo S.choices S.node unexpected_in_foreign_content (TagTurn (tag_text tag)) (world_of S.TreeSink sink.old state.old) (world_of S.TreeSink sink.new state.new) (errors_of S.TreeSink sink.old) (errors_of S.TreeSink sink.new) state.new result }
     ensures sound { IsSound S.TreeSink sink.new state.new }
 {
-    unexpected_tag(sink, state, &tag);
+    report_tag(sink, state, TreeError::HtmlElementInForeignContent, &tag);
     leave_foreign_content(sink, state);
     ForeignStep::ByMode(Token::Tag(tag))
 }

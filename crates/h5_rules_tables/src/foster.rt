@@ -8,8 +8,8 @@ ghost use Rattle.h5_state.specs.Turn.{TakesToken};
 
 use h5_interface::TreeSink;
 use h5_rules_body::step_in_body;
-use h5_state::{State, Turn, set_foster, unexpected};
-use h5_tables::Token;
+use h5_state::{State, Turn, report_token, set_foster};
+use h5_tables::{Token, TreeError};
 
 /// Handles a token that doesn't belong in a table by the rules of "in body" with foster parenting on: nodes that would
 /// go into the table go before it.
@@ -23,7 +23,7 @@ pub(crate) fn foster_parent_in_body<S: TreeSink>(
     requires text { HasText (turn_text token) }
     ensures { TakesToken S.TreeSink (foster in_body) token sink.old state.old sink.new state.new result }
 {
-    unexpected(sink, state, &token);
+    report_token(sink, state, TreeError::in_table(&token), &token);
     set_foster(sink, state, true);
     let turn = step_in_body(sink, state, token);
     set_foster(sink, state, false);

@@ -20,10 +20,10 @@ use h5_names::{KnownName, LocalName};
 use h5_rules_body::{is_type_hidden, step_in_body};
 use h5_rules_head::{ignored_tag, in_head_end_template, in_head_start_tag};
 use h5_state::{
-    Local, State, Turn, has_form, has_open_template, pop_until_named, save_mode, set_again,
-    set_mode, unexpected_tag,
+    Local, State, Turn, has_form, has_open_template, pop_until_named, report_tag, save_mode,
+    set_again, set_mode, unexpected_tag,
 };
-use h5_tables::{InsertionMode, ProcessResult, Token};
+use h5_tables::{InsertionMode, ProcessResult, Token, TreeError};
 use h5_token::{Tag, TagKind};
 
 /// Begins a text of the table: saves the mode, and returns the one in which the text is handled.
@@ -130,7 +130,7 @@ fn in_table_start_table<S: TreeSink>(sink: &mut S, state: &mut State<S::Handle>,
     requires { IsSound S.TreeSink sink.old state.old }
     ensures { TakesTag S.TreeSink in_table_start_table tag sink.old state.old sink.new state.new result }
 {
-    unexpected_tag(sink, state, &tag);
+    report_tag(sink, state, TreeError::TableInTable, &tag);
     let table = LocalName::from_known(KnownName::Table);
     match find_in_table_scope(sink, state, &Local(&table)) {
         Some(place) => {
@@ -151,7 +151,7 @@ fn in_table_start_input<S: TreeSink>(sink: &mut S, state: &mut State<S::Handle>,
     ensures { TakesTag S.TreeSink in_table_start_input tag sink.old state.old sink.new state.new result }
 {
     if is_type_hidden(tag.attrs.as_slice()) {
-        unexpected_tag(sink, state, &tag);
+        report_tag(sink, state, TreeError::HiddenInputInTable, &tag);
         let attrs = tag.attrs;
         insert_and_pop_element(sink, state, tag.name, attrs, tag.had_duplicate_attributes)?;
         Ok(ProcessResult::DoneAckSelfClosing)
@@ -166,7 +166,7 @@ fn in_table_start_form<S: TreeSink>(sink: &mut S, state: &mut State<S::Handle>, 
     requires { IsSound S.TreeSink sink.old state.old }
     ensures { TakesTag S.TreeSink in_table_start_form tag sink.old state.old sink.new state.new result }
 {
-    unexpected_tag(sink, state, &tag);
+    report_tag(sink, state, TreeError::FormInTable, &tag);
     if has_open_template(sink, state) || has_form(sink, state) {
         Ok(ProcessResult::Done)
     } else {

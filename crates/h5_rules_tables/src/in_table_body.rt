@@ -14,10 +14,10 @@ use h5_interface::TreeSink;
 use h5_names::{KnownName, QualName};
 use h5_rules_head::ignored_tag;
 use h5_state::{
-    Local, NameTest, NewestTest, State, Turn, newest_among, pop, set_again, set_mode,
+    Local, NameTest, NewestTest, State, Turn, newest_among, pop, report_tag, set_again, set_mode,
     unexpected_tag,
 };
-use h5_tables::{InsertionMode, ProcessResult, Token, is_html_known};
+use h5_tables::{InsertionMode, ProcessResult, Token, TreeError, is_html_known};
 use h5_token::{Tag, TagKind};
 
 // A start tag `tr`.
@@ -45,7 +45,7 @@ fn in_table_body_start_cell<S: TreeSink>(
     requires { IsSound S.TreeSink sink.old state.old }
     ensures { TakesTag S.TreeSink in_table_body_start_cell tag sink.old state.old sink.new state.new result }
 {
-    unexpected_tag(sink, state, &tag);
+    report_tag(sink, state, TreeError::CellInTableBody, &tag);
     clear_to_table_body_context(sink, state);
     insert_phantom(sink, state, KnownName::Tr)?;
     set_again(sink, state, Token::Tag(tag));

@@ -46,7 +46,9 @@ mod surplus;
 mod turn;
 
 pub use blanks::{first_run, is_blank_text, set_frameset_ok_by_text};
-pub use errors::{report_error, tell_message, unexpected, unexpected_tag};
+pub use errors::{
+    report_error, report_tag, report_token, tell_message, unexpected, unexpected_tag,
+};
 pub use find::{find_listed, find_open, handle_at, is_node_in_scope};
 pub use formatting_list::FormattingList;
 pub use moves::move_up;

@@ -5,4 +5,3 @@ pub mod Charset
 pub mod DoctypeLaws
 pub mod MetaParts
 pub mod TableLaws
-pub mod TreeErrorLaws

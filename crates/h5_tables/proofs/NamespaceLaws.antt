@@ -1,5 +1,5 @@
 -- An HTML element isn't one of MathML or SVG.
-use Rattle.std.proofs.Common.{◌≡◌, List, ℕ, false, true, ap, refl, subst, sym, ◌&&◌, ◌||◌}
+use Rattle.std.proofs.Common.{◌≡◌, false, true, ap, refl, sym}
 use Rattle.std.specs.Cmp.Lexicographic.{same_text}
 use Rattle.h5_names.specs.AttributeText.{is_same_text}
 use Rattle.h5_names.specs.declared.qualified.QualName.{QualName}

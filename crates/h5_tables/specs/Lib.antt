@@ -9,3 +9,4 @@ pub mod Doctypes
 pub mod MetaEncoding
 pub mod Tables
 pub mod TreeErrors
+pub mod Unexpected

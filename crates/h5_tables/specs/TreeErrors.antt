@@ -1,14 +1,11 @@
 -- Parse errors of tree construction: their messages and names (HTML standard, section 13.2.6, "Tree construction"). The standard names one
 -- of them, non-void-html-element-start-tag-with-trailing-solidus.
-use Rattle.std.specs.Prelude.{◌≡◌, ◌⊎◌, ℕ, if◌then◌else◌, List, [], ◌∷◌, codes, nat_eq, Option, Some, None}
-use Rattle.std.specs.List.{starts_with}
-use Rattle.h5_tables.specs.AdjustedNames.{Table}
+use Rattle.std.specs.Prelude.{ℕ, List, codes}
 use Rattle.h5_tables.specs.declared.tree_errors.TreeError.{TreeError}
-use Rattle.h5_tables.specs.declared.tree_errors.TreeError.TheVariants.{BadDoctype, BodyEndTagWithoutBody, EofInFrameset, EofInTemplate, EofInText, FormElementOutOfScope, HrInOption, HtmlEndTagWithoutBody, LateDoctype, NestedButtons, NestedForms, NestedHeadings, NestedNobr, NestedOptions, NoFormElementToClose, NoFormToClose, NoHeadingToClose, NoParagraphToClose, OpenElementAtEndOfBody, SelfClosingTagWithContent, SpecialElementBeforeTheOneToClose, UnexpectedOpenElement, UnexpectedToken}
+use Rattle.h5_tables.specs.declared.tree_errors.TreeError.TheVariants.{BadDoctype, BodyEndTagWithoutBody, BrEndTag, CellInTableBody, EndTagAfterBody, EndTagAfterFrameset, EndTagAfterHtml, EndTagBeforeDoctype, EndTagBeforeHead, EndTagBeforeHtml, EndTagInFrameset, EndTagInTable, EndTagInTableBody, EndTagInTableRow, EofBeforeDoctype, EofInFrameset, EofInHeadNoscript, EofInTemplate, EofInText, FormElementOutOfScope, FormInTable, FormattingElementNotCurrent, HiddenInputInTable, HrInOption, HtmlElementInForeignContent, HtmlEndTagWithoutBody, ImageStartTag, InputInSelect, LateDoctype, NestedButtons, NestedForms, NestedHeadings, NestedLinks, NestedNobr, NestedOptions, NoFormElementToClose, NoFormToClose, NoHeadingToClose, NoParagraphToClose, OpenElementAtEndOfBody, SecondHead, SecondHtml, SelectInSelect, SelfClosingTagWithContent, SpecialElementBeforeTheOneToClose, StartTagAfterBody, StartTagAfterFrameset, StartTagAfterHead, StartTagAfterHtml, StartTagBeforeDoctype, StartTagInFrameset, StartTagInTable, TableInTable, TagInHeadNoscript, TextAfterBody, TextAfterFrameset, TextAfterHtml, TextBeforeDoctype, TextInFrameset, TextInHeadNoscript, TextInTable, UnexpectedComment, UnexpectedEndTag, UnexpectedEof, UnexpectedNull, UnexpectedOpenElement, UnexpectedStartTag, UnexpectedText}
 
 -- the message that a sink receives, unless exact messages are on
 abbrev pub tree_error_message : TreeError → List ℕ
-tree_error_message UnexpectedToken = codes "Unexpected token"
 tree_error_message BadDoctype = codes "Bad DOCTYPE"
 tree_error_message LateDoctype = codes "DOCTYPE in body"
 tree_error_message UnexpectedOpenElement = codes "unexpected open element"
@@ -31,10 +28,56 @@ tree_error_message SelfClosingTagWithContent = codes "self-closing start tag of 
 tree_error_message EofInText = codes "unexpected end of input in a text"
 tree_error_message EofInTemplate = codes "end of file in a template"
 tree_error_message EofInFrameset = codes "end of file in a frameset"
+tree_error_message unexpected = codes "Unexpected token"
 
 -- the name, in the form of the standard's names
 abbrev pub tree_error_name : TreeError → List ℕ
-tree_error_name UnexpectedToken = codes "unexpected-token"
+tree_error_name StartTagBeforeDoctype = codes "expected-doctype-but-got-start-tag"
+tree_error_name EndTagBeforeDoctype = codes "expected-doctype-but-got-end-tag"
+tree_error_name TextBeforeDoctype = codes "expected-doctype-but-got-chars"
+tree_error_name EofBeforeDoctype = codes "expected-doctype-but-got-eof"
+tree_error_name EndTagBeforeHtml = codes "unexpected-end-tag-before-html"
+tree_error_name EndTagBeforeHead = codes "end-tag-after-implied-root"
+tree_error_name SecondHtml = codes "non-html-root"
+tree_error_name SecondHead = codes "two-heads-are-not-better-than-one"
+tree_error_name TagInHeadNoscript = codes "unexpected-inhead-noscript-tag"
+tree_error_name TextInHeadNoscript = codes "char-in-head-noscript"
+tree_error_name EofInHeadNoscript = codes "eof-in-head-noscript"
+tree_error_name StartTagAfterHead = codes "unexpected-start-tag-out-of-my-head"
+tree_error_name UnexpectedStartTag = codes "unexpected-start-tag"
+tree_error_name UnexpectedEndTag = codes "unexpected-end-tag"
+tree_error_name UnexpectedText = codes "unexpected-char"
+tree_error_name UnexpectedComment = codes "unexpected-comment"
+tree_error_name UnexpectedNull = codes "unexpected-null"
+tree_error_name UnexpectedEof = codes "unexpected-eof"
+tree_error_name NestedLinks = codes "unexpected-start-tag-implies-end-tag"
+tree_error_name ImageStartTag = codes "unexpected-start-tag-treated-as"
+tree_error_name BrEndTag = codes "unexpected-end-tag-treated-as"
+tree_error_name FormattingElementNotCurrent = codes "adoption-agency-1.3"
+tree_error_name SelectInSelect = codes "unexpected-select-in-select"
+tree_error_name InputInSelect = codes "unexpected-input-in-select"
+tree_error_name StartTagInTable = codes "unexpected-start-tag-implies-table-voodoo"
+tree_error_name EndTagInTable = codes "unexpected-end-tag-implies-table-voodoo"
+tree_error_name TextInTable = codes "unexpected-char-implies-table-voodoo"
+tree_error_name TableInTable = codes "unexpected-start-tag-implies-end-tag"
+tree_error_name HiddenInputInTable = codes "unexpected-hidden-input-in-table"
+tree_error_name FormInTable = codes "unexpected-form-in-table"
+tree_error_name CellInTableBody = codes "unexpected-cell-in-table-body"
+tree_error_name EndTagInTableBody = codes "unexpected-end-tag-in-table-body"
+tree_error_name EndTagInTableRow = codes "unexpected-end-tag-in-table-row"
+tree_error_name HtmlElementInForeignContent = codes "unexpected-html-element-in-foreign-content"
+tree_error_name StartTagAfterBody = codes "unexpected-start-tag-after-body"
+tree_error_name EndTagAfterBody = codes "unexpected-end-tag-after-body"
+tree_error_name TextAfterBody = codes "unexpected-char-after-body"
+tree_error_name StartTagInFrameset = codes "unexpected-start-tag-in-frameset"
+tree_error_name EndTagInFrameset = codes "unexpected-end-tag-in-frameset"
+tree_error_name TextInFrameset = codes "unexpected-char-in-frameset"
+tree_error_name StartTagAfterFrameset = codes "unexpected-start-tag-after-frameset"
+tree_error_name EndTagAfterFrameset = codes "unexpected-end-tag-after-frameset"
+tree_error_name TextAfterFrameset = codes "unexpected-char-after-frameset"
+tree_error_name StartTagAfterHtml = codes "expected-eof-but-got-start-tag"
+tree_error_name EndTagAfterHtml = codes "expected-eof-but-got-end-tag"
+tree_error_name TextAfterHtml = codes "expected-eof-but-got-char"
 tree_error_name BadDoctype = codes "bad-doctype"
 tree_error_name LateDoctype = codes "late-doctype"
 tree_error_name UnexpectedOpenElement = codes "unexpected-open-element"
@@ -57,20 +100,3 @@ tree_error_name SelfClosingTagWithContent = codes "non-void-html-element-start-t
 tree_error_name EofInText = codes "eof-in-text"
 tree_error_name EofInTemplate = codes "eof-in-template"
 tree_error_name EofInFrameset = codes "eof-in-frameset"
-
--- the prefixes of exact messages, each with its error
-abbrev pub exact_fronts : Table TreeError
-exact_fronts =
-    (codes "Unexpected token ", UnexpectedToken) ∷
-    (codes "Bad DOCTYPE: ", BadDoctype) ∷
-    (codes "DOCTYPE in insertion mode ", LateDoctype) ∷
-    []
-
--- the value of the first key that a text begins with
-abbrev pub begun_by : {A : Type 0} → Table A → List ℕ → Option A
-begun_by [] text = None
-begun_by (row ∷ rows) text = if starts_with nat_eq text row.0 then Some row.1 else begun_by rows text
-
--- a message of an error, exact or not
-abbrev pub IsMessageOf : List ℕ → TreeError → Type 0
-IsMessageOf message error = (message ≡ tree_error_message error) ⊎ (begun_by exact_fronts message ≡ Some error)

@@ -8,11 +8,11 @@
 //!
 //! Tables: `svg_tags`, `attribute_names` and `attributes` adjust names in SVG and MathML (section 13.2.6.1), with `table` and `place`.
 //! `identifiers` and `doctypes` judge a doctype (section 13.2.6.4.1). `meta_encoding` reads the `content` of a `meta` (section 13.2.3.2).
-//! `tree_errors` has the parse errors of the rules, with their messages and names.
+//! `tree_errors` has the parse errors of the rules, with their messages and names, and `unexpected` those of tokens that a mode doesn't expect.
 //!
 //! This crate depends on h5_names, h5_token, h5_interface and h5_markup. The serializer, the rules and the tree builder use it. Begin with
 //! `specs/TagSets.antt`: each set as the standard has it. `specs/AdjustedNames.antt`, `specs/Doctypes.antt`, `specs/MetaEncoding.antt` and
-//! `specs/TreeErrors.antt` have the tables; `specs/TurnText.antt` has a token that takes turns.
+//! `specs/TreeErrors.antt` and `specs/Unexpected.antt` have the tables; `specs/TurnText.antt` has a token that takes turns.
 #![tactic(auto)]
 
 mod attribute_names;
@@ -31,6 +31,7 @@ mod svg_tags;
 mod table;
 mod tree_errors;
 mod turns;
+mod unexpected;
 
 pub use attributes::{adjust_foreign_attributes, adjust_mathml_attributes, adjust_svg_attributes};
 pub use doctypes::doctype_error_and_quirks;

@@ -1,57 +1,43 @@
--- Parse errors of tree construction, their messages and names.
-use Rattle.std.proofs.Common.{◌≡◌, ◌∙◌, ℕ, List, [], ◌∷◌, map, refl, sym, subst, codes, Some, None, inl, inr}
-use Rattle.std.proofs.lemmas.Option.{none-some, same_Some}
-use Rattle.h5_tables.specs.AdjustedNames.{found_at}
-use Rattle.h5_tables.specs.TreeErrors.{IsMessageOf, begun_by, exact_fronts, tree_error_message, tree_error_name}
-use Rattle.h5_tables.specs.declared.tree_errors.TreeError.{TreeError}
-use Rattle.h5_tables.specs.declared.tree_errors.TreeError.TheVariants.{BadDoctype, EofInFrameset, LateDoctype, NestedForms, NestedOptions, UnexpectedToken}
-use Rattle.h5_tables.proofs.TreeErrorLaws.{message_rows, own_row}
+-- Parse errors of tree construction, their messages and names. The names of unexpected tokens are html5lib's.
+use Rattle.std.proofs.Common.{◌≡◌, List, [], ◌∷◌, map, refl, codes}
+use Rattle.h5_token.specs.declared.tag.TagKind.TheVariants.{StartTag, EndTag}
+use Rattle.h5_tables.specs.TreeErrors.{tree_error_message, tree_error_name}
+use Rattle.h5_tables.specs.TurnText.{TextTurn, NullTurn, EofTurn}
+use Rattle.h5_tables.specs.Unexpected.{in_table, unexpected, unexpected_tag}
+use Rattle.h5_tables.specs.declared.modes.InsertionMode.TheVariants.{Initial, BeforeHtml, BeforeHead, InHead, InHeadNoscript, AfterHead, InBody, InTable, InTableBody, InRow, InTemplate, AfterBody, InFrameset, AfterFrameset, AfterAfterBody, AfterAfterFrameset}
+use Rattle.h5_tables.specs.declared.modes.SplitStatus.TheVariants.{NotSplit}
+use Rattle.h5_tables.specs.declared.tree_errors.TreeError.TheVariants.{BadDoctype, EofInFrameset, LateDoctype, NestedForms, NestedLinks, NestedOptions, SecondHtml, UnexpectedEndTag}
 
-messages : map tree_error_message (UnexpectedToken ∷ BadDoctype ∷ LateDoctype ∷ NestedForms ∷ NestedOptions ∷ EofInFrameset ∷ [])
+messages : map tree_error_message (UnexpectedEndTag ∷ BadDoctype ∷ LateDoctype ∷ NestedForms ∷ NestedOptions ∷ EofInFrameset ∷ [])
     ≡ codes "Unexpected token" ∷ codes "Bad DOCTYPE" ∷ codes "DOCTYPE in body" ∷ codes "nested forms" ∷ codes "nested options" ∷ codes "end of file in a frameset" ∷ []
 messages = refl
 
-names : map tree_error_name (UnexpectedToken ∷ NestedForms ∷ []) ≡ codes "unexpected-token" ∷ codes "nested-forms" ∷ []
+names : map tree_error_name (UnexpectedEndTag ∷ NestedForms ∷ SecondHtml ∷ NestedLinks ∷ [])
+    ≡ codes "unexpected-end-tag" ∷ codes "nested-forms" ∷ codes "non-html-root" ∷ codes "unexpected-start-tag-implies-end-tag" ∷ []
 names = refl
 
-not_own : (message : List ℕ) (error : TreeError) → found_at message_rows message ≡ None → message ≡ tree_error_message error → ⊥
-not_own message error none same = none-some error (sym none ∙ subst (λ text. found_at message_rows text ≡ Some error) (sym same) (own_row error))
+start_tags : map (λ mode. tree_error_name (unexpected_tag StartTag mode)) (Initial ∷ InHead ∷ InHeadNoscript ∷ AfterHead ∷ InBody ∷ InTable ∷ AfterBody ∷ InFrameset ∷ AfterFrameset ∷ AfterAfterBody ∷ [])
+    ≡ codes "expected-doctype-but-got-start-tag" ∷ codes "two-heads-are-not-better-than-one" ∷ codes "unexpected-inhead-noscript-tag" ∷ codes "unexpected-start-tag-out-of-my-head"
+    ∷ codes "unexpected-start-tag" ∷ codes "unexpected-start-tag" ∷ codes "unexpected-start-tag-after-body" ∷ codes "unexpected-start-tag-in-frameset"
+    ∷ codes "unexpected-start-tag-after-frameset" ∷ codes "expected-eof-but-got-start-tag" ∷ []
+start_tags = refl
 
--- an exact message is that of only one error
-abbrev IsExactOf : List ℕ → TreeError → Type 0
-IsExactOf message error = IsMessageOf message error × ((other : TreeError) → IsMessageOf message other → other ≡ error)
+end_tags : map (λ mode. tree_error_name (unexpected_tag EndTag mode)) (Initial ∷ BeforeHtml ∷ BeforeHead ∷ InBody ∷ InTableBody ∷ InRow ∷ InTemplate ∷ AfterBody ∷ InFrameset ∷ AfterFrameset ∷ AfterAfterFrameset ∷ [])
+    ≡ codes "expected-doctype-but-got-end-tag" ∷ codes "unexpected-end-tag-before-html" ∷ codes "end-tag-after-implied-root" ∷ codes "unexpected-end-tag"
+    ∷ codes "unexpected-end-tag-in-table-body" ∷ codes "unexpected-end-tag-in-table-row" ∷ codes "unexpected-end-tag" ∷ codes "unexpected-end-tag-after-body"
+    ∷ codes "unexpected-end-tag-in-frameset" ∷ codes "unexpected-end-tag-after-frameset" ∷ codes "expected-eof-but-got-end-tag" ∷ []
+end_tags = refl
 
-exact : (message : List ℕ) (error : TreeError) → found_at message_rows message ≡ None → begun_by exact_fronts message ≡ Some error → IsExactOf message error
-exact message error none begun = (inr begun, alone)
-  where
-    alone : (other : TreeError) → IsMessageOf message other → other ≡ error
-    alone other (inl same) = absurd (not_own message other none same)
-    alone other (inr begun_too) = same_Some other error (sym begun_too ∙ begun)
+texts : map (λ mode. tree_error_name (unexpected (TextTurn NotSplit (codes "x")) mode)) (Initial ∷ InHeadNoscript ∷ AfterBody ∷ InFrameset ∷ AfterFrameset ∷ AfterAfterBody ∷ [])
+    ≡ codes "expected-doctype-but-got-chars" ∷ codes "char-in-head-noscript" ∷ codes "unexpected-char-after-body" ∷ codes "unexpected-char-in-frameset"
+    ∷ codes "unexpected-char-after-frameset" ∷ codes "expected-eof-but-got-char" ∷ []
+texts = refl
 
-of_an_unexpected_token : IsExactOf (codes "Unexpected token <p> in insertion mode InTable") UnexpectedToken
-of_an_unexpected_token = exact _ _ refl refl
+others : map (λ mode. tree_error_name (unexpected EofTurn mode)) (Initial ∷ InHeadNoscript ∷ []) ≡ codes "expected-doctype-but-got-eof" ∷ codes "eof-in-head-noscript" ∷ []
+others = refl
 
-of_a_bad_doctype : IsExactOf (codes "Bad DOCTYPE: html") BadDoctype
-of_a_bad_doctype = exact _ _ refl refl
+text_in_a_table : tree_error_name (in_table (TextTurn NotSplit (codes "x"))) ≡ codes "unexpected-char-implies-table-voodoo"
+text_in_a_table = refl
 
-of_a_late_doctype : IsExactOf (codes "DOCTYPE in insertion mode InBody") LateDoctype
-of_a_late_doctype = exact _ _ refl refl
-
-abbrev IsOfNone : List ℕ → Type 0
-IsOfNone message = (error : TreeError) → IsMessageOf message error → ⊥
-
-of_none : (message : List ℕ) → found_at message_rows message ≡ None → begun_by exact_fronts message ≡ None → IsOfNone message
-of_none message none unbegun error (inl same) = not_own message error none same
-of_none message none unbegun error (inr begun) = none-some error (sym unbegun ∙ begun)
-
-empty : IsOfNone []
-empty = of_none _ refl refl
-
-unexpected_tokens : IsOfNone (codes "Unexpected tokens")
-unexpected_tokens = of_none _ refl refl
-
-nested_form : IsOfNone (codes "nested form")
-nested_form = of_none _ refl refl
-
-a_strange_tag : IsOfNone (codes "a strange tag")
-a_strange_tag = of_none _ refl refl
+null_in_a_body : tree_error_name (unexpected NullTurn InBody) ≡ codes "unexpected-null"
+null_in_a_body = refl

@@ -50,12 +50,35 @@ fn append_doctype<S: TreeSink>(
     )
 }
 
+// Writes a doctype as it could stand in a text.
+fn write_doctype(out: &mut String, doctype: &Doctype) -> Result<(), AllocError> {
+    out.push_str("<!DOCTYPE")?;
+    if let Some(name) = &doctype.name {
+        let name = name.as_str();
+        write!(out, " {name}")?;
+    }
+    if let Some(id) = &doctype.public_id {
+        let id = id.as_str();
+        write!(out, " PUBLIC {id:?}")?;
+    } else if doctype.system_id.is_some() {
+        out.push_str(" SYSTEM")?;
+    }
+    if let Some(id) = &doctype.system_id {
+        let id = id.as_str();
+        write!(out, " {id:?}")?;
+    }
+    out.push('>')
+}
+
 // The exact message for a bad doctype. `None` if exact messages aren't enabled, or if an allocation fails.
 fn exact_bad<H>(state: &State<H>, doctype: &Doctype) -> Option<String> {
     if !state.opts.exact_errors {
         return None;
     }
-    format!(in state.alloc; "Bad DOCTYPE: {doctype:?}").ok()
+    let name = TreeError::BadDoctype.name();
+    let mut out = format!(in state.alloc; "{name}: ").ok()?;
+    write_doctype(&mut out, doctype).ok()?;
+    Some(out)
 }
 
 fn tell_bad<S: TreeSink>(sink: &mut S, state: &State<S::Handle>, doctype: &Doctype)
@@ -74,8 +97,9 @@ fn exact_late<H>(state: &State<H>) -> Option<String> {
     if !state.opts.exact_errors {
         return None;
     }
+    let name = TreeError::LateDoctype.name();
     let mode = state.mode;
-    format!(in state.alloc; "DOCTYPE in insertion mode {mode:?}").ok()
+    format!(in state.alloc; "{name}: DOCTYPE in insertion mode {mode:?}").ok()
 }
 
 fn tell_late<S: TreeSink>(sink: &mut S, state: &State<S::Handle>)

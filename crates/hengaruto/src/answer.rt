@@ -1,9 +1,9 @@
 //! Prints what a subcommand shows of a tree.
 use super::fault::Fault;
+use super::output::{Output, TreeOutput};
 use super::parts::Parts;
-use super::select::{Selection, put_selected};
-use h5_command_line::RecordOpts;
-use h5_input::InputOpts;
+use super::request::PageOpts;
+use super::select::put_selected;
 use h5_listing::{
     Form, Item, about, all_links, base_of, begin_object, headings, links, node_lines, print_items,
     references,
@@ -19,93 +19,11 @@ use std::alloc::{AllocError, Global};
 use std::io::{ErrorKind, Write};
 use url::Url;
 
-/// What to print of the tree of a page.
-#[derive(Clone, Copy)]
-pub enum TreeOutput<'a> {
-    /// The tree, one line per node, and the quirks mode.
-    Nodes,
-    /// The tree as HTML.
-    Html,
-    /// The text, in this layout.
-    Text(TextOpts),
-    /// The links, or also other references, resolved against this URL unless the page has a base.
-    Links { is_all: bool, base: Option<&'a Url> },
-    /// What this policy allows of it, or else the default policy.
-    Clean(Option<&'a AllowList>),
-    /// The selected elements.
-    Select(Selection<'a>),
-    /// The headings.
-    Outline,
-    /// The metadata.
-    Meta,
-}
-
-/// What to print of a page.
-#[derive(Clone, Copy)]
-pub enum Output<'a> {
-    /// The tokens.
-    Tokens,
-    /// The parse errors, at most this number of them.
-    Errors { limit: usize },
-    /// Something of its tree.
-    Tree(TreeOutput<'a>),
-}
-
-impl Output<'_> {
-    /// Returns true if the output of a page in a record is JSON, and false if it is a text.
-    pub fn is_json(self) -> bool {
-        match self {
-            Output::Errors { limit: _ } => true,
-            Output::Tokens => false,
-            Output::Tree(tree) => match tree {
-                TreeOutput::Links { is_all: _, base: _ } => true,
-                TreeOutput::Select(_) | TreeOutput::Outline | TreeOutput::Meta => true,
-                TreeOutput::Nodes | TreeOutput::Html => false,
-                TreeOutput::Text(_) | TreeOutput::Clean(_) => false,
-            },
-        }
-    }
-}
-
-/// How a page is read, and how its output is printed.
-#[derive(Clone, Copy)]
-pub struct PageOpts<'a> {
-    /// How it is read.
-    pub input: InputOpts,
-    /// The element in which it is parsed, if it is a fragment.
-    pub context: Option<&'a str>,
-    /// Lines or JSON.
-    pub form: Form,
-    /// The name of its file, as the command line has it.
-    pub file: &'a str,
-    /// Each line begins with the name of the file, and each JSON object has it.
-    pub has_name: bool,
-    /// How they are answered, if the pages are in records.
-    pub records: Option<RecordOpts<'a>>,
-    /// The process ends after this page, so its tree need not be dropped.
-    pub is_last: bool,
-}
-
 /// What to print of a page, and how.
 #[derive(Clone, Copy)]
 pub struct Asked<'a> {
-    pub output: Output<'a>,
+    pub output: &'a Output<'a>,
     pub page: PageOpts<'a>,
-}
-
-impl<'a> PageOpts<'a> {
-    /// The name of the file that each JSON object has, if it has one.
-    pub fn path(&self) -> Option<&'a str> {
-        self.has_name.then_some(self.file)
-    }
-
-    /// The name of the file that each line of text begins with, if it has one.
-    pub fn front(&self) -> Option<&'a str> {
-        match self.form {
-            Form::Lines => self.path(),
-            Form::Json | Form::Array => None,
-        }
-    }
 }
 
 // The node that holds the page: the document, or the root of a fragment.
@@ -232,7 +150,7 @@ fn about_read(
 pub fn put_answer<W: Write>(
     alloc: Global,
     page: &PageOpts<'_>,
-    output: TreeOutput<'_>,
+    output: &TreeOutput<'_>,
     arena: &Arena,
     encoding: Encoding,
     out: &mut W,
@@ -247,9 +165,9 @@ pub fn put_answer<W: Write>(
         TreeOutput::Select(selection) => {
             return put_selected(alloc, &top, selection, page.form, page.path(), out);
         }
-        TreeOutput::Text(opts) => text_asked(alloc, opts, &top)?.into_bytes(),
+        TreeOutput::Text(opts) => text_asked(alloc, *opts, &top)?.into_bytes(),
         TreeOutput::Links { is_all, base } => {
-            let items = links_asked(alloc, is_all, base, &top)?;
+            let items = links_asked(alloc, *is_all, base.as_ref(), &top)?;
             items_text(alloc, page, items.as_slice())?
         }
         TreeOutput::Outline => {
@@ -260,7 +178,7 @@ pub fn put_answer<W: Write>(
             let items = about_read(alloc, &top, encoding)?;
             items_text(alloc, page, items.as_slice())?
         }
-        TreeOutput::Clean(policy) => cleaned(alloc, &top, policy)?,
+        TreeOutput::Clean(policy) => cleaned(alloc, &top, policy.as_ref())?,
     };
     out.write_all(text.as_slice()).map_err(Fault::Write)
 }

@@ -2,6 +2,7 @@
 use super::fault::Fault;
 use h5_input::{PageError, PageErrors};
 use h5_listing::{Form, Item, print_items};
+use h5_print::write_escapes;
 use std::alloc::{AllocError, Global};
 use std::io::Write;
 
@@ -21,13 +22,23 @@ impl ErrorCount {
 
 // Writes an error as a line that begins with the name of the file.
 fn write_line(out: &mut String, error: PageError<'_>, file: &str) -> Result<(), AllocError> {
-    let name = error.name();
     match error {
         PageError::Text(told) => {
-            let (line, column) = (told.at.line, told.at.column);
+            let (line, column, name) = (told.at.line, told.at.column, told.error.name());
             write!(out, "{file}:{line}:{column}: {name}\n")
         }
-        PageError::Tree { line, message: _ } => write!(out, "{file}:{line}: {name}\n"),
+        PageError::Tree {
+            line,
+            name,
+            message,
+        } => {
+            write!(out, "{file}:{line}: {name}")?;
+            if !message.is_empty() {
+                out.push_str(": ")?;
+                write_escapes(out, message)?;
+            }
+            out.push('\n')
+        }
     }
 }
 
@@ -39,11 +50,15 @@ fn item_of(alloc: Global, error: PageError<'_>) -> Result<Item, AllocError> {
             item.add_number("line", told.at.line)?;
             item.add_number("column", told.at.column)?;
             item.add_number("offset", told.at.offset)?;
-            item.add("name", error.name())?;
+            item.add("name", told.error.name())?;
         }
-        PageError::Tree { line, message } => {
+        PageError::Tree {
+            line,
+            name,
+            message,
+        } => {
             item.add_number("line", line)?;
-            item.add("name", error.name())?;
+            item.add("name", name)?;
             item.add("message", message)?;
         }
     }

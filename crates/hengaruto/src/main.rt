@@ -1,7 +1,8 @@
 //! The program `hengaruto`, which shows people what a page consists of.
 //!
-//! `h5_command_line` has the command line, `h5_input` reads pages, and `h5_policy` reads the policies that clean them. `policy_file` opens the
-//! file of a policy, `answer` prints what a subcommand shows of a tree, `parts` writes HTML in parts, `charset` makes a page
+//! `h5_command_line` has the command line, `h5_input` reads pages, and `h5_policy` reads the policies that clean them. `output` has what a
+//! subcommand prints, with the values of its own options, and `request` that and how pages are read; `policy_file` opens the file of a
+//! policy. `run` reads each file, `answer` prints what a subcommand shows of a tree, `parts` writes HTML in parts, `charset` makes a page
 //! declare UTF-8, `select` prints what a selector matches, `errors` prints parse errors, `records` processes pages in JSON lines, `dress`
 //! prepares lines for a terminal, and `progress` shows how much of a long input was read. Begin with `src/run.rt`.
 #![tactic(auto)]
@@ -11,10 +12,12 @@ mod charset;
 mod dress;
 mod errors;
 mod fault;
+mod output;
 mod parts;
 mod policy_file;
 mod progress;
 mod records;
+mod request;
 mod run;
 mod select;
 

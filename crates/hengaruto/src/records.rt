@@ -1,8 +1,9 @@
 //! Pages in records, and the output line of each.
-use super::answer::{Asked, PageOpts};
+use super::answer::Asked;
 use super::fault::Fault;
+use super::request::{PageOpts, RecordOpts};
 use super::run::put_input;
-use h5_command_line::RecordOpts;
+use h5_command_line::Prints;
 use h5_input::InputOpts;
 use h5_listing::{NoPage, Page, Record, begin_answer, end_answer};
 use html_tree_builder::encodings::{Encoding, EncodingOpts};
@@ -117,8 +118,8 @@ fn answer_of(
     let mut answer = begin_answer(alloc, Some(record), line)?;
     match printed_of(rt, asked, opts, record) {
         Ok(text) => {
-            let text = text.as_str();
-            end_answer(alloc, &mut answer, opts.key, text, asked.output.is_json())?;
+            let is_json = opts.prints == Prints::Items;
+            end_answer(alloc, &mut answer, opts.key, text.as_str(), is_json)?;
         }
         Err(cause) => {
             let said = said_of(rt, &cause)?;

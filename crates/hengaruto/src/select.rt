@@ -1,6 +1,5 @@
 //! Prints the elements that a selector matches.
 use super::fault::Fault;
-use h5_command_line::Shown;
 use h5_listing::{Form, Item, print_items};
 use h5_page::{TextOpts, text_with};
 use html_tree_builder::arena::NodeRef;
@@ -8,6 +7,17 @@ use html_tree_builder::select::{Selector, SelectorError};
 use html_tree_builder::{Arena, NodeId};
 use std::alloc::{AllocError, Global};
 use std::io::Write;
+
+/// What to print of each element that a selector matches.
+#[derive(Clone, Copy)]
+pub enum Shown<'a> {
+    /// The element as HTML.
+    Html,
+    /// Its text.
+    Text,
+    /// The value of this attribute, if the element has it.
+    Attr(&'a str),
+}
 
 // The name of what is printed in JSON.
 fn name_of(shown: Shown<'_>) -> &'static str {
@@ -19,9 +29,9 @@ fn name_of(shown: Shown<'_>) -> &'static str {
 }
 
 /// The elements to select, and what to print of each.
-#[derive(Clone, Copy)]
+#[derive(Drop)]
 pub struct Selection<'a> {
-    pub selector: &'a Selector,
+    pub selector: Selector,
     pub shown: Shown<'a>,
     /// True if the page was parsed with scripting: HTML and text are written so.
     pub scripting_enabled: bool,
@@ -46,7 +56,7 @@ fn shown_of(
     alloc: Global,
     arena: &Arena,
     id: NodeId,
-    selection: Selection<'_>,
+    selection: &Selection<'_>,
 ) -> Result<Option<String>, AllocError> {
     if !arena.holds(id) {
         return Ok(None);
@@ -81,7 +91,7 @@ fn put_lines<W: Write>(
     alloc: Global,
     arena: &Arena,
     found: &[NodeId],
-    selection: Selection<'_>,
+    selection: &Selection<'_>,
     out: &mut W,
 ) -> Result<(), Fault> {
     for id in found {
@@ -97,7 +107,7 @@ fn items_of(
     alloc: Global,
     arena: &Arena,
     found: &[NodeId],
-    selection: Selection<'_>,
+    selection: &Selection<'_>,
 ) -> Result<Vec<Item>, AllocError> {
     let mut items = Vec::new(alloc);
     for id in found {
@@ -114,7 +124,7 @@ fn items_of(
 pub fn put_selected<W: Write>(
     alloc: Global,
     top: &NodeRef<'_>,
-    selection: Selection<'_>,
+    selection: &Selection<'_>,
     form: Form,
     path: Option<&str>,
     out: &mut W,

@@ -14,7 +14,7 @@ use Rattle.h5_rules_tables.proofs.foster.foster_parent_in_body.Goals as goal
 pub step_in_body-turn-requires-clause-ready : goal.step_in_body-turn-requires-clause-ready
 step_in_body-turn-requires-clause-ready g c =
     let w = world_of g.S.TreeSink c.args.sink.now c.args.state.now in
-    subst HasHtmlRoot (sym (c.set_foster.ensures.made.world ∙ ap (set_foster true) c.unexpected.ensures.told.world)) (ready_foster w c.requires.ready)
+    subst HasHtmlRoot (sym (c.set_foster.ensures.made.world ∙ ap (set_foster true) c.report_token.ensures.told.world)) (ready_foster w c.requires.ready)
 
 pub returns : goal.returns
 returns g c =
@@ -23,12 +23,12 @@ returns g c =
     let w = world_of law c.args.sink.now c.args.state.now in
     let v = world_of law c.step_in_body-turn.new.sink c.step_in_body-turn.new.state in
     let u = world_of law c.step_in_body-turn.new.sink c.set_foster-2.new.state in
-    let before = errors_of law c.unexpected.new.sink in
+    let before = errors_of law c.report_token.new.sink in
     let after = errors_of law c.step_in_body-turn.new.sink in
     record {
       follows = foster_if_ok law.choices law.node t w v u before after (errors_of law c.args.sink.now) after c.step_in_body-turn.new.state c.set_foster-2.new.state c.step_in_body-turn.result c.set_foster-2.ensures.again c.set_foster-2.ensures.answer
           (subst (λ (x : World). IfOk c.step_in_body-turn.result (λ r. Follows law.choices law.node (in_body t x) t x v before after (turn_result r c.step_in_body-turn.new.state)))
-          (c.set_foster.ensures.made.world ∙ ap (set_foster true) c.unexpected.ensures.told.world) c.step_in_body-turn.ensures.follows)
-          c.set_foster-2.ensures.made.world c.unexpected.ensures.noted refl;
+          (c.set_foster.ensures.made.world ∙ ap (set_foster true) c.report_token.ensures.told.world) c.step_in_body-turn.ensures.follows)
+          c.set_foster-2.ensures.made.world c.report_token.ensures.noted refl;
       sound = c.set_foster-2.ensures.made.sound;
     }

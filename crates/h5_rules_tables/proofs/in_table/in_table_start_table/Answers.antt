@@ -18,18 +18,18 @@ returns-in-Some g c =
     let law = g.S.TreeSink in
     let tag = tag_text c.args.tag in
     let w = world_of law c.args.sink.now c.args.state.now in
-    let u = world_of law c.unexpected_tag.new.sink c.args.state.now in
-    let v = world_of law c.unexpected_tag.new.sink c.set_again.new.state in
+    let u = world_of law c.report_tag.new.sink c.args.state.now in
+    let v = world_of law c.report_tag.new.sink c.set_again.new.state in
     record {
-      follows = subst (λ b. Follows law.choices law.node (choose b (errs (PopUntilNamed (codes "table") ∷ []) (AgainBy reset_mode)) ignored) (TagTurn tag) w v (errors_of law c.args.sink.now) (errors_of law c.unexpected_tag.new.sink) (Reprocess c.reset_insertion_mode-mode.result c.set_again.new.state.again))
+      follows = subst (λ b. Follows law.choices law.node (choose b (errs (PopUntilNamed (codes "table") ∷ []) (AgainBy reset_mode)) ignored) (TagTurn tag) w v (errors_of law c.args.sink.now) (errors_of law c.report_tag.new.sink) (Reprocess c.reset_insertion_mode-mode.result c.set_again.new.state.again))
           (c.in-Some.ensures.found
           ∙ ap (λ local. in_scope (is_html_named local) is_table_scope (names_of u)) c.from_known-table.ensures
-          ∙ ap (λ (x : World). in_scope (is_html_named (codes "table")) is_table_scope (names_of x)) c.unexpected_tag.ensures.told.world)
+          ∙ ap (λ (x : World). in_scope (is_html_named (codes "table")) is_table_scope (names_of x)) c.report_tag.ensures.told.world)
           (record {
-            world = c.set_again.ensures.kept.world ∙ c.pop_until_named.ensures.world ∙ ap (λ local. pop_until_named local u) c.from_known-table.ensures ∙ ap (pop_until_named (codes "table")) c.unexpected_tag.ensures.told.world;
+            world = c.set_again.ensures.kept.world ∙ c.pop_until_named.ensures.world ∙ ap (λ local. pop_until_named local u) c.from_known-table.ensures ∙ ap (pop_until_named (codes "table")) c.report_tag.ensures.told.world;
             ending = (ap (λ w. Some (reset_mode w)) c.set_again.ensures.kept.world ∙ ap Some (sym c.reset_insertion_mode-mode.ensures), c.set_again.ensures.token);
             quiet = λ h. absurd (cc);
-            noted = λ h. c.unexpected_tag.ensures.noted;
+            noted = λ h. c.report_tag.ensures.noted;
           });
       sound = c.set_again.ensures.kept.sound;
     }
@@ -40,12 +40,12 @@ returns-in-None g c =
     let law = g.S.TreeSink in
     let tag = tag_text c.args.tag in
     let w = world_of law c.args.sink.now c.args.state.now in
-    let u = world_of law c.unexpected_tag.new.sink c.args.state.now in
+    let u = world_of law c.report_tag.new.sink c.args.state.now in
     record {
-      follows = subst (λ b. Follows law.choices law.node (choose b (errs (PopUntilNamed (codes "table") ∷ []) (AgainBy reset_mode)) ignored) (TagTurn tag) w u (errors_of law c.args.sink.now) (errors_of law c.unexpected_tag.new.sink) Done)
+      follows = subst (λ b. Follows law.choices law.node (choose b (errs (PopUntilNamed (codes "table") ∷ []) (AgainBy reset_mode)) ignored) (TagTurn tag) w u (errors_of law c.args.sink.now) (errors_of law c.report_tag.new.sink) Done)
           (c.in-None.ensures.found
           ∙ ap (λ local. in_scope (is_html_named local) is_table_scope (names_of u)) c.from_known-table.ensures
-          ∙ ap (λ (x : World). in_scope (is_html_named (codes "table")) is_table_scope (names_of x)) c.unexpected_tag.ensures.told.world)
-          (record { world = c.unexpected_tag.ensures.told.world; ending = refl; quiet = λ h. absurd (cc); noted = λ h. c.unexpected_tag.ensures.noted });
-      sound = c.unexpected_tag.ensures.told.sound c.requires;
+          ∙ ap (λ (x : World). in_scope (is_html_named (codes "table")) is_table_scope (names_of x)) c.report_tag.ensures.told.world)
+          (record { world = c.report_tag.ensures.told.world; ending = refl; quiet = λ h. absurd (cc); noted = λ h. c.report_tag.ensures.noted });
+      sound = c.report_tag.ensures.told.sound c.requires;
     }
