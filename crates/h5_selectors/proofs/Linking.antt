@@ -6,7 +6,7 @@ use Rattle.h5_selectors.specs.Asking.{Asked, AskLeads, AskOr, asked, back, both,
 use Rattle.h5_selectors.specs.Grammar.{Linked, all_of, any_of, backwards, both_if, forwards, link_asked}
 use Rattle.h5_selectors.specs.declared.formula.Formula.{Formula}
 use Rattle.h5_selectors.specs.declared.formula.Way.{Way}
-use Rattle.h5_selectors.specs.declared.parser.Link.{Link}
+use Rattle.h5_selectors.specs.declared.combinators.Link.{Link}
 
 -- the last of a list, taken off
 split_last : (items left : List Formula) (one : Formula) (all : Asked) → items ≡ left ++ one ∷ [] → map asked items ++ all ∷ [] ≡ map asked left ++ (asked one ∷ all ∷ [])

@@ -11,8 +11,8 @@ use Rattle.h5_selectors.specs.Tokens.{begins_with, behind_blanks, behind_comment
 use Rattle.h5_selectors.specs.declared.fault.Refusal.{Refusal}
 use Rattle.h5_selectors.specs.declared.fault.Refusal.TheVariants.{Invalid, Memory}
 use Rattle.h5_selectors.specs.declared.formula.Formula.{Formula}
-use Rattle.h5_selectors.specs.declared.parser.Combinator.{Combinator}
-use Rattle.h5_selectors.specs.declared.parser.Link.{Link}
+use Rattle.h5_selectors.specs.declared.combinators.Combinator.{Combinator}
+use Rattle.h5_selectors.specs.declared.combinators.Link.{Link}
 
 -- an error of the first of two steps is one of both
 pub lacks_first : {A B : Type 0} (refusal : Refusal) (read : Outcome A) (behind : A → Outcome B) → Fails refusal read → Fails refusal (read >>= behind)

@@ -10,8 +10,8 @@ use Rattle.h5_selectors.specs.declared.formula.Formula.{Formula, Any, Name, Id, 
 use Rattle.h5_selectors.specs.declared.formula.Side.{Side}
 use Rattle.h5_selectors.specs.declared.formula.Way.{Way}
 use Rattle.h5_selectors.specs.declared.formula.Way.TheVariants.{Ancestor, Below, Child as ToChild, Earlier, Later, Next, Parent, Previous}
-use Rattle.h5_selectors.specs.declared.parser.Combinator.{Combinator}
-use Rattle.h5_selectors.specs.declared.parser.Combinator.TheVariants as combinator
+use Rattle.h5_selectors.specs.declared.combinators.Combinator.{Combinator}
+use Rattle.h5_selectors.specs.declared.combinators.Combinator.TheVariants as combinator
 
 -- a condition on an element, independent of where it is in memory
 pub data Asked : Type 0 where

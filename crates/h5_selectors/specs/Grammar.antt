@@ -14,9 +14,9 @@ use Rattle.h5_selectors.specs.Tokens.{Reading, begins, begins_with, behind_blank
 use Rattle.h5_selectors.specs.declared.fault.SelectorProblem.{SelectorProblem}
 use Rattle.h5_selectors.specs.declared.fault.SelectorProblem.TheVariants as problem
 use Rattle.h5_selectors.specs.declared.formula.Side.{Side}
-use Rattle.h5_selectors.specs.declared.parser.Combinator.{Combinator}
+use Rattle.h5_selectors.specs.declared.combinators.Combinator.{Combinator}
 use Rattle.h5_selectors.specs.declared.parser.Function.{Function}
-use Rattle.h5_selectors.specs.declared.parser.Link.{Link}
+use Rattle.h5_selectors.specs.declared.combinators.Link.{Link}
 use Rattle.h5_selectors.specs.declared.parser.Function.TheVariants as function
 
 -- a parser of something that has parts: it takes the number of parts allowed, and returns the number left

@@ -1,6 +1,7 @@
 //! Makes conditions of others.
-ghost use Rattle.std.specs.Prelude.{◌≡◌, IfOk};
+ghost use Rattle.std.specs.Prelude.{◌≡◌, IfOk, map, option_map};
 ghost use Rattle.h5_selectors.specs.Asking.{AskLeads, AskNot, AskNth, AskOr, asked, both};
+ghost use Rattle.h5_selectors.specs.Grammar.{all_of, any_of, both_if};
 
 use super::formula::{AnPlusB, Formula, Side, Way};
 use std::alloc::{AllocError, Global};
@@ -48,4 +49,48 @@ pub(crate) fn nth(
     ensures { IfOk result (λ made. asked made ≡ AskNth indices side (asked of)) }
 {
     Ok(Formula::Nth(indices, side, boxed(alloc, of)?))
+}
+
+// All of some conditions. From the last on, so that the depth is that of the second of two.
+pub(crate) fn all_of(alloc: Global, list: Vec<Formula>) -> Result<Formula, AllocError>
+    ensures { IfOk result (λ made. asked made ≡ all_of (map asked list.items)) }
+{
+    let mut list = list;
+    let Some(last) = list.pop() else {
+        return Ok(Formula::Any);
+    };
+    let mut all = last;
+    while let Some(one) = list.pop() {
+        all = both(alloc, one, all)?;
+    }
+    Ok(all)
+}
+
+// One of some conditions. Without one, nothing is matched.
+pub(crate) fn any_of(alloc: Global, list: Vec<Formula>) -> Result<Formula, AllocError>
+    ensures { IfOk result (λ made. asked made ≡ any_of (map asked list.items)) }
+{
+    let mut list = list;
+    let Some(last) = list.pop() else {
+        return negated(alloc, Formula::Any);
+    };
+    let mut all = last;
+    while let Some(one) = list.pop() {
+        all = either(alloc, one, all)?;
+    }
+    Ok(all)
+}
+
+// The condition, and the other one, if there is one.
+pub(crate) fn both_if(
+    alloc: Global,
+    one: Formula,
+    other: Option<Formula>,
+) -> Result<Formula, AllocError>
+    ensures { IfOk result (λ made. asked made ≡ both_if (asked one) (option_map asked other)) }
+{
+    match other {
+        Some(other) => both(alloc, one, other),
+        None => Ok(one),
+    }
 }

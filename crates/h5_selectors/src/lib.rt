@@ -1,7 +1,7 @@
 //! CSS selectors over the nodes of an arena (Selectors Level 4, without namespaces, pseudo-elements and user actions).
 //!
 //! A selector is parsed to a `Formula`, a condition on one element: `formula` has the conditions, `an_plus_b` indices. `scan` reads names,
-//! strings and numbers; `attributes`, `indices` and `parser` parse selectors; `conditions` makes conditions of others, and `controls` those of
+//! strings and numbers; `attributes`, `indices`, `combinators` and `parser` parse selectors; `conditions` makes conditions of others, and `controls` those of
 //! form controls. Their definitions are in `specs/Tokens.antt`, `Attributes.antt`, `Indices.antt`, `Asking.antt`, `Controls.antt`,
 //! `PseudoClasses.antt`, `Grammar.antt` and `Counting.antt`: each function at the start of a text. It is proved that a parsed selector has
 //! the condition of its text, and that parsing fails only if the text isn't a list of selectors or a selector has too many parts, or if an
@@ -18,6 +18,7 @@
 mod alike;
 mod an_plus_b;
 mod attributes;
+mod combinators;
 mod conditions;
 mod controls;
 mod fault;

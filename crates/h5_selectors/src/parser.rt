@@ -1,19 +1,17 @@
 //! Parses selectors (Selectors Level 4, sections 4.1 and 17). Each combinator becomes a relation: backwards or, inside `:has()`, forwards.
-ghost use Rattle.std.specs.Prelude.{◌≡◌, ◌-◌, ◌==◌, ◌&&◌, [], ◌∷◌, ◌++◌, IfErr, IfNone, IfOk, MatchOption, MatchResult, None, OnOk, Some, bytes_eq, codes, false, if◌then◌else◌, length, map, option_map, option_to_list, string_bytes, true};
+ghost use Rattle.std.specs.Prelude.{◌≡◌, ◌-◌, ◌==◌, [], ◌∷◌, ◌++◌, IfErr, IfOk, MatchResult, None, OnOk, Some, bytes_eq, codes, false, length, map, option_map, option_to_list, string_bytes, true};
 ghost use Rattle.std.specs.Str.{chars};
-ghost use Rattle.h5_selectors.specs.Asking.{AskAnd, AskLeads, AskNthOfType, asked, back, behind_any_namespace, combinator_at, forth, has_any_namespace, leading_at, prefixed_type_at, sign_at, type_at, unprefixed_type_at};
-ghost use Rattle.h5_selectors.specs.Counting.{taken};
+ghost use Rattle.h5_selectors.specs.Asking.{AskAnd, AskNthOfType, asked};
 ghost use Rattle.h5_selectors.specs.Fault.{Found, IsWithin, Tells};
-ghost use Rattle.h5_selectors.specs.Grammar.{all_of, any_of, arguments_within, backwards, both_if, alone, commas_at, complex_at, compound_at, forgiven_at, forgiving_list_at, forwards, function_at, is_limit, is_selector_end, item_at, languages_at, left_out, link_asked, links_at, list_at, most_parts, nth_child_at, of_at, plain_by, pseudo_class_at, range_at, range_item, relative_at, selector_at, selectors_of, simple_at, simples_at, top_at};
-ghost use Rattle.h5_selectors.specs.PseudoClasses.{end_child, first, function_of, plain_of, problem_of};
-ghost use Rattle.h5_selectors.specs.Reads.{Fails, Reads, Takes};
-ghost use Rattle.h5_selectors.specs.Tokens.{behind_blanks, named_at, reading};
+ghost use Rattle.h5_selectors.specs.Grammar.{all_of, any_of, arguments_within, backwards, both_if, alone, commas_at, complex_at, compound_at, forgiven_at, forgiving_list_at, forwards, function_at, is_limit, item_at, languages_at, left_out, link_asked, links_at, list_at, nth_child_at, of_at, plain_by, pseudo_class_at, range_item, relative_at, selector_at, selectors_of, simple_at, simples_at, top_at};
+ghost use Rattle.h5_selectors.specs.PseudoClasses.{end_child, first, function_of, plain_of};
+ghost use Rattle.h5_selectors.specs.Reads.{Fails, Takes};
 ghost use Rattle.h5_selectors.specs.declared.fault.Refusal.TheVariants.{Invalid};
 ghost use Rattle.h5_selectors.specs.declared.fault.SelectorProblem.TheVariants.{TooLong};
 ghost use Rattle.h5_selectors.specs.declared.formula.Side.TheVariants.{First, Last};
 
-use super::attributes::written;
-use super::conditions::{along, both, either, negated, nth};
+use super::combinators::{Link, backwards, forwards};
+use super::conditions::{all_of, along, any_of, both, both_if, negated, nth};
 use super::controls::{checked, disabled, enabled};
 use super::fault::{Refusal, SelectorError, SelectorProblem};
 use super::formula::{AnPlusB, Formula, Side, Way};
@@ -39,156 +37,6 @@ fn first_child(alloc: Global, side: Side) -> Result<Formula, AllocError>
     ensures { IfOk result (λ made. asked made ≡ end_child side) }
 {
     nth(alloc, FIRST, side, Formula::Any)
-}
-
-// A combinator between two compound selectors.
-#[derive(Clone, Copy)]
-enum Combinator {
-    Descendant,
-    Child,
-    NextSibling,
-    SubsequentSibling,
-}
-
-impl Combinator {
-    fn back(self) -> Way
-        ensures { result ≡ back self }
-    {
-        match self {
-            Combinator::Descendant => Way::Ancestor,
-            Combinator::Child => Way::Parent,
-            Combinator::NextSibling => Way::Previous,
-            Combinator::SubsequentSibling => Way::Earlier,
-        }
-    }
-
-    fn forth(self) -> Way
-        ensures { result ≡ forth self }
-    {
-        match self {
-            Combinator::Descendant => Way::Below,
-            Combinator::Child => Way::Child,
-            Combinator::NextSibling => Way::Next,
-            Combinator::SubsequentSibling => Way::Later,
-        }
-    }
-}
-
-impl<'a> Scan<'a> {
-    // Skips `*|`, the prefix of any namespace, and returns true if it is there.
-    fn skip_any_namespace(&mut self) -> bool
-        ensures found { result ≡ has_any_namespace self.old.rest.now }
-        ensures rest { self.new.rest.now ≡ (if has_any_namespace self.old.rest.now then behind_any_namespace self.old.rest.now else self.old.rest.now) }
-    {
-        let mut scan = *self;
-        if !scan.take('*') {
-            return false;
-        }
-        scan.skip_comments();
-        if !scan.take('|') {
-            return false;
-        }
-        scan.skip_comments();
-        *self = scan;
-        true
-    }
-
-    // A type selector or `*`, which a prefix requires.
-    #[tactic(auto, unfolding(crate::specs::Asking::prefixed_type_at))]
-    fn prefixed_type(&mut self, alloc: Global) -> Result<Option<Formula>, Refusal>
-        ensures { Reads (option_map asked) result self.new.rest.now (prefixed_type_at self.old.rest.now) }
-    {
-        if self.is_at_name() {
-            let name = self.name_rest(alloc)?;
-            self.no_namespace()?;
-            return Ok(Some(Formula::Name(written(alloc, name.as_str())?)));
-        }
-        if self.take('*') {
-            return Ok(Some(Formula::Any));
-        }
-        Err(self.refusal(SelectorProblem::Name))
-    }
-
-    // A type selector or `*` without a prefix, if there is one.
-    #[tactic(auto, unfolding(crate::specs::Asking::unprefixed_type_at))]
-    fn unprefixed_type(&mut self, alloc: Global) -> Result<Option<Formula>, Refusal>
-        ensures { Reads (option_map asked) result self.new.rest.now (unprefixed_type_at self.old.rest.now) }
-    {
-        if self.is_at_name() {
-            let name = self.name_rest(alloc)?;
-            self.no_namespace()?;
-            return Ok(Some(Formula::Name(written(alloc, name.as_str())?)));
-        }
-        self.no_namespace()?;
-        if self.take('*') {
-            return Ok(Some(Formula::Any));
-        }
-        Ok(None)
-    }
-
-    // A type selector or `*`, if there is one.
-    #[tactic(auto, unfolding(crate::specs::Asking::type_at))]
-    fn type_or_any(&mut self, alloc: Global) -> Result<Option<Formula>, Refusal>
-        ensures { Reads (option_map asked) result self.new.rest.now (type_at self.old.rest.now) }
-    {
-        if self.skip_any_namespace() {
-            return self.prefixed_type(alloc);
-        }
-        self.unprefixed_type(alloc)
-    }
-
-    // `>`, `+` or `~`, with the whitespace after it, if there is one.
-    fn sign(&mut self) -> Option<Combinator>
-        ensures sign { MatchOption result (sign_at self.old.rest.now ≡ None) (λ c. sign_at self.old.rest.now ≡ Some (reading c self.new.rest.now)) }
-        ensures none { IfNone result (self.new.rest.now ≡ self.old.rest.now) }
-    {
-        let found = match self.peek() {
-            Some('>') => Combinator::Child,
-            Some('+') => Combinator::NextSibling,
-            Some('~') => Combinator::SubsequentSibling,
-            _ => return None,
-        };
-        self.skip();
-        self.skip_blanks();
-        Some(found)
-    }
-
-    // A combinator, if there is one.
-    #[tactic(auto, unfolding(crate::specs::Asking::combinator_at))]
-    fn combinator(&mut self) -> Option<Combinator>
-        ensures found { MatchOption result (combinator_at self.old.rest.now ≡ None) (λ c. combinator_at self.old.rest.now ≡ Some (reading c self.new.rest.now)) }
-        ensures none { IfNone result (self.new.rest.now ≡ behind_blanks self.old.rest.now) }
-    {
-        let is_blank = self.skip_blanks();
-        if let Some(found) = self.sign() {
-            return Some(found);
-        }
-        match self.peek() {
-            None | Some(',') | Some(')') => None,
-            _ if is_blank => Some(Combinator::Descendant),
-            _ => None,
-        }
-    }
-
-    // A combinator before a selector; the descendant combinator if there is none.
-    #[tactic(auto, unfolding(crate::specs::Asking::leading_at))]
-    fn leading_combinator(&mut self) -> Combinator
-        ensures found { result ≡ (leading_at self.old.rest.now).value }
-        ensures rest { self.new.rest.now ≡ (leading_at self.old.rest.now).rest }
-    {
-        self.skip_blanks();
-        match self.sign() {
-            Some(found) => found,
-            None => Combinator::Descendant,
-        }
-    }
-
-    // Returns true at the end of a selector in a list of arguments.
-    fn is_selector_end(&self) -> bool
-        ensures { result ≡ is_selector_end self.now.rest.now }
-    {
-        matches!(self.peek(), Some(',' | ')') | None)
-    }
 }
 
 // The condition of a pseudo-class without arguments, by its name in lower case.
@@ -294,83 +142,11 @@ fn is_of(name: &[char]) -> bool
     matches!(name, ['o', 'f'])
 }
 
-// All of some conditions. From the last on, so that the depth is that of the second of two.
-fn all_of(alloc: Global, list: Vec<Formula>) -> Result<Formula, AllocError>
-    ensures { IfOk result (λ made. asked made ≡ all_of (map asked list.items)) }
-{
-    let mut list = list;
-    let Some(last) = list.pop() else {
-        return Ok(Formula::Any);
-    };
-    let mut all = last;
-    while let Some(one) = list.pop() {
-        all = both(alloc, one, all)?;
-    }
-    Ok(all)
-}
-
-// One of some conditions. Without one, nothing is matched.
-fn any_of(alloc: Global, list: Vec<Formula>) -> Result<Formula, AllocError>
-    ensures { IfOk result (λ made. asked made ≡ any_of (map asked list.items)) }
-{
-    let mut list = list;
-    let Some(last) = list.pop() else {
-        return negated(alloc, Formula::Any);
-    };
-    let mut all = last;
-    while let Some(one) = list.pop() {
-        all = either(alloc, one, all)?;
-    }
-    Ok(all)
-}
-
 // Returns true for a problem that isn't forgiven.
 fn is_limit(problem: SelectorProblem) -> bool
     ensures { result ≡ is_limit problem }
 {
     matches!(problem, SelectorProblem::TooLong | SelectorProblem::TooDeep)
-}
-
-// The condition, and the other one, if there is one.
-fn both_if(alloc: Global, one: Formula, other: Option<Formula>) -> Result<Formula, AllocError>
-    ensures { IfOk result (λ made. asked made ≡ both_if (asked one) (option_map asked other)) }
-{
-    match other {
-        Some(other) => both(alloc, one, other),
-        None => Ok(one),
-    }
-}
-
-// A combinator, and the condition of the compound selector after it.
-#[derive(Drop)]
-struct Link {
-    combinator: Combinator,
-    compound: Formula,
-}
-
-// The condition of a selector: on its last element, and from there backwards.
-fn backwards(alloc: Global, first: Formula, links: Vec<Link>) -> Result<Formula, AllocError>
-    ensures { IfOk result (λ made. asked made ≡ backwards (asked first) (map link_asked links.items)) }
-{
-    let mut all = first;
-    for link in links {
-        let before = along(alloc, link.combinator.back(), all)?;
-        all = both(alloc, link.compound, before)?;
-    }
-    Ok(all)
-}
-
-// The condition of combinators from an element on.
-fn forwards(alloc: Global, links: Vec<Link>) -> Result<Option<Formula>, AllocError>
-    ensures { IfOk result (λ made. option_map asked made ≡ forwards (map link_asked links.items) None) }
-{
-    let mut links = links;
-    let mut further = None;
-    while let Some(link) = links.pop() {
-        let all = both_if(alloc, link.compound, further)?;
-        further = Some(along(alloc, link.combinator.forth(), all)?);
-    }
-    Ok(further)
 }
 
 // The place of a selector.

@@ -5,7 +5,7 @@ use Rattle.h5_selectors.proofs.Repeating.{alone_found, alone_lacks, comma_ends, 
 use Rattle.h5_selectors.specs.Asking.{asked}
 use Rattle.h5_selectors.specs.Counting.{taken}
 use Rattle.h5_selectors.specs.Grammar.{arguments_within, comma_next, forgiven_at, item_at, link_asked, link_next, repeated, selector_at, simple_next}
-use Rattle.h5_selectors.specs.declared.parser.Link.{Link}
+use Rattle.h5_selectors.specs.declared.combinators.Link.{Link}
 use Rattle.h5_selectors.proofs.parser.Parser.+parse.Goals as goal
 
 pub others-returns-then-not-take : goal.others-returns-then-not-take
