@@ -4,6 +4,7 @@ mod CallLaws
 mod CleanedLaws
 mod FittingLaws
 mod HandedLaws
+mod ParentLaws
 mod JoinedTextLaws
 mod KeepingLaws
 mod KindLaws

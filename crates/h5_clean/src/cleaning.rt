@@ -1,5 +1,5 @@
 //! Cleans a text.
-ghost use Rattle.std.specs.Prelude.{◌≡◌, ℕ, List, [], None, false, true, IfOk, string_bytes};
+ghost use Rattle.std.specs.Prelude.{◌≡◌, ◌⊎◌, ℕ, List, [], None, false, true, IfErr, IfOk, string_bytes};
 ghost use Rattle.std.specs.Io.KnownBytes.{Appends};
 ghost use Rattle.h5_serialize.specs.declared.options.TraversalScope.TheVariants.{ChildrenOnly};
 ghost use Rattle.h5_arena.specs.NodeCalls.{walk_of};
@@ -74,8 +74,9 @@ pub fn clean_tree<P: Policy, Wr: Write + Drop>(
     policy: &P,
     writer: Wr,
 ) -> Result<Wr, SerializeFault>
-    ensures { IfOk result (λ given. WritesCleaned (P.rules policy.now) (walk_of (forest_seen node.now.arena.now) node.now.id.index (ChildrenOnly None))
+    ensures cleaned { IfOk result (λ given. WritesCleaned (P.rules policy.now) (walk_of (forest_seen node.now.arena.now) node.now.id.index (ChildrenOnly None))
         (Wr.contents writer) (Wr.contents given)) }
+    ensures fault { IfErr result (λ fault. (fault ≡ SerializeFault.Memory) ⊎ (fault ≡ SerializeFault.Write)) }
 {
     let mut cleaner = Cleaner::new(alloc, policy, writer)?;
     node.serialize(&mut cleaner, TraversalScope::ChildrenOnly(None))?;
@@ -90,8 +91,9 @@ fn clean_fragment<P: Policy, Wr: Write + Drop>(
     policy: &P,
     writer: Wr,
 ) -> Result<Wr, SerializeFault>
-    ensures { IfOk result (λ given. WritesCleaned (P.rules policy.now) (calls_below (forest_seen arena.now) (fragment_root arena.now))
+    ensures cleaned { IfOk result (λ given. WritesCleaned (P.rules policy.now) (calls_below (forest_seen arena.now) (fragment_root arena.now))
         (Wr.contents writer) (Wr.contents given)) }
+    ensures fault { IfErr result (λ fault. (fault ≡ SerializeFault.Memory) ⊎ (fault ≡ SerializeFault.Write)) }
 {
     match arena.fragment_root() {
         Some(root) => clean_tree(alloc, &arena.at(root), policy, writer),
@@ -107,7 +109,8 @@ pub fn clean_into<P: Policy, Wr: Write + Drop>(
     policy: &P,
     writer: Wr,
 ) -> Result<Wr, SerializeFault>
-    ensures { IfOk result (λ given. (out : List ℕ) × IsCleaned (P.rules policy.now) html.now out × Appends (Wr.contents writer) (Wr.contents given) out) }
+    ensures cleaned { IfOk result (λ given. (out : List ℕ) × IsCleaned (P.rules policy.now) html.now out × Appends (Wr.contents writer) (Wr.contents given) out) }
+    ensures fault { IfErr result (λ fault. (fault ≡ SerializeFault.Memory) ⊎ (fault ≡ SerializeFault.Write)) }
 {
     let arena = tree_of(alloc, html)?;
     let given = clean_fragment(alloc, &arena, policy, writer)?;

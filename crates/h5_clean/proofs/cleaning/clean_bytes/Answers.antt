@@ -5,6 +5,6 @@ use Rattle.h5_clean.proofs.cleaning.clean_bytes.Goals as goal
 
 pub returns : goal.returns
 returns g c =
-    let made = c.in_ok-left.ensures in
+    let made = c.in_ok-left.ensures.cleaned in
     let same = all_written _ _ made.0 c.in_ok-left.left.items (ap Some c.new.ensures.items) refl made.2 in
     subst (IsCleaned (g.P.Policy.rules c.args.policy.now) c.args.html.now) (sym same) made.1

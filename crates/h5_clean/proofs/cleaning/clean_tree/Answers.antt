@@ -6,10 +6,15 @@ use Rattle.h5_arena.specs.ArenaModel.{forest_seen}
 use Rattle.h5_arena.specs.NodeCalls.{walk_of}
 use Rattle.h5_clean.specs.Calls.{State, after_call, first_state, text_of}
 use Rattle.h5_clean.proofs.CleanedLaws.{writes_walk}
+use Rattle.h5_clean.proofs.ParentLaws.{returned_fault, stopped_by_memory_or_writer}
 use Rattle.h5_clean.proofs.cleaning.clean_tree.Goals as goal
 
-pub returns : goal.returns
-returns g c =
+pub returns-in_err-serialize-clause-fault : goal.returns-in_err-serialize-clause-fault
+returns-in_err-serialize-clause-fault g c =
+    returned_fault _ _ c.from_residual-in_err-serialize.ensures.1 (stopped_by_memory_or_writer c.in_ok-cleaner.ensures.state c.in_err-serialize.ensures)
+
+pub returns-clause-cleaned : goal.returns-clause-cleaned
+returns-clause-cleaned g c =
     let rules = g.P.Policy.rules c.args.policy.now in
     let f = forest_seen c.args.node.now.arena.now in
     let n = c.args.node.now.id.index in
