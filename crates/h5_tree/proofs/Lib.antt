@@ -1,0 +1,13 @@
+pub mod AttributeLaws
+pub mod ChildLaws
+pub mod DescendantLaws
+pub mod ForestShape
+pub mod LeafLaws
+pub mod LoopLaws
+pub mod NodeLaws
+pub mod OrderLaws
+pub mod ReadLaws
+pub mod ShapeLaws
+pub mod SiblingLaws
+pub mod SoundOrder
+pub mod TextLaws

@@ -1,0 +1,5 @@
+pub mod BlockForest
+pub mod ElementNumbers
+pub mod Elements
+pub mod Order
+pub mod Shape
