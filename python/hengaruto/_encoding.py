@@ -3,6 +3,7 @@ from __future__ import annotations
 
 from typing import Optional, Tuple
 
+from ._input import as_text, octets
 from ._library import given
 
 # A byte order mark in one of these isn't part of the text.
@@ -25,7 +26,7 @@ def decode(page: bytes, encoding: Optional[str] = None) -> str:
 
 def decoded(page: bytes, encoding: Optional[str] = None) -> Tuple[str, str]:
     """Returns the text of a page, and the name of its encoding as the Encoding Standard writes it."""
-    page = bytes(page)
+    page = octets(page, "a page to be decoded")
     name = said(page, encoding)
     if not name:
         try:
@@ -43,5 +44,5 @@ def said(page: bytes, encoding: Optional[str] = None) -> str:
     >>> said(b"<meta charset=latin1>"), said(b"<meta charset=latin1>", "euc-kr"), said(b"<p>")
     ('windows-1252', 'EUC-KR', '')
     """
-    label = (encoding or "").encode("utf-8", "replace")
+    label = b"" if encoding is None else as_text(encoding, "an encoding").encode("utf-8", "replace")
     return given("encoding", page, len(page), label, len(label)).decode("ascii")

@@ -1,4 +1,4 @@
-"""The types of a page, and its bytes."""
+"""The types of arguments, and the bytes of a page."""
 from __future__ import annotations
 
 import re
@@ -7,6 +7,21 @@ from typing import Union
 Source = Union[str, bytes, bytearray, memoryview]
 
 _SURROGATE = re.compile("[\ud800-\udfff]")
+
+
+def octets(given: Union[bytes, bytearray, memoryview], what: str) -> bytes:
+    """Returns an argument as bytes. It may be anything that has a buffer; `bytes` alone would also take a number."""
+    try:
+        return bytes(memoryview(given))
+    except TypeError:
+        raise TypeError(f"{what} must be bytes, not {type(given).__name__}") from None
+
+
+def as_text(given: str, what: str) -> str:
+    """Returns an argument that must be a str."""
+    if not isinstance(given, str):
+        raise TypeError(f"{what} must be str, not {type(given).__name__}")
+    return given
 
 
 def utf8(page: Source) -> bytes:

@@ -1,6 +1,7 @@
 """Whole pages at once, and pages in chunks."""
 from __future__ import annotations
 
+import operator
 from typing import List, Optional, Tuple
 
 from . import _library
@@ -25,10 +26,11 @@ def text(page: Source, *, width: Optional[int] = None) -> str:
     >>> text("<p>one two three", width=8)
     'one two\\nthree\\n'
     """
-    if width is not None and width < 1:
+    columns = 0 if width is None else operator.index(width)
+    if width is not None and columns < 1:
         raise ValueError("width must be at least 1")
     page = utf8(page)
-    return str(_library.given("page_text", page, len(page), width or 0), "utf-8", "replace")
+    return str(_library.given("page_text", page, len(page), columns), "utf-8", "replace")
 
 
 def links(page: Source) -> List[Tuple[str, str]]:

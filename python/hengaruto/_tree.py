@@ -1,10 +1,16 @@
 """A tree: a block of bytes, and lightweight objects that refer to it."""
 from __future__ import annotations
 
-from typing import Any, Dict, Iterator, List, Optional, Sequence, Tuple, TypeVar, Union
+import operator
+from itertools import islice
+from typing import Any, Dict, Iterator, List, Mapping, Optional, Sequence, Tuple, TypeVar, Union
+from urllib.parse import urljoin
 
 from . import _library
-from ._input import Source, utf8
+from ._forms import fields_of
+from ._input import Source, as_text, octets, utf8
+from ._search import NameTest, Test, Wanted
+from ._tables import rows_of
 
 ELEMENT, TEXT, PROCESSING_INSTRUCTION, COMMENT, DOCUMENT, DOCTYPE, FRAGMENT = 1, 3, 7, 8, 9, 10, 11
 NONE = 0xFFFFFFFF
@@ -63,7 +69,7 @@ def parse_fragment(page: Source, context: str = "div", *, scripting: bool = Fals
     'http://www.w3.org/2000/svg'
     """
     page = utf8(page)
-    space, _, name = context.rpartition(" ")
+    space, _, name = as_text(context, "a context").rpartition(" ")
     if space not in _CONTEXTS:
         raise _library.Error(f"invalid context: {context!r}")
     local = utf8(name)
@@ -85,7 +91,7 @@ def load(block: Union[bytes, bytearray, memoryview]) -> Document:
     ...
     hengaruto.Error: not a tree: invalid block
     """
-    block = bytes(block)
+    block = octets(block, "a block")
     if not _library.is_tree(block):
         raise _library.Error("not a tree: invalid block")
     return Document(block)
@@ -153,9 +159,10 @@ class Document:
 
     def __getitem__(self, index: int) -> Node:
         """The node with this number. Numbers are in tree order, from 0, which is the document itself."""
-        if not 0 <= index < self._count:
-            raise IndexError(f"no node {index}")
-        return Node(self, index)
+        number = operator.index(index)
+        if not 0 <= number < self._count:
+            raise IndexError(f"no node {number}")
+        return Node(self, number)
 
     @property
     def node(self) -> Node:
@@ -182,13 +189,19 @@ class Document:
         """All elements in tree order, or only those with this local name."""
         return self.node.iter(name)
 
-    def find(self, name: str) -> Optional[Node]:
-        """The first element with this local name, or None."""
-        return self.node.find(name)
+    def find(
+        self, name: NameTest = None, attrs: Union[None, Test, Mapping[str, Test]] = None, *, recursive: bool = True, string: Test = None,
+        **attributes: Test,
+    ) -> Optional[Node]:
+        """The first node that `find_all` returns, or None."""
+        return self.node.find(name, attrs, recursive=recursive, string=string, **attributes)
 
-    def find_all(self, name: str) -> List[Node]:
-        """All elements with this local name, in tree order."""
-        return self.node.find_all(name)
+    def find_all(
+        self, name: NameTest = None, attrs: Union[None, Test, Mapping[str, Test]] = None, *, recursive: bool = True, string: Test = None,
+        limit: Optional[int] = None, **attributes: Test,
+    ) -> List[Node]:
+        """The elements with this name and these attributes, as `Node.find_all` returns them."""
+        return self.node.find_all(name, attrs, recursive=recursive, string=string, limit=limit, **attributes)
 
     def select(self, selector: str) -> List[Node]:
         """The elements that a CSS selector matches, each once, in tree order. An invalid selector raises a `SelectorError`, and a block
@@ -203,6 +216,49 @@ class Document:
     def select_first(self, selector: str) -> Optional[Node]:
         """The first element that a CSS selector matches, or None."""
         return self.node.select_first(selector)
+
+    css = select
+    select_one = css_first = select_first
+
+    @property
+    def strings(self) -> Iterator[str]:
+        """The texts, in tree order."""
+        return self.node.strings
+
+    @property
+    def stripped_strings(self) -> Iterator[str]:
+        """The texts without the whitespace at their ends, and without those that are only whitespace."""
+        return self.node.stripped_strings
+
+    def get_text(self, separator: str = "", strip: bool = False) -> str:
+        """The texts, with a separator between them; with `strip`, the stripped ones."""
+        return self.node.get_text(separator, strip)
+
+    def comments(self) -> List[str]:
+        """The comments, in tree order."""
+        return self.node.comments()
+
+    def base(self, url: str = "") -> str:
+        """The URL against which links are resolved: that of the first `base` with an href, resolved against the URL of the page.
+
+        >>> parse("<base href=/docs/>").base("https://example.org/a")
+        'https://example.org/docs/'
+        """
+        html = NAMESPACES[1]
+        for node in self.iter("base"):
+            href = node.get("href")
+            if href is not None and node.namespace == html:
+                return _joined(url, href)
+        return url
+
+    def absolute_links(self, url: str = "") -> List[Tuple[str, str]]:
+        """The links of a page with this URL: pairs of an absolute URL and the text, with each run of whitespace as one space.
+
+        >>> parse("<a href=' x '>a\\n link</a>").absolute_links("https://example.org/y/z")
+        [('https://example.org/y/x', 'a link')]
+        """
+        base = self.base(url)
+        return [(_joined(base, href), " ".join(text.split())) for href, text in self.links()]
 
     def text(self) -> str:
         """All texts, joined and unchanged. `hengaruto.text` lays a page out as a browser shows it.
@@ -368,6 +424,43 @@ class Node:
             return Node(document, end)
         return None
 
+    @property
+    def previous(self) -> Optional[Node]:
+        """The previous sibling, or None."""
+        before, above = None, self.parent
+        for node in above.children() if above is not None else ():
+            if node.index == self.index:
+                return before
+            before = node
+        return None
+
+    @property
+    def next_element(self) -> Optional[Node]:
+        """The next sibling that is an element, or None.
+
+        >>> parse("<b></b>x<!--c--><i></i>").find("b").next_element.name
+        'i'
+        """
+        node = self.next
+        while node is not None and node.kind != ELEMENT:
+            node = node.next
+        return node
+
+    @property
+    def previous_element(self) -> Optional[Node]:
+        """The previous sibling that is an element, or None."""
+        before, above = None, self.parent
+        for node in above.elements if above is not None else ():
+            if node.index >= self.index:
+                break
+            before = node
+        return before
+
+    @property
+    def elements(self) -> List[Node]:
+        """The children that are elements, in order."""
+        return [child for child in self.children() if child.kind == ELEMENT]
+
     def children(self) -> Iterator[Node]:
         """The children, in order. A template's only child is a FRAGMENT, its contents."""
         document, at, end = self.document, self.index + 1, self._end()
@@ -406,13 +499,50 @@ class Node:
             return (Node(document, index) for index, word in enumerate(kinds, start) if word == wanted)
         return (Node(document, index) for index, word in enumerate(kinds, start) if word in words)
 
-    def find(self, name: str) -> Optional[Node]:
-        """The first element below this node with this local name, or None."""
-        return next(self.iter(name), None)
+    def find(
+        self, name: NameTest = None, attrs: Union[None, Test, Mapping[str, Test]] = None, *, recursive: bool = True, string: Test = None,
+        **attributes: Test,
+    ) -> Optional[Node]:
+        """The first node that `find_all` returns, or None."""
+        if isinstance(name, str) and attrs is None and string is None and recursive and not attributes:
+            return next(self.iter(name), None)
+        return next(self._wanted(Wanted(name, attrs, string, attributes), recursive), None)
 
-    def find_all(self, name: str) -> List[Node]:
-        """All elements below this node with this local name, in tree order."""
-        return list(self.iter(name))
+    def find_all(
+        self, name: NameTest = None, attrs: Union[None, Test, Mapping[str, Test]] = None, *, recursive: bool = True, string: Test = None,
+        limit: Optional[int] = None, **attributes: Test,
+    ) -> List[Node]:
+        """The elements below this node with this name and these attributes, in tree order.
+
+        A test of the name or of an attribute is a str, a compiled pattern, a list of these, a bool, None or a function; see `Test`. Tests
+        of attributes are a dict, or further arguments; `class_`, or a test in place of the dict, is a test of the class. With `string`, the
+        element's `string` fits it, too; if there are no other tests, the texts that fit it are returned. With `recursive=False` only
+        children are searched, and no more than `limit` nodes are returned. What is none of these raises a TypeError.
+
+        >>> doc = parse("<p class='a b'>One<p id=x>Two<a href=/y>there</a>")
+        >>> [node.name for node in doc.find_all(["p", "a"], limit=2)]
+        ['p', 'p']
+        >>> doc.find_all("p", class_="b"), doc.find_all("p", "b") == doc.find_all("p", {"class": "b"})
+        ([<hengaruto.Node p 4>], True)
+        >>> doc.find(href=True)["href"], doc.find(id="x").text(), doc.find("p", string="One")["class"]
+        ('/y', 'Twothere', 'a b')
+        >>> doc.find_all(7)
+        Traceback (most recent call last):
+        ...
+        TypeError: name must be a str, a compiled pattern, a list of these, a bool or a function, not int
+        """
+        if limit is not None and (isinstance(limit, bool) or not isinstance(limit, int)):
+            raise TypeError(f"limit must be an int, not {type(limit).__name__}")
+        found = self._wanted(Wanted(name, attrs, string, attributes), recursive)
+        return list(islice(found, limit) if limit else found)
+
+    def _wanted(self, wanted: Wanted, recursive: bool) -> Iterator[Node]:
+        below = self.descendants() if recursive else self.children()
+        if wanted.is_text():
+            return (node for node in below if node.kind == TEXT and wanted.fits_text(node))
+        if recursive and isinstance(wanted.name, str):
+            below = self.iter(wanted.name)
+        return (node for node in below if node.kind == ELEMENT and wanted.fits(node))
 
     def select(self, selector: str) -> List[Node]:
         """The elements below this node that a CSS selector matches, each once, in tree order. An invalid selector raises a
@@ -433,9 +563,100 @@ class Node:
         found = self._selected(selector)
         return Node(self.document, found[0]) if len(found) else None
 
+    css = select
+    select_one = css_first = select_first
+
+    def matches(self, selector: str) -> bool:
+        """Returns true if a CSS selector matches this element in its document.
+
+        >>> parse("<p>x<p>y").select_first("p + p").matches("p:last-child")
+        True
+        """
+        return self.index in self.document.node._selected(selector)
+
+    def closest(self, selector: str) -> Optional[Node]:
+        """The nearest of this element and its ancestors that a CSS selector matches, or None.
+
+        >>> parse("<div id=a><p><b>x").find("b").closest("[id]").name
+        'div'
+        """
+        found = set(self.document.node._selected(selector))
+        return next((node for node in (self, *self.ancestors()) if node.index in found), None)
+
     def text(self) -> str:
         """The text of a text node; for other nodes, all texts below them, joined."""
         return self.document._text(self.index, self._end())
+
+    @property
+    def string(self) -> Optional[str]:
+        """The text of a text or a comment, and that of a node whose only child has one; for other nodes None.
+
+        >>> parse("<p><b>x</b></p>").find("p").string, parse("<p>x<b>y</b></p>").find("p").string
+        ('x', None)
+        """
+        node, end = self, self._end()
+        while node.kind not in (TEXT, COMMENT):
+            first = node.index + 1
+            if first >= end or self.document[first]._end() < end:
+                return None
+            node = self.document[first]
+        return node.data
+
+    @property
+    def strings(self) -> Iterator[str]:
+        """The texts below this node, in tree order; of a text node its own."""
+        if self.kind == TEXT:
+            return iter((self.text(),))
+        return (node.text() for node in self.descendants() if node.kind == TEXT)
+
+    @property
+    def stripped_strings(self) -> Iterator[str]:
+        """The same without the whitespace at their ends, and without those that are only whitespace.
+
+        >>> list(parse("<ul> <li>Tea <li> 4.00</ul>").find("ul").stripped_strings)
+        ['Tea', '4.00']
+        """
+        return (text for text in map(str.strip, self.strings) if text)
+
+    def get_text(self, separator: str = "", strip: bool = False) -> str:
+        """The texts, with a separator between them; with `strip`, the stripped ones.
+
+        >>> parse("<tr><td>Tea<td>4.00").get_text(), parse("<table><tr><td>Tea<td>4.00").get_text(" ", strip=True)
+        ('Tea4.00', 'Tea 4.00')
+        """
+        return as_text(separator, "a separator").join(self.stripped_strings if strip else self.strings)
+
+    def comments(self) -> List[str]:
+        """The comments below this node, in tree order.
+
+        >>> parse("<p>x<!--c-->").find("p").comments()
+        ['c']
+        """
+        return [node.data or "" for node in self.descendants() if node.kind == COMMENT]
+
+    def rows(self) -> List[List[str]]:
+        """The rows of a table, each with the texts of its cells, words separated by one space. A cell that spans rows or columns stands in each of them. Raises
+        TypeError if this isn't a table.
+
+        >>> parse("<table><tr><th rowspan=2>Tea<td>4.00<tr><td>5.00").find("table").rows()
+        [['Tea', '4.00'], ['Tea', '5.00']]
+        """
+        return rows_of(self._named("table", "rows"))
+
+    def fields(self) -> List[Tuple[str, str]]:
+        """What a form sends if no button is pressed: the names and values of its controls, in tree order. Files aren't sent. Raises TypeError
+        if this isn't a form.
+
+        >>> parse("<form><input name=q value=tea><input type=checkbox name=all checked><button name=b></form>").find("form").fields()
+        [('q', 'tea'), ('all', 'on')]
+        """
+        return fields_of(self._named("form", "fields"))
+
+    def _named(self, name: str, call: str) -> Node:
+        """This node. Raises TypeError if it isn't an element with this name."""
+        if self.kind != ELEMENT or self.name != name:
+            raise TypeError(f"{call}() is a call of a {name}, not of {self!r}")
+        return self
 
     def to_html(self) -> str:
         """The HTML of this node and all below it, as outerHTML.
@@ -456,7 +677,7 @@ class Node:
     def _selected(self, selector: str) -> memoryview:
         block = self.document.block
         try:
-            text = selector.encode("utf-8")
+            text = as_text(selector, "a selector").encode("utf-8")
         except UnicodeEncodeError as error:
             raise _library.SelectorError(f"at offset {error.start}: a surrogate can't be encoded in UTF-8") from None
         return memoryview(_library.given("select", block, len(block), self.index, text, len(text))).cast("I")
@@ -472,6 +693,15 @@ class Node:
     def _row(self, index: int) -> Optional[str]:
         rows = self._row_range()
         return self.document._value(rows[index]) if index < len(rows) else None
+
+
+def _joined(base: str, href: str) -> str:
+    """The absolute URL of a link; the link unchanged if it can't be resolved."""
+    href = href.strip(" \t\n\f\r")
+    try:
+        return urljoin(base, href)
+    except ValueError:
+        return href
 
 
 def _item(items: Sequence[_T], index: int, default: _D) -> Union[_T, _D]:

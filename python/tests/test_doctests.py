@@ -10,22 +10,26 @@ README = os.path.join(os.path.dirname(os.path.dirname(os.path.abspath(__file__))
 
 
 @pytest.mark.parametrize(
-    "name", ["hengaruto", "hengaruto._tree", "hengaruto._pages", "hengaruto._encoding", "hengaruto._library", "hengaruto.trees"]
+    "name", ["hengaruto", "hengaruto._tree", "hengaruto._search", "hengaruto._pages", "hengaruto._encoding", "hengaruto._library", "hengaruto.trees"]
 )
 def test_docstrings(name):
     assert doctest.testmod(importlib.import_module(name)).failed == 0
 
 
 def test_readme():
-    """The value after a # in a line of README is the value of the line."""
+    """The value after a # at the end of a line of README is the value of the line."""
     with open(README, encoding="utf-8") as file:
-        code = re.search(r"```python\n(.*?)```", file.read(), re.S)[1]
-    names, shown = {}, 0
-    for line in code.splitlines():
-        statement, _, wanted = line.partition("  #")
+        blocks = re.findall(r"```python\n(.*?)```", file.read(), re.S)
+    names, shown, statement = {}, 0, ""
+    for line in "".join(blocks).splitlines(keepends=True):
+        statement += line
+        if statement.count('"""') % 2:
+            continue
+        code, _, wanted = statement.rpartition("  #")
         if wanted.strip().startswith(("'", "[")):
-            assert eval(statement, names) == eval(wanted), line
+            assert eval(code.strip(), names) == eval(wanted), statement
             shown += 1
         else:
             exec(statement, names)
-    assert shown == 5
+        statement = ""
+    assert shown == 17
