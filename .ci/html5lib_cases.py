@@ -8,7 +8,7 @@ import re
 DEBIAN = "/usr/share/gocode/src/golang.org/x/net/html/testdata/webkit"
 SECTION = re.compile(r"#(data|errors|new-errors|document-fragment|document|script-off|script-on)")
 
-Case = collections.namedtuple("Case", "file number text context scripting document")
+Case = collections.namedtuple("Case", "file number text context scripting document errors")
 TokenCase = collections.namedtuple("TokenCase", "file number text state last_start_tag output")
 SerializerCase = collections.namedtuple("SerializerCase", "file number calls options expected")
 
@@ -36,7 +36,8 @@ def cases_in(path):
         scripting = False if "script-off" in sections else True if "script-on" in sections else None
         context = sections["document-fragment"][0] if "document-fragment" in sections else None
         document = "\n".join(sections["document"]).rstrip("\n")
-        yield Case(os.path.basename(path), number, "\n".join(sections["data"]), context, scripting, document)
+        errors = [line for line in sections.get("errors", []) if line]
+        yield Case(os.path.basename(path), number, "\n".join(sections["data"]), context, scripting, document, errors)
 
 
 def files_in(folder, kind, ending):

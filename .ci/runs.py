@@ -10,12 +10,15 @@ import glob
 import os
 import re
 import shlex
+import shutil
 import subprocess
 import sys
 
 ROOT = os.path.dirname(os.path.dirname(os.path.abspath(__file__)))
-FILES = [f"{ROOT}/.ci/{name}" for name in ("runs", "runs.help", "runs.options", "runs.messages")]
+FILES = [f"{ROOT}/.ci/{name}" for name in ("runs", "runs.help", "runs.options", "runs.messages", "runs.faults")]
 MARKS = {">": "out", "!": "err", "|": "given"}
+# Before the file that is the input, if a signal interrupts its reads.
+INTERRUPTED = "<~"
 # The crates whose messages the programs print.
 SPEAKING = ("hengaruto", "h5_commands", "h5_policy", "h5_selectors")
 # Messages that no run can bring about.
@@ -58,10 +61,22 @@ def all_runs():
 def words_of(line):
     """The words of a command line, the file that is its input, and the one that is its output."""
     words, files = shlex.split(line), {}
-    while len(words) > 2 and words[-2] in ("<", ">"):
+    while len(words) > 2 and words[-2] in ("<", INTERRUPTED, ">"):
         files[words[-2]] = words[-1]
         words = words[:-2]
-    return words, files.get("<"), files.get(">")
+    return words, files.get("<", files.get(INTERRUPTED)), files.get(">")
+
+
+def interrupting(line):
+    """The words before those of a program whose reads of its input are interrupted, each second one from the first on."""
+    if f" {INTERRUPTED} " not in line:
+        return []
+    return ["strace", "-o", os.devnull, "-P", f"{ROOT}/{words_of(line)[1]}", "-e", "trace=read", "-e", "inject=read:error=EINTR:when=1+2"]
+
+
+def missing(run):
+    """What a run needs and this machine doesn't have, or nothing."""
+    return "strace" if interrupting(run["line"]) and not shutil.which("strace") else ""
 
 
 def lines_of(output):
@@ -92,16 +107,16 @@ def output_to(name):
 def ran(run, programs):
     """The lines of both outputs of a run, and its status."""
     words, given, out = words_of(run["line"])
-    program, arguments = programs[words[0]], [argument(it) for it in words[1:]]
+    program, arguments = [*interrupting(run["line"]), programs[words[0]]], [argument(it) for it in words[1:]]
     how = {"cwd": ROOT, "stderr": subprocess.PIPE, "timeout": 60, "check": False}
     with output_to(out) as output:
         if run["given"]:
             text = "".join(f"{line}\n" for line in run["given"]).encode()
-            done = subprocess.run([program, *arguments], input=text, stdout=output, **how)
+            done = subprocess.run([*program, *arguments], input=text, stdout=output, **how)
         else:
             # A folder can be given, too.
             file = os.open(os.path.join(ROOT, given) if given else os.devnull, os.O_RDONLY)
-            done = subprocess.run([program, *arguments], stdin=file, stdout=output, **how)
+            done = subprocess.run([*program, *arguments], stdin=file, stdout=output, **how)
             os.close(file)
     return {**run, "out": lines_of(done.stdout or b""), "err": lines_of(done.stderr), "status": done.returncode}
 
@@ -131,10 +146,15 @@ def has_option(words, forms):
     return any(word == form or word.startswith(f"{form}=") for word in words for form in forms)
 
 
+def helps_in(runs):
+    """The help texts of `hengaruto`, by the subcommand."""
+    said = [(words_of(run["line"])[0], run["out"]) for run in runs]
+    return {tuple(words[1:-1]): out for words, out in said if words[0] == "hengaruto" and words[-1] == "--help"}
+
+
 def without_run(runs):
     """The subcommands and options of `hengaruto`, by the runs of its help texts, that no run has."""
-    said = [words_of(run["line"])[0] for run in runs]
-    helps = {tuple(words[1:-1]): run["out"] for words, run in zip(said, runs) if words[0] == "hengaruto" and words[-1] == "--help"}
+    said, helps = [words_of(run["line"])[0] for run in runs], helps_in(runs)
     for before in [(), ("records",)]:
         for name in commands_in(helps.get(before, [])):
             if name != "help" and not any(words[0] == "hengaruto" and all(it in words for it in [*before, name]) for words in said):
