@@ -12,8 +12,8 @@ ghost use Rattle.h5_state.specs.Turn.{TakesTag, TakesToken};
 use super::foster::foster_parent_in_body;
 use super::parts::clear_to_table_context;
 use h5_insertion::{
-    append_comment, find_in_table_scope, insert_and_pop_element, insert_and_pop_form,
-    insert_element, insert_marker, insert_phantom, is_current_table_outer, reset_insertion_mode,
+    append_comment, find_in_table_scope, insert_and_pop_form, insert_and_pop_tag, insert_marker,
+    insert_phantom, insert_tag, is_current_table_outer, reset_insertion_mode,
 };
 use h5_interface::TreeSink;
 use h5_names::{KnownName, LocalName};
@@ -64,8 +64,7 @@ fn in_table_start_caption<S: TreeSink>(sink: &mut S, state: &mut State<S::Handle
 {
     clear_to_table_context(sink, state);
     insert_marker(sink, state)?;
-    let attrs = tag.attrs;
-    insert_element(sink, state, tag.name, attrs, tag.had_duplicate_attributes)?;
+    insert_tag(sink, state, tag)?;
     set_mode(sink, state, InsertionMode::InCaption);
     Ok(ProcessResult::Done)
 }
@@ -80,8 +79,7 @@ fn in_table_start_colgroup<S: TreeSink>(
     ensures { TakesTag S.TreeSink in_table_start_colgroup tag sink.old state.old sink.new state.new result }
 {
     clear_to_table_context(sink, state);
-    let attrs = tag.attrs;
-    insert_element(sink, state, tag.name, attrs, tag.had_duplicate_attributes)?;
+    insert_tag(sink, state, tag)?;
     set_mode(sink, state, InsertionMode::InColumnGroup);
     Ok(ProcessResult::Done)
 }
@@ -103,8 +101,7 @@ fn in_table_start_section<S: TreeSink>(sink: &mut S, state: &mut State<S::Handle
     ensures { TakesTag S.TreeSink in_table_start_section tag sink.old state.old sink.new state.new result }
 {
     clear_to_table_context(sink, state);
-    let attrs = tag.attrs;
-    insert_element(sink, state, tag.name, attrs, tag.had_duplicate_attributes)?;
+    insert_tag(sink, state, tag)?;
     set_mode(sink, state, InsertionMode::InTableBody);
     Ok(ProcessResult::Done)
 }
@@ -152,8 +149,7 @@ fn in_table_start_input<S: TreeSink>(sink: &mut S, state: &mut State<S::Handle>,
 {
     if is_type_hidden(tag.attrs.as_slice()) {
         report_tag(sink, state, TreeError::HiddenInputInTable, &tag);
-        let attrs = tag.attrs;
-        insert_and_pop_element(sink, state, tag.name, attrs, tag.had_duplicate_attributes)?;
+        insert_and_pop_tag(sink, state, tag)?;
         Ok(ProcessResult::DoneAckSelfClosing)
     } else {
         foster_parent_in_body(sink, state, Token::Tag(tag))
