@@ -1,0 +1,7 @@
+pub mod AnPlusB
+pub mod Holds
+pub mod Languages
+pub mod Query
+pub mod Values
+pub mod Waiting
+pub mod Ways
