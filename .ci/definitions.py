@@ -406,7 +406,7 @@ class Sources:
         """The things that an import names: one, or none if it is of another library."""
         parts = module.split(".")
         crate = parts[1] if parts[0] == "Rattle" and len(parts) > 1 else None
-        if crate in self.leaves or parts[0] in ("Prim", "Native", "mathlib", "lib"):
+        if crate in self.leaves or parts[0] in ("Prim", "Native", "mathlib", "lib", "denote"):
             return [f"{module}.{name}"]
         if module in self.antt:
             file = self.antt[module]
@@ -416,6 +416,8 @@ class Sources:
                 return self.named(*file.names[name], place)
         if parts[2:4] == ["specs", "declared"]:
             return self.declared(crate, parts[4:], name, place)
+        if parts[2:4] == ["specs", "contracts"] and name == "the_type":
+            return self.declared(crate, parts[4:], parts[-1], place)
         for used in self.antt[f"Rattle.{crate}.specs.Lib"].modules.items() if f"Rattle.{crate}.specs.Lib" in self.antt else ():
             if parts[3:] == [used[0]]:
                 return self.named(used[1], name, place)
