@@ -12,10 +12,10 @@ use h5_interface::QuirksMode;
 use h5_names::LocalName;
 use std::alloc::{AllocError, Global};
 
-/// A tree of elements, with what is needed to select in it. Nodes are named by ids, which are numbers of the forest.
+/// A tree of elements, with what is needed to select in it. Its nodes are those of a forest, in which each id has a number.
 ///
-/// Each read returns for any id. If the id isn't a node of the tree, a test returns false, except `is_empty`, an option is `None` and a list
-/// is empty.
+/// Each read returns for any id. If the id isn't a node of the tree, a test of it returns false, except `is_empty` and
+/// `has_elements_or_leaves`, an option is `None`, and a list is empty.
 pub trait Tree {
     /// The id of a node.
     type NodeId: Copy;
@@ -32,8 +32,8 @@ pub trait Tree {
     fn quirks_mode(&self) -> QuirksMode
         ensures { result ≡ mode self.now };
 
-    /// The number of nodes; the ids of a tree are numbered from 0. In any tree, a node appears once below its parent and below no other
-    /// node, and no node is its own ancestor.
+    /// The number of nodes, which are numbered from 0; in a block, texts are counted as well. In any tree, a node appears once below its
+    /// parent and below no other node, and no node is its own ancestor.
     fn node_count(&self) -> usize
         ensures count { result ≡ (forest self.now).bound }
         ensures shape { IsShaped (forest self.now) };
