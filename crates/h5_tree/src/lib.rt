@@ -1,6 +1,6 @@
 //! Trees that are read in the same way, however they are stored: an arena, and a block of bytes that is read in place.
 //!
-//! `tree` has the trait `Tree`: 16 reads, each with its meaning in the forest that the tree is. `of_arena` implements it for an arena, and
+//! `tree` has the trait `Tree`: 18 reads, each with its meaning in the forest that the tree is. `of_arena` implements it for an arena, and
 //! `of_block` for `SoundView`, a block whose nodes are known to be a tree. `block_names` reads names and attributes of a block, and
 //! `block_elements` its siblings and descendants. `laws` has the law that a sound block is a forest in tree order.
 //!
