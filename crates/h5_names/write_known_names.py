@@ -263,7 +263,6 @@ def write_short_names(names, text):
 def write_definitions(names, factors, text):
     head = "TheVariants.{\n"
     text = between(text, head, "  Other", "".join(f"  {name.variant},\n" for name in names))
-    text = between(text, "name_text : KnownName → List ℕ\n", "name_text Other", "".join(f'name_text {name.variant} = codes "{name.text}"\n' for name in names))
     mixed = [name for name in names if name.has_capitals()]
     text = between(text, "lowercase_name : KnownName → KnownName\n", "lowercase_name known", "".join(f"lowercase_name {it.variant} = {it.variant}Lowercase\n" for it in mixed))
     text = between(text, "mixed_name : KnownName → KnownName\n", "mixed_name known", "".join(f"mixed_name {it.variant}Lowercase = {it.variant}\n" for it in mixed))

@@ -18,7 +18,7 @@ use Rattle.h5_clean.specs.Policies.{ArePrefixed, MayStay, Rules, RunNoScripts, a
 use Rattle.h5_round_trip.specs.Readable.{AreNameBytes, AreReadable, IsName, IsReadable, is_name_byte}
 use Rattle.h5_clean.specs.AllowLists.{LeadWell, Table, holds_url, is_listed, has_classes, keeps_listed, leads_well, table_rules}
 use Rattle.h5_clean.specs.Texts.{readable}
-use Rattle.h5_clean.specs.Urls.{is_script, is_url_name, more_url_names, scheme_of, url_names}
+use Rattle.h5_clean.specs.Urls.{is_script, is_url_name, scheme_of, url_names}
 use Rattle.h5_clean.proofs.PrefixLaws.{value_begins, value_named, value_reads, value_same}
 use Rattle.h5_clean.proofs.TextLaws.{readable_reads, reads_utf8}
 
@@ -217,7 +217,7 @@ left_may r e attrs =
 -- ---- URLs
 
 rel_holds_none : is_url_name (codes "rel") ≡ false
-unfolding url_names more_url_names
+unfolding url_names
 rel_holds_none = refl
 
 no_script_with : (r : Rules) (e : List ℕ) (before more : List AttributeText) → AreKept r e before → RunNoScripts more → RunNoScripts (before ++ more)

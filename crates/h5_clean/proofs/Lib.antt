@@ -6,7 +6,6 @@ mod FittingLaws
 mod HandedLaws
 mod ParentLaws
 mod JoinedTextLaws
-mod KeepingLaws
 mod KindLaws
 mod ListLaws
 mod MarkLaws

@@ -1,32 +1,25 @@
 -- The policy for texts: what a writer of comments, posts and pages needs.
-use Rattle.std.specs.Prelude.{ℕ, nat_eq, ◌&&◌, ◌||◌, Bool, true, false, not, List, [], ◌∷◌, Option, Some, None, codes, if◌then◌else◌}
+use Rattle.std.specs.Prelude.{ℕ, nat_eq, ◌&&◌, ◌||◌, Bool, true, false, not, List, [], ◌∷◌, map, Option, Some, None, codes, if◌then◌else◌}
 use Rattle.std.specs.Char.{is_ascii_whitespace}
 use Rattle.std.specs.List.{list_any, starts_with}
 use Rattle.h5_names.specs.AttributeText.{is_same_text}
 use Rattle.h5_tables.specs.TagSets.{is_one_of}
+use Rattle.h5_clean.specs.declared.lists.TheConstants.{ALIGNED, CITING, DROPPED, GLOBAL, KEEPINGS, UNNAMED}
 use Rattle.h5_clean.specs.Kinds.{is_known, kind_of}
 use Rattle.h5_clean.specs.Policies.{Rules}
 use Rattle.h5_clean.specs.Urls.{scheme_of}
 
 -- elements that have a kind and aren't allowed
 unfoldable pub unnamed : List (List ℕ)
-unnamed =
-    codes "center" ∷ codes "dialog" ∷ codes "dir" ∷ codes "fieldset" ∷ codes "big" ∷ codes "font" ∷ codes "label" ∷ codes "meter" ∷ codes "output" ∷ codes "progress" ∷ codes "menu" ∷ []
+unnamed = map (λ name. name.now) UNNAMED
 
 -- elements that are dropped with their content
 unfoldable pub dropped_names : List (List ℕ)
-dropped_names =
-    codes "script" ∷ codes "style" ∷ codes "template" ∷ codes "iframe" ∷ codes "object" ∷ codes "embed" ∷ codes "applet" ∷
-    codes "noscript" ∷ codes "noembed" ∷ codes "noframes" ∷ codes "xmp" ∷ codes "plaintext" ∷ []
-
-unfoldable pub more_dropped_names : List (List ℕ)
-more_dropped_names =
-    codes "textarea" ∷ codes "title" ∷ codes "select" ∷ codes "head" ∷ codes "frameset" ∷ codes "audio" ∷ codes "video" ∷
-    codes "canvas" ∷ []
+dropped_names = map (λ name. name.now) DROPPED
 
 -- attributes that any element keeps
 unfoldable pub global_names : List (List ℕ)
-global_names = codes "title" ∷ codes "lang" ∷ codes "dir" ∷ []
+global_names = map (λ name. name.now) GLOBAL
 
 -- attributes that some elements keep: an element, and its attributes
 pub record Keeping : Type 0 where
@@ -37,21 +30,7 @@ abbrev pub keeping : List ℕ → List (List ℕ) → Keeping
 keeping element attributes = record { element = element; attributes = attributes }
 
 unfoldable pub keepings : List Keeping
-keepings =
-    keeping (codes "a") (codes "href" ∷ []) ∷
-    keeping (codes "img") (codes "src" ∷ codes "alt" ∷ codes "width" ∷ codes "height" ∷ []) ∷
-    keeping (codes "td") (codes "colspan" ∷ codes "rowspan" ∷ codes "headers" ∷ []) ∷
-    keeping (codes "th") (codes "colspan" ∷ codes "rowspan" ∷ codes "headers" ∷ codes "scope" ∷ []) ∷
-    keeping (codes "col") (codes "span" ∷ []) ∷
-    keeping (codes "colgroup") (codes "span" ∷ []) ∷
-    keeping (codes "ol") (codes "start" ∷ codes "reversed" ∷ codes "type" ∷ []) ∷
-    keeping (codes "li") (codes "value" ∷ []) ∷
-    keeping (codes "time") (codes "datetime" ∷ []) ∷
-    keeping (codes "del") (codes "datetime" ∷ []) ∷
-    keeping (codes "ins") (codes "datetime" ∷ []) ∷
-    keeping (codes "data") (codes "value" ∷ []) ∷
-    keeping (codes "details") (codes "open" ∷ []) ∷
-    keeping (codes "code") (codes "class" ∷ []) ∷ []
+keepings = map (λ row. keeping row.0.now (map (λ name. name.now) row.1.now)) KEEPINGS
 
 abbrev pub keeps_by : List Keeping → (element attribute : List ℕ) → Bool
 keeps_by [] element attribute = false
@@ -59,12 +38,10 @@ keeps_by (k ∷ ks) element attribute = if is_same_text k.element element then i
 
 -- elements that keep `align`, and elements that keep `cite`
 unfoldable pub aligned_names : List (List ℕ)
-aligned_names =
-    codes "td" ∷ codes "th" ∷ codes "p" ∷ codes "div" ∷ codes "img" ∷ codes "h1" ∷ codes "h2" ∷ codes "h3" ∷ codes "h4" ∷ codes "h5" ∷
-    codes "h6" ∷ []
+aligned_names = map (λ name. name.now) ALIGNED
 
 unfoldable pub citing_names : List (List ℕ)
-citing_names = codes "blockquote" ∷ codes "q" ∷ codes "del" ∷ codes "ins" ∷ []
+citing_names = map (λ name. name.now) CITING
 
 abbrev pub keeps_of_many : (element attribute : List ℕ) → Bool
 keeps_of_many element attribute =
@@ -104,7 +81,7 @@ keeps_attribute element attribute value =
 abbrev pub default_rules : Rules
 default_rules = record {
   names = λ name. is_known (kind_of name) && not (is_one_of unnamed name);
-  drops = λ name. is_one_of dropped_names name || is_one_of more_dropped_names name;
+  drops = λ name. is_one_of dropped_names name;
   keeps = keeps_attribute;
   rel = Some (codes "noopener noreferrer");
   prefix = None;

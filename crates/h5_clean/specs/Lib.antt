@@ -1,5 +1,6 @@
 pub mod Cleaned
 pub mod Kinds
+pub mod Lists
 pub mod Places
 pub mod Source
 pub mod DefaultPolicy

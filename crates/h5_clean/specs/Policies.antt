@@ -1,5 +1,5 @@
 -- What a policy says about elements and attributes, and what is left of attributes.
-use Rattle.std.specs.Prelude.{◌≡◌, ℕ, ◌==◌, nat_eq, nat_le, ◌&&◌, ◌||◌, Bool, true, false, not, List, [], ◌∷◌, ◌++◌, Option, Some, None, codes, is_some, if◌then◌else◌}
+use Rattle.std.specs.Prelude.{◌≡◌, ℕ, ◌==◌, nat_eq, nat_le, ◌&&◌, ◌||◌, Bool, true, false, not, List, [], ◌∷◌, ◌++◌, map, Option, Some, None, codes, is_some, if◌then◌else◌}
 use Rattle.std.specs.Char.{is_ascii_whitespace}
 use Rattle.std.specs.List.{list_all, list_any, starts_with}
 use Rattle.std.specs.Str.{is_utf8}
@@ -8,6 +8,7 @@ use Rattle.h5_names.specs.declared.qualified.QualName.{QualName}
 use Rattle.h5_interface.specs.Changes.{has_attribute}
 use Rattle.h5_tables.specs.TagSets.{is_one_of}
 use Rattle.h5_round_trip.specs.Readable.{is_name_byte}
+use Rattle.h5_clean.specs.declared.lists.TheConstants.{ACTING, ID_LISTS, IDS, REFUSED}
 use Rattle.h5_clean.specs.declared.place.Around.{Around}
 use Rattle.h5_clean.specs.Texts.{readable}
 use Rattle.h5_clean.specs.Urls.{is_script, is_url_name, scheme_of}
@@ -44,9 +45,7 @@ sets r element local = is_same_text element (codes "a") && (is_same_text local (
 -- attributes that hold a page, a style, a secret, or a list of URLs, that turn an element into another, or that use a
 -- map of the page
 unfoldable pub refused_names : List (List ℕ)
-refused_names =
-    codes "srcdoc" ∷ codes "style" ∷ codes "nonce" ∷ codes "is" ∷ codes "slot" ∷ codes "srcset" ∷ codes "imagesrcset" ∷
-    codes "http-equiv" ∷ codes "xlink:href" ∷ codes "ping" ∷ codes "attributionsrc" ∷ codes "archive" ∷ codes "usemap" ∷ []
+refused_names = map (λ name. name.now) REFUSED
 
 -- a refused attribute: one of these, or one that begins with `on`, such as each that holds a script
 abbrev pub is_refused : List ℕ → Bool
@@ -54,7 +53,7 @@ is_refused local = starts_with nat_eq local (codes "on") || is_one_of refused_na
 
 -- attributes by which an element acts on another one of the page; they are allowed only with a prefix
 unfoldable pub acting_names : List (List ℕ)
-acting_names = codes "for" ∷ codes "form" ∷ codes "popovertarget" ∷ codes "commandfor" ∷ codes "interestfor" ∷ []
+acting_names = map (λ name. name.now) ACTING
 
 abbrev pub may_act : (prefix local : List ℕ) → Bool
 may_act [] local = not (is_one_of acting_names local)
@@ -64,15 +63,11 @@ may_act (b ∷ prefix) local = true
 
 -- attributes that have an id, or refer to one
 unfoldable pub id_names : List (List ℕ)
-id_names =
-    codes "id" ∷ codes "name" ∷ codes "for" ∷ codes "form" ∷ codes "list" ∷ codes "popovertarget" ∷ codes "commandfor" ∷
-    codes "interestfor" ∷ codes "aria-activedescendant" ∷ []
+id_names = map (λ name. name.now) IDS
 
 -- attributes that refer to several ids
 unfoldable pub id_list_names : List (List ℕ)
-id_list_names =
-    codes "headers" ∷ codes "itemref" ∷ codes "aria-labelledby" ∷ codes "aria-describedby" ∷ codes "aria-controls" ∷
-    codes "aria-owns" ∷ codes "aria-details" ∷ codes "aria-flowto" ∷ codes "aria-errormessage" ∷ []
+id_list_names = map (λ name. name.now) ID_LISTS
 
 -- a byte of a prefix: neither ASCII whitespace nor NUL
 abbrev pub is_prefix_byte : ℕ → Bool

@@ -1,7 +1,8 @@
 -- URLs, as browsers read them (URL standard, section 4.4), and the attributes that hold them.
-use Rattle.std.specs.Prelude.{ℕ, ◌==◌, nat_le, ◌||◌, Bool, false, List, [], ◌∷◌, ◌++◌, Option, Some, None, codes, if◌then◌else◌}
+use Rattle.std.specs.Prelude.{ℕ, ◌==◌, nat_le, ◌||◌, Bool, false, List, [], ◌∷◌, ◌++◌, map, Option, Some, None, codes, if◌then◌else◌}
 use Rattle.std.specs.Char.{is_ascii_alphabetic, is_ascii_digit, to_ascii_lowercase}
 use Rattle.h5_tables.specs.TagSets.{is_one_of}
+use Rattle.h5_clean.specs.declared.lists.TheConstants.{URLS}
 
 -- a URL without leading C0 controls and spaces
 abbrev pub behind_controls : List ℕ → List ℕ
@@ -34,19 +35,12 @@ scheme_of_visible (b ∷ t) =
 abbrev pub scheme_of : List ℕ → Option (List ℕ)
 scheme_of url = scheme_of_visible (behind_controls url)
 
--- attributes that hold a URL, in two parts
+-- attributes that hold a URL
 unfoldable pub url_names : List (List ℕ)
-url_names =
-    codes "href" ∷ codes "src" ∷ codes "cite" ∷ codes "action" ∷ codes "background" ∷ codes "classid" ∷ codes "codebase" ∷ codes "data" ∷
-    codes "dynsrc" ∷ codes "formaction" ∷ []
-
-unfoldable pub more_url_names : List (List ℕ)
-more_url_names =
-    codes "icon" ∷ codes "itemid" ∷ codes "itemtype" ∷ codes "longdesc" ∷ codes "lowsrc" ∷ codes "manifest" ∷ codes "poster" ∷
-    codes "profile" ∷ []
+url_names = map (λ name. name.now) URLS
 
 abbrev pub is_url_name : List ℕ → Bool
-is_url_name local = is_one_of url_names local || is_one_of more_url_names local
+is_url_name local = is_one_of url_names local
 
 -- schemes by which a browser runs a URL as a script
 unfoldable pub script_schemes : List (List ℕ)

@@ -9,6 +9,7 @@ ghost use Rattle.h5_round_trip.specs.Readable.{is_name_byte};
 ghost use Rattle.h5_clean.specs.Policies.{acting_names, as_left, attributes_left, bare, classes_left, fragment_prefixed, id_list_names, id_names, is_name, is_prefix_byte, is_refused, keeps, left_behind, link_prefixed, may_act, may_stay, named_behind, prefix_of, prefixed, refused_names, rel_of, sets, stays, value_left, with_classes, words_prefixed};
 ghost use Rattle.h5_clean.specs.Texts.{readable};
 
+use super::lists::{ACTING, ID_LISTS, IDS, REFUSED, is_among};
 use super::name_list::begins_with;
 use super::policy::Policy;
 use super::texts::{readable, text_of_bytes};
@@ -72,22 +73,7 @@ fn sets<P: Policy>(policy: &P, element: &str, local: &str) -> bool
 fn is_refused_name(local: &str) -> bool
     ensures { result ≡ is_one_of refused_names local.now }
 {
-    matches!(
-        local,
-        "srcdoc"
-            | "style"
-            | "nonce"
-            | "is"
-            | "slot"
-            | "srcset"
-            | "imagesrcset"
-            | "http-equiv"
-            | "xlink:href"
-            | "ping"
-            | "attributionsrc"
-            | "archive"
-            | "usemap"
-    )
+    is_among(&REFUSED, local)
 }
 
 /// Returns true if an attribute of this name is never allowed, regardless of the policy: event handlers, styles and
@@ -103,10 +89,7 @@ pub fn is_refused(local: &str) -> bool
 fn is_acting_name(local: &str) -> bool
     ensures { result ≡ is_one_of acting_names local.now }
 {
-    matches!(
-        local,
-        "for" | "form" | "popovertarget" | "commandfor" | "interestfor"
-    )
+    is_among(&ACTING, local)
 }
 
 /// Returns true if an attribute of this name is allowed with this prefix of ids. An attribute by which an element acts
@@ -129,17 +112,7 @@ fn may_stay(prefix: &str, local: &str) -> bool
 fn is_id_name(local: &str) -> bool
     ensures { result ≡ is_one_of id_names local.now }
 {
-    matches!(
-        local,
-        "id" | "name"
-            | "for"
-            | "form"
-            | "list"
-            | "popovertarget"
-            | "commandfor"
-            | "interestfor"
-            | "aria-activedescendant"
-    )
+    is_among(&IDS, local)
 }
 
 // The attribute refers to several ids.
@@ -147,18 +120,7 @@ fn is_id_name(local: &str) -> bool
 fn is_id_list_name(local: &str) -> bool
     ensures { result ≡ is_one_of id_list_names local.now }
 {
-    matches!(
-        local,
-        "headers"
-            | "itemref"
-            | "aria-labelledby"
-            | "aria-describedby"
-            | "aria-controls"
-            | "aria-owns"
-            | "aria-details"
-            | "aria-flowto"
-            | "aria-errormessage"
-    )
+    is_among(&ID_LISTS, local)
 }
 
 fn is_prefix_byte(byte: u8) -> bool

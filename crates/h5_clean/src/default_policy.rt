@@ -3,9 +3,11 @@ ghost use Rattle.std.specs.Prelude.{◌≡◌};
 ghost use Rattle.std.specs.Char.{is_ascii_whitespace};
 ghost use Rattle.std.specs.List.{list_any};
 ghost use Rattle.h5_tables.specs.TagSets.{is_one_of};
-ghost use Rattle.h5_clean.specs.DefaultPolicy.{dropped_names, global_names, aligned_names, citing_names, is_good, is_language, keepings, keeps_attribute, keeps_by, keeps_of_many, more_dropped_names, default_rules, unnamed};
+ghost use Rattle.h5_clean.specs.DefaultPolicy.{dropped_names, global_names, aligned_names, citing_names, is_good, is_language, keepings, keeps_attribute, keeps_by, keeps_of_many, default_rules, unnamed};
+ghost use Rattle.h5_clean.specs.Lists.{keepings_of};
 
 use super::kind::{Kind, kind_of};
+use super::lists::{ALIGNED, CITING, DROPPED, GLOBAL, KEEPINGS, UNNAMED, is_among};
 use super::place::Around;
 use super::policy::Policy;
 use super::urls::{is_image, is_link};
@@ -17,58 +19,32 @@ use super::urls::{is_image, is_link};
 #[derive(Clone, Copy, Debug, Default)]
 pub struct DefaultPolicy;
 
+// Returns true if one of the lists keeps this attribute of the element.
+fn is_kept_in(lists: &[(&str, &[&str])], element: &str, attribute: &str) -> bool
+    ensures { result ≡ keeps_by (keepings_of lists.now) element.now attribute.now }
+{
+    for &(name, attributes) in lists {
+        if name == element {
+            return is_among(attributes, attribute);
+        }
+    }
+    false
+}
+
 // The element has a kind, but isn't allowed.
 #[tactic(auto, unfolding(crate::specs::DefaultPolicy::unnamed))]
 fn is_unnamed(name: &str) -> bool
     ensures { result ≡ is_one_of unnamed name.now }
 {
-    matches!(
-        name,
-        "center"
-            | "dialog"
-            | "dir"
-            | "fieldset"
-            | "big"
-            | "font"
-            | "label"
-            | "meter"
-            | "output"
-            | "progress"
-            | "menu"
-    )
+    is_among(&UNNAMED, name)
 }
 
-// The element is dropped with its content: a script, a style, a frame and others.
+// The element is dropped with its content.
 #[tactic(auto, unfolding(crate::specs::DefaultPolicy::dropped_names))]
 fn is_dropped(name: &str) -> bool
     ensures { result ≡ is_one_of dropped_names name.now }
 {
-    matches!(
-        name,
-        "script"
-            | "style"
-            | "template"
-            | "iframe"
-            | "object"
-            | "embed"
-            | "applet"
-            | "noscript"
-            | "noembed"
-            | "noframes"
-            | "xmp"
-            | "plaintext"
-    )
-}
-
-// The element is dropped with its content, which is text or media that isn't part of the page's text.
-#[tactic(auto, unfolding(crate::specs::DefaultPolicy::more_dropped_names))]
-fn is_also_dropped(name: &str) -> bool
-    ensures { result ≡ is_one_of more_dropped_names name.now }
-{
-    matches!(
-        name,
-        "textarea" | "title" | "select" | "head" | "frameset" | "audio" | "video" | "canvas"
-    )
+    is_among(&DROPPED, name)
 }
 
 // Any element keeps this attribute.
@@ -76,7 +52,7 @@ fn is_also_dropped(name: &str) -> bool
 fn is_global(attribute: &str) -> bool
     ensures { result ≡ is_one_of global_names attribute.now }
 {
-    matches!(attribute, "title" | "lang" | "dir")
+    is_among(&GLOBAL, attribute)
 }
 
 // The element keeps this attribute, which only some do.
@@ -84,19 +60,7 @@ fn is_global(attribute: &str) -> bool
 fn is_kept_by(element: &str, attribute: &str) -> bool
     ensures { result ≡ keeps_by keepings element.now attribute.now }
 {
-    match element {
-        "a" => attribute == "href",
-        "img" => matches!(attribute, "src" | "alt" | "width" | "height"),
-        "td" => matches!(attribute, "colspan" | "rowspan" | "headers"),
-        "th" => matches!(attribute, "colspan" | "rowspan" | "headers" | "scope"),
-        "col" | "colgroup" => attribute == "span",
-        "ol" => matches!(attribute, "start" | "reversed" | "type"),
-        "li" | "data" => attribute == "value",
-        "time" | "del" | "ins" => attribute == "datetime",
-        "details" => attribute == "open",
-        "code" => attribute == "class",
-        _ => false,
-    }
+    is_kept_in(&KEEPINGS, element, attribute)
 }
 
 // The element keeps `align`.
@@ -104,10 +68,7 @@ fn is_kept_by(element: &str, attribute: &str) -> bool
 fn is_aligned(element: &str) -> bool
     ensures { result ≡ is_one_of aligned_names element.now }
 {
-    matches!(
-        element,
-        "td" | "th" | "p" | "div" | "img" | "h1" | "h2" | "h3" | "h4" | "h5" | "h6"
-    )
+    is_among(&ALIGNED, element)
 }
 
 // The element keeps `cite`.
@@ -115,7 +76,7 @@ fn is_aligned(element: &str) -> bool
 fn is_citing(element: &str) -> bool
     ensures { result ≡ is_one_of citing_names element.now }
 {
-    matches!(element, "blockquote" | "q" | "del" | "ins")
+    is_among(&CITING, element)
 }
 
 // The element keeps this attribute, which many do.
@@ -166,7 +127,7 @@ impl Policy for DefaultPolicy {
     }
 
     fn drops(&self, element: &str) -> bool {
-        is_dropped(element) || is_also_dropped(element)
+        is_dropped(element)
     }
 
     fn keeps_attribute(&self, element: &str, attribute: &str, value: &str) -> bool {

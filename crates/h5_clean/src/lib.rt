@@ -7,7 +7,7 @@
 //! `is_refused`.
 //!
 //! `clean` has the functions, `policy` the trait, `default_policy` a policy for texts, and `allow_list` one that is a
-//! table, over `name_list`; `urls` has the schemes of URLs. `cleaner` is a serializer that passes what is allowed on to
+//! table, over `name_list`; `lists` has the names that the definitions name; `urls` has the schemes of URLs. `cleaner` is a serializer that passes what is allowed on to
 //! the one that writes HTML; `attributes` and `texts` have what is left of these, and `elements` the open elements.
 //!
 //! The crate depends on `h5_driver` for parsing, on `h5_arena` and `h5_serialize`, and on the plain fragments of
@@ -23,6 +23,7 @@ mod default_policy;
 mod elements;
 mod kind;
 pub mod laws;
+mod lists;
 mod name_list;
 mod place;
 mod policy;

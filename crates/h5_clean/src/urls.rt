@@ -3,10 +3,11 @@ ghost use Rattle.std.specs.Prelude.{◌≡◌, ◌&&◌, ◌++◌, List, Some, [
 ghost use Rattle.std.specs.List.{list_any};
 ghost use Rattle.std.specs.Option.{option_eq};
 ghost use Rattle.h5_names.specs.AttributeText.{is_same_text};
-ghost use Rattle.h5_tables.specs.TagSets.{is_one_of};
 ghost use Rattle.h5_clean.specs.AllowLists.{leads_well};
 ghost use Rattle.h5_clean.specs.DefaultPolicy.{has_scheme_of, image_schemes, link_schemes};
-ghost use Rattle.h5_clean.specs.Urls.{behind_controls, is_fragment_first, is_scheme_byte, is_script, is_skipped, is_url_name, more_url_names, scheme_behind, scheme_of, scheme_of_visible, url_names};
+ghost use Rattle.h5_clean.specs.Urls.{behind_controls, is_fragment_first, is_scheme_byte, is_script, is_skipped, is_url_name, scheme_behind, scheme_of, scheme_of_visible};
+
+use super::lists::{URLS, is_among};
 
 // A byte that is skipped in a URL: TAB, LF and CR.
 fn is_skipped(byte: u8) -> bool
@@ -145,41 +146,12 @@ pub fn leads_well(url: &str, relative: bool, schemes: &[String]) -> bool
     }
 }
 
-// The attribute holds a URL.
-#[tactic(auto, unfolding(crate::specs::Urls::url_names))]
-fn is_early_url_name(attribute: &str) -> bool
-    ensures { result ≡ is_one_of url_names attribute.now }
-{
-    matches!(
-        attribute,
-        "href"
-            | "src"
-            | "cite"
-            | "action"
-            | "background"
-            | "classid"
-            | "codebase"
-            | "data"
-            | "dynsrc"
-            | "formaction"
-    )
-}
-
-#[tactic(auto, unfolding(crate::specs::Urls::more_url_names))]
-fn is_late_url_name(attribute: &str) -> bool
-    ensures { result ≡ is_one_of more_url_names attribute.now }
-{
-    matches!(
-        attribute,
-        "icon" | "itemid" | "itemtype" | "longdesc" | "lowsrc" | "manifest" | "poster" | "profile"
-    )
-}
-
 /// Returns true if an attribute of this name holds a URL in HTML.
+#[tactic(auto, unfolding(crate::specs::Urls::url_names))]
 pub fn is_url_name(attribute: &str) -> bool
     ensures { result ≡ is_url_name attribute.now }
 {
-    is_early_url_name(attribute) || is_late_url_name(attribute)
+    is_among(&URLS, attribute)
 }
 
 // A URL without leading C0 controls and spaces has a scheme by which a browser runs it as a script.

@@ -20,6 +20,7 @@ use super::put::{Notice, insert_new_comment, insert_new_element, insert_text};
 use h5_interface::TreeSink;
 use h5_names::{Attribute, KnownName, LocalName, Namespace, QualName};
 use h5_state::{State, current_node, has_open_template, push_open, root_node};
+use h5_token::Tag;
 use std::alloc::AllocError;
 
 /// Returns the HTML name with this local name.
@@ -110,6 +111,32 @@ pub fn insert_and_pop_element<S: TreeSink>(
     let name = html_qual_name(local);
     insert_new_element(sink, &place, name, attrs, had_duplicate_attributes, notice)?;
     Ok(())
+}
+
+/// Inserts the HTML element of a start tag; it becomes the current node. Fails with `AllocError` if an allocation fails.
+pub fn insert_tag<S: TreeSink>(
+    sink: &mut S,
+    state: &mut State<S::Handle>,
+    tag: Tag,
+) -> Result<(), AllocError>
+    requires { IsSound S.TreeSink sink.old state.old }
+    ensures { MakesIfOk S.TreeSink (InsertElement tag.name (attribute_texts tag.attrs.items) tag.had_duplicate_attributes) sink.old state.old sink.new state.new result }
+{
+    let attrs = tag.attrs;
+    insert_element(sink, state, tag.name, attrs, tag.had_duplicate_attributes)
+}
+
+/// Inserts the HTML element of a start tag, without pushing it. Fails with `AllocError` if an allocation fails.
+pub fn insert_and_pop_tag<S: TreeSink>(
+    sink: &mut S,
+    state: &State<S::Handle>,
+    tag: Tag,
+) -> Result<(), AllocError>
+    requires { IsSound S.TreeSink sink.old state.now }
+    ensures { MakesIfOk S.TreeSink (InsertAndPopElement tag.name (attribute_texts tag.attrs.items) tag.had_duplicate_attributes) sink.old state.now sink.new state.now result }
+{
+    let attrs = tag.attrs;
+    insert_and_pop_element(sink, state, tag.name, attrs, tag.had_duplicate_attributes)
 }
 
 /// Inserts an HTML `form`, without pushing it; it becomes the form element. Fails with `AllocError` if an allocation

@@ -73,8 +73,8 @@ pub use implied_ends::{
 };
 pub use insert::{
     append_comment, append_comment_to_doc, append_comment_to_html, append_text, create_root,
-    html_qual_name, insert_and_pop_element, insert_and_pop_form, insert_element, insert_form,
-    insert_head, insert_phantom, insert_script,
+    html_qual_name, insert_and_pop_element, insert_and_pop_form, insert_and_pop_tag,
+    insert_element, insert_form, insert_head, insert_phantom, insert_script, insert_tag,
 };
 pub use leaving_foreign::{
     EndSearch, is_current_in_any_case, leave_foreign_content, pop_until_named_in_any_case,

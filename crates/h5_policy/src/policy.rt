@@ -134,6 +134,9 @@ fn in_lower_case(alloc: Global, name: &str) -> Result<&str, PolicyFault> {
 // The name in an item of a list.
 fn name_of<'a>(alloc: Global, key: &str, item: &'a Value) -> Result<&'a str, PolicyFault> {
     match item {
+        Value::String(name) if name.is_empty() => {
+            Err(wrong(format!(in alloc; "`{key}` has an empty name")))
+        }
         Value::String(name) => in_lower_case(alloc, name.as_str()),
         _ => Err(mismatch(alloc, key, "an array of strings")),
     }

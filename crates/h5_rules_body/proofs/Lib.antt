@@ -1,3 +1,4 @@
+pub mod ArmLaws
 pub mod EndLaws
 pub mod HiddenLaws
 pub mod RuleLaws

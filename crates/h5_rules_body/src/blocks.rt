@@ -9,7 +9,7 @@ ghost use Rattle.h5_state.specs.Turn.{TakesTag};
 
 use h5_insertion::{
     close_p_element, close_p_element_in_button_scope, expect_to_close, find_heading_in_scope,
-    find_in_default_scope, generate_implied_end_tags, insert_element, insert_phantom,
+    find_in_default_scope, generate_implied_end_tags, insert_phantom, insert_tag,
     is_current_heading, pop_heading, pop_until_heading,
 };
 use h5_interface::TreeSink;
@@ -32,8 +32,7 @@ pub(crate) fn in_body_start_block<S: TreeSink>(
 {
     let expected = close_p_element_in_button_scope(sink, state);
     expect_to_close(sink, state, expected);
-    let attrs = tag.attrs;
-    insert_element(sink, state, tag.name, attrs, tag.had_duplicate_attributes)?;
+    insert_tag(sink, state, tag)?;
     Ok(ProcessResult::Done)
 }
 
@@ -48,8 +47,7 @@ pub(crate) fn in_body_start_preformatted<S: TreeSink>(
 {
     let expected = close_p_element_in_button_scope(sink, state);
     expect_to_close(sink, state, expected);
-    let attrs = tag.attrs;
-    insert_element(sink, state, tag.name, attrs, tag.had_duplicate_attributes)?;
+    insert_tag(sink, state, tag)?;
     set_ignore_lf(sink, state);
     set_frameset_not_ok(sink, state);
     Ok(ProcessResult::Done)
@@ -80,8 +78,7 @@ pub(crate) fn in_body_start_heading<S: TreeSink>(
     expect_to_close(sink, state, expected);
     check_heading(sink, state);
     pop_heading(sink, state);
-    let attrs = tag.attrs;
-    insert_element(sink, state, tag.name, attrs, tag.had_duplicate_attributes)?;
+    insert_tag(sink, state, tag)?;
     Ok(ProcessResult::Done)
 }
 

@@ -115,7 +115,12 @@ fn error_unless_closing_one<S: TreeSink>(sink: &mut S, state: &State<S::Handle>,
     ensures quiet { closes_one tag.now.name (world_of S.TreeSink sink.old state.now) ≡ true → errors_of S.TreeSink sink.new ≡ errors_of S.TreeSink sink.old }
 {
     if !closes_one(sink, state, &tag.name) {
-        report_tag(sink, state, TreeError::FormattingElementNotCurrent, tag);
+        let error = if is_named_listed(sink, state, &tag.name) {
+            TreeError::FormattingElementNotCurrent
+        } else {
+            TreeError::unexpected_tag(tag.kind, state.mode)
+        };
+        report_tag(sink, state, error, tag);
     }
 }
 

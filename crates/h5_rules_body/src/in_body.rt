@@ -37,7 +37,7 @@ use super::select::{
 };
 use h5_insertion::{
     ItemKind, add_attrs_to_second, append_comment, close_p_element_in_button_scope,
-    expect_to_close, has_template_mode, insert_element, reconstruct_active_formatting_elements,
+    expect_to_close, has_template_mode, insert_tag, reconstruct_active_formatting_elements,
     remove_body,
 };
 use h5_interface::TreeSink;
@@ -81,8 +81,7 @@ fn in_body_start_frameset<S: TreeSink>(sink: &mut S, state: &mut State<S::Handle
     unexpected_tag(sink, state, &tag);
     if is_frameset_ok(sink, state) && has_body_second(sink, state) {
         remove_body(sink, state)?;
-        let attrs = tag.attrs;
-        insert_element(sink, state, tag.name, attrs, tag.had_duplicate_attributes)?;
+        insert_tag(sink, state, tag)?;
         set_mode(sink, state, InsertionMode::InFrameset);
         Ok(ProcessResult::Done)
     } else {
@@ -164,8 +163,7 @@ fn in_body_start_other<S: TreeSink>(sink: &mut S, state: &mut State<S::Handle>, 
     ensures { TakesTag S.TreeSink in_body_start_other tag sink.old state.old sink.new state.new result }
 {
     reconstruct_active_formatting_elements(sink, state)?;
-    let attrs = tag.attrs;
-    insert_element(sink, state, tag.name, attrs, tag.had_duplicate_attributes)?;
+    insert_tag(sink, state, tag)?;
     Ok(ProcessResult::Done)
 }
 
@@ -179,8 +177,7 @@ fn in_body_start_table<S: TreeSink>(sink: &mut S, state: &mut State<S::Handle>, 
         let expected = close_p_element_in_button_scope(sink, state);
         expect_to_close(sink, state, expected);
     }
-    let attrs = tag.attrs;
-    insert_element(sink, state, tag.name, attrs, tag.had_duplicate_attributes)?;
+    insert_tag(sink, state, tag)?;
     set_frameset_not_ok(sink, state);
     set_mode(sink, state, InsertionMode::InTable);
     Ok(ProcessResult::Done)

@@ -12,7 +12,8 @@ use super::hidden::is_type_hidden;
 use super::select::is_option_in_scope;
 use h5_insertion::{
     close_p_element_in_button_scope, expect_to_close, find_in_default_scope,
-    generate_implied_end_in_select, insert_and_pop_element, reconstruct_active_formatting_elements,
+    generate_implied_end_in_select, insert_and_pop_element, insert_and_pop_tag,
+    reconstruct_active_formatting_elements,
 };
 use h5_interface::TreeSink;
 use h5_names::{KnownName, LocalName};
@@ -46,8 +47,7 @@ pub fn in_body_start_part<S: TreeSink>(sink: &mut S, state: &mut State<S::Handle
     requires { IsSound S.TreeSink sink.old state.old }
     ensures { TakesTag S.TreeSink in_body_start_part tag sink.old state.old sink.new state.new result }
 {
-    let attrs = tag.attrs;
-    insert_and_pop_element(sink, state, tag.name, attrs, tag.had_duplicate_attributes)?;
+    insert_and_pop_tag(sink, state, tag)?;
     Ok(ProcessResult::DoneAckSelfClosing)
 }
 
@@ -65,8 +65,7 @@ fn insert_input<S: TreeSink>(
 {
     let hidden = is_type_hidden(tag.attrs.as_slice());
     reconstruct_active_formatting_elements(sink, state)?;
-    let attrs = tag.attrs;
-    insert_and_pop_element(sink, state, tag.name, attrs, tag.had_duplicate_attributes)?;
+    insert_and_pop_tag(sink, state, tag)?;
     if !hidden {
         set_frameset_not_ok(sink, state);
     }
@@ -120,8 +119,7 @@ pub fn in_body_start_hr<S: TreeSink>(sink: &mut S, state: &mut State<S::Handle>,
     let in_select = in_scope_named(sink, state, KnownName::Select);
     generate_implied_end_in_select(sink, state);
     check_rule(sink, state, in_select);
-    let attrs = tag.attrs;
-    insert_and_pop_element(sink, state, tag.name, attrs, tag.had_duplicate_attributes)?;
+    insert_and_pop_tag(sink, state, tag)?;
     set_frameset_not_ok(sink, state);
     Ok(ProcessResult::DoneAckSelfClosing)
 }

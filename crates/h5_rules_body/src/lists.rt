@@ -12,7 +12,7 @@ ghost use Rattle.h5_rules.specs.stack.Expected.{is_expected};
 
 use h5_insertion::{
     ItemKind, close_list_item, close_p_element_in_button_scope, expect_to_close,
-    find_in_default_scope, find_li_in_list_item_scope, insert_element,
+    find_in_default_scope, find_li_in_list_item_scope, insert_tag,
 };
 use h5_interface::TreeSink;
 use h5_names::{KnownName, LocalName};
@@ -38,8 +38,7 @@ pub(crate) fn in_body_start_item<S: TreeSink>(
     expect_to_close(sink, state, item_expected);
     let p_expected = close_p_element_in_button_scope(sink, state);
     expect_to_close(sink, state, p_expected);
-    let attrs = tag.attrs;
-    insert_element(sink, state, tag.name, attrs, tag.had_duplicate_attributes)?;
+    insert_tag(sink, state, tag)?;
     Ok(ProcessResult::Done)
 }
 

@@ -12,8 +12,7 @@ ghost use Rattle.h5_rules.specs.stack.Expected.{is_expected};
 
 use h5_insertion::{
     clear_active_formatting_to_marker, expect_to_close, find_in_default_scope,
-    generate_implied_end_tags, insert_element, insert_marker,
-    reconstruct_active_formatting_elements,
+    generate_implied_end_tags, insert_marker, insert_tag, reconstruct_active_formatting_elements,
 };
 use h5_interface::TreeSink;
 use h5_names::LocalName;
@@ -33,8 +32,7 @@ pub(crate) fn in_body_start_marked<S: TreeSink>(
     ensures { TakesTag S.TreeSink in_body_start_marked tag sink.old state.old sink.new state.new result }
 {
     reconstruct_active_formatting_elements(sink, state)?;
-    let attrs = tag.attrs;
-    insert_element(sink, state, tag.name, attrs, tag.had_duplicate_attributes)?;
+    insert_tag(sink, state, tag)?;
     insert_marker(sink, state)?;
     set_frameset_not_ok(sink, state);
     Ok(ProcessResult::Done)

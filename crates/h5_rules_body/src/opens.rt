@@ -6,7 +6,7 @@ ghost use Rattle.h5_rules.specs.modes.InBody.{in_body_opens};
 ghost use Rattle.h5_rules.specs.Rows.{apply_all};
 ghost use Rattle.h5_state.specs.Steps.{IsSound, errors_of, world_of};
 
-use h5_insertion::{insert_element, reconstruct_active_formatting_elements};
+use h5_insertion::{insert_tag, reconstruct_active_formatting_elements};
 use h5_interface::TreeSink;
 use h5_state::{State, set_frameset_not_ok};
 use h5_token::Tag;
@@ -26,8 +26,7 @@ pub(crate) fn open_element<S: TreeSink>(
     ensures sound { IsSound S.TreeSink sink.new state.new }
 {
     reconstruct_active_formatting_elements(sink, state)?;
-    let attrs = tag.attrs;
-    insert_element(sink, state, tag.name, attrs, tag.had_duplicate_attributes)
+    insert_tag(sink, state, tag)
 }
 
 /// As `open_element`; the frameset-ok flag is set to "not ok".

@@ -5,7 +5,7 @@ ghost use Rattle.h5_state.specs.Steps.{IsSound};
 ghost use Rattle.h5_state.specs.Turn.{TakesTag};
 
 use h5_insertion::{
-    close_p_element_in_button_scope, expect_to_close, insert_element,
+    close_p_element_in_button_scope, expect_to_close, insert_tag,
     reconstruct_active_formatting_elements,
 };
 use h5_interface::TreeSink;
@@ -26,8 +26,7 @@ pub fn in_body_start_plaintext<S: TreeSink>(
 {
     let expected = close_p_element_in_button_scope(sink, state);
     expect_to_close(sink, state, expected);
-    let attrs = tag.attrs;
-    insert_element(sink, state, tag.name, attrs, tag.had_duplicate_attributes)?;
+    insert_tag(sink, state, tag)?;
     set_answer(sink, state, TokenSinkResult::Plaintext);
     Ok(ProcessResult::Answer)
 }
@@ -55,8 +54,7 @@ pub fn in_body_start_xmp<S: TreeSink>(sink: &mut S, state: &mut State<S::Handle>
     expect_to_close(sink, state, expected);
     reconstruct_active_formatting_elements(sink, state)?;
     set_frameset_not_ok(sink, state);
-    let attrs = tag.attrs;
-    insert_element(sink, state, tag.name, attrs, tag.had_duplicate_attributes)?;
+    insert_tag(sink, state, tag)?;
     to_raw_text_mode(sink, state, RawKind::Rawtext);
     Ok(ProcessResult::Answer)
 }
@@ -100,7 +98,6 @@ pub fn in_body_start_noscript<S: TreeSink>(
         return parse_raw_data(sink, state, tag, RawKind::Rawtext);
     }
     reconstruct_active_formatting_elements(sink, state)?;
-    let attrs = tag.attrs;
-    insert_element(sink, state, tag.name, attrs, tag.had_duplicate_attributes)?;
+    insert_tag(sink, state, tag)?;
     Ok(ProcessResult::Done)
 }

@@ -8,7 +8,7 @@ ghost use Rattle.h5_rules.specs.stack.Scope.{first_passes};
 ghost use Rattle.h5_tables.specs.TagSets.{is_html_named};
 ghost use Rattle.h5_rules.specs.World.{names_of};
 
-use h5_insertion::{generate_implied_end_tags, insert_element};
+use h5_insertion::{generate_implied_end_tags, insert_tag};
 use h5_interface::TreeSink;
 use h5_names::{KnownName, LocalName};
 use h5_state::{
@@ -54,8 +54,7 @@ pub(crate) fn in_body_start_ruby_base<S: TreeSink>(
         generate_implied_end_tags(sink, state);
     }
     check_in_ruby(sink, state, &tag);
-    let attrs = tag.attrs;
-    insert_element(sink, state, tag.name, attrs, tag.had_duplicate_attributes)?;
+    insert_tag(sink, state, tag)?;
     Ok(ProcessResult::Done)
 }
 
@@ -73,7 +72,6 @@ pub(crate) fn in_body_start_ruby_text<S: TreeSink>(
         generate_implied_end_except(sink, state, &rtc);
     }
     check_in_ruby_or_rtc(sink, state, &tag);
-    let attrs = tag.attrs;
-    insert_element(sink, state, tag.name, attrs, tag.had_duplicate_attributes)?;
+    insert_tag(sink, state, tag)?;
     Ok(ProcessResult::Done)
 }

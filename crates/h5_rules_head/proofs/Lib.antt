@@ -1,1 +1,3 @@
+pub mod DefaultLaws
 pub mod HeadLaws
+pub mod KnownTexts

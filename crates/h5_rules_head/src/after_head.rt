@@ -18,7 +18,7 @@ use super::ignored::ignored_tag;
 use super::in_head_start_tags::in_head_start_tag;
 use super::template::in_head_end_template;
 use h5_insertion::{
-    append_comment, append_text, insert_element, insert_phantom, known_head, push_head,
+    append_comment, append_text, insert_phantom, insert_tag, known_head, push_head,
     remove_from_stack,
 };
 use h5_interface::TreeSink;
@@ -34,8 +34,7 @@ fn after_head_start_body<S: TreeSink>(sink: &mut S, state: &mut State<S::Handle>
     requires { IsSound S.TreeSink sink.old state.old }
     ensures { TakesTag S.TreeSink after_head_start_body tag sink.old state.old sink.new state.new result }
 {
-    let attrs = tag.attrs;
-    insert_element(sink, state, tag.name, attrs, tag.had_duplicate_attributes)?;
+    insert_tag(sink, state, tag)?;
     set_frameset_not_ok(sink, state);
     set_mode(sink, state, InsertionMode::InBody);
     Ok(ProcessResult::Done)
@@ -50,8 +49,7 @@ fn after_head_start_frameset<S: TreeSink>(
     requires { IsSound S.TreeSink sink.old state.old }
     ensures { TakesTag S.TreeSink after_head_start_frameset tag sink.old state.old sink.new state.new result }
 {
-    let attrs = tag.attrs;
-    insert_element(sink, state, tag.name, attrs, tag.had_duplicate_attributes)?;
+    insert_tag(sink, state, tag)?;
     set_mode(sink, state, InsertionMode::InFrameset);
     Ok(ProcessResult::Done)
 }

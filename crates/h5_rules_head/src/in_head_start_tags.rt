@@ -9,7 +9,7 @@ use super::html_start_tag::in_body_start_html;
 use super::ignored::ignored_tag;
 use super::raw_text::{parse_raw_data, to_raw_text_mode};
 use super::template::in_head_start_template;
-use h5_insertion::{insert_and_pop_element, insert_element, insert_script};
+use h5_insertion::{insert_and_pop_tag, insert_script, insert_tag};
 use h5_interface::TreeSink;
 use h5_names::KnownName;
 use h5_state::{State, Turn, is_scripting, pop, set_again, set_answer, set_mode};
@@ -22,8 +22,7 @@ fn in_head_start_link<S: TreeSink>(sink: &mut S, state: &mut State<S::Handle>, t
     requires { IsSound S.TreeSink sink.old state.old }
     ensures { TakesTag S.TreeSink in_head_start_link tag sink.old state.old sink.new state.new result }
 {
-    let attrs = tag.attrs;
-    insert_and_pop_element(sink, state, tag.name, attrs, tag.had_duplicate_attributes)?;
+    insert_and_pop_tag(sink, state, tag)?;
     Ok(ProcessResult::DoneAckSelfClosing)
 }
 
@@ -33,8 +32,7 @@ fn in_head_start_meta<S: TreeSink>(sink: &mut S, state: &mut State<S::Handle>, t
     ensures { TakesTag S.TreeSink in_head_start_meta tag sink.old state.old sink.new state.new result }
 {
     let encoding = copy_named_encoding(state.alloc, &tag)?;
-    let attrs = tag.attrs;
-    insert_and_pop_element(sink, state, tag.name, attrs, tag.had_duplicate_attributes)?;
+    insert_and_pop_tag(sink, state, tag)?;
     match encoding {
         None => Ok(ProcessResult::DoneAckSelfClosing),
         Some(encoding) => {
@@ -53,8 +51,7 @@ fn in_head_start_noscript<S: TreeSink>(sink: &mut S, state: &mut State<S::Handle
     if is_scripting(sink, state) {
         return parse_raw_data(sink, state, tag, RawKind::Rawtext);
     }
-    let attrs = tag.attrs;
-    insert_element(sink, state, tag.name, attrs, tag.had_duplicate_attributes)?;
+    insert_tag(sink, state, tag)?;
     set_mode(sink, state, InsertionMode::InHeadNoscript);
     Ok(ProcessResult::Done)
 }

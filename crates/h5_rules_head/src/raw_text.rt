@@ -7,7 +7,7 @@ ghost use Rattle.h5_rules.specs.modes.Shared.{inserts, raw_text};
 ghost use Rattle.h5_state.specs.Steps.{IsSound, errors_of, world_of};
 ghost use Rattle.h5_state.specs.Turn.{TakesTag};
 
-use h5_insertion::insert_element;
+use h5_insertion::insert_tag;
 use h5_interface::TreeSink;
 use h5_state::{State, Turn, save_mode, set_answer, set_mode};
 use h5_tables::{InsertionMode, ProcessResult};
@@ -37,8 +37,7 @@ pub fn parse_raw_data<S: TreeSink>(
     requires { IsSound S.TreeSink sink.old state.old }
     ensures { TakesTag S.TreeSink (λ tag w. raw_text kind (inserts tag ∷ [])) tag sink.old state.old sink.new state.new result }
 {
-    let attrs = tag.attrs;
-    insert_element(sink, state, tag.name, attrs, tag.had_duplicate_attributes)?;
+    insert_tag(sink, state, tag)?;
     to_raw_text_mode(sink, state, kind);
     Ok(ProcessResult::Answer)
 }

@@ -6,8 +6,7 @@ ghost use Rattle.h5_state.specs.Steps.{IsOpen, IsSound};
 ghost use Rattle.h5_state.specs.Turn.{TakesTag, TakesToken};
 
 use h5_insertion::{
-    append_comment, append_text, insert_and_pop_element, insert_element, is_below_frameset,
-    is_root_alone,
+    append_comment, append_text, insert_and_pop_tag, insert_tag, is_below_frameset, is_root_alone,
 };
 use h5_interface::TreeSink;
 use h5_names::KnownName;
@@ -25,8 +24,7 @@ fn in_frameset_start_frameset<S: TreeSink>(
     requires { IsSound S.TreeSink sink.old state.old }
     ensures { TakesTag S.TreeSink in_frameset_start_frameset tag sink.old state.old sink.new state.new result }
 {
-    let attrs = tag.attrs;
-    insert_element(sink, state, tag.name, attrs, tag.had_duplicate_attributes)?;
+    insert_tag(sink, state, tag)?;
     Ok(ProcessResult::Done)
 }
 
@@ -39,8 +37,7 @@ fn in_frameset_start_frame<S: TreeSink>(
     requires { IsSound S.TreeSink sink.old state.old }
     ensures { TakesTag S.TreeSink in_frameset_start_frame tag sink.old state.old sink.new state.new result }
 {
-    let attrs = tag.attrs;
-    insert_and_pop_element(sink, state, tag.name, attrs, tag.had_duplicate_attributes)?;
+    insert_and_pop_tag(sink, state, tag)?;
     Ok(ProcessResult::DoneAckSelfClosing)
 }
 

@@ -6,7 +6,7 @@ ghost use Rattle.h5_rules.specs.Sound.{HasHtmlRoot};
 ghost use Rattle.h5_state.specs.Steps.{IsSound, world_of};
 ghost use Rattle.h5_state.specs.Turn.{TakesTag, TakesToken};
 
-use h5_insertion::{append_comment, append_text, insert_and_pop_element};
+use h5_insertion::{append_comment, append_text, insert_and_pop_tag};
 use h5_interface::TreeSink;
 use h5_names::{KnownName, LocalName};
 use h5_rules_body::step_in_body;
@@ -26,8 +26,7 @@ fn in_column_group_start_col<S: TreeSink>(
     requires { IsSound S.TreeSink sink.old state.old }
     ensures { TakesTag S.TreeSink in_column_group_start_col tag sink.old state.old sink.new state.new result }
 {
-    let attrs = tag.attrs;
-    insert_and_pop_element(sink, state, tag.name, attrs, tag.had_duplicate_attributes)?;
+    insert_and_pop_tag(sink, state, tag)?;
     Ok(ProcessResult::DoneAckSelfClosing)
 }
 

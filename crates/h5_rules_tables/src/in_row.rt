@@ -9,7 +9,7 @@ ghost use Rattle.h5_state.specs.Turn.{TakesTag, TakesToken};
 
 use super::in_table::{in_table_tag, step_in_table};
 use super::parts::{clear_to_table_row_context, has_in_table_scope};
-use h5_insertion::{insert_element, insert_marker};
+use h5_insertion::{insert_marker, insert_tag};
 use h5_interface::TreeSink;
 use h5_names::KnownName;
 use h5_rules_head::ignored_tag;
@@ -23,8 +23,7 @@ fn in_row_start_cell<S: TreeSink>(sink: &mut S, state: &mut State<S::Handle>, ta
     ensures { TakesTag S.TreeSink in_row_start_cell tag sink.old state.old sink.new state.new result }
 {
     clear_to_table_row_context(sink, state);
-    let attrs = tag.attrs;
-    insert_element(sink, state, tag.name, attrs, tag.had_duplicate_attributes)?;
+    insert_tag(sink, state, tag)?;
     set_mode(sink, state, InsertionMode::InCell);
     insert_marker(sink, state)?;
     Ok(ProcessResult::Done)

@@ -2,18 +2,18 @@
 ghost use Rattle.h5_tables.specs.TurnText.{HasText, turn_text};
 ghost use Rattle.h5_rules.specs.ByName.{by_known, of_tag};
 ghost use Rattle.h5_rules.specs.modes.InTable.{in_table, in_table_else, in_table_end, in_table_end_table, in_table_start, in_table_start_caption, in_table_start_col, in_table_start_colgroup, in_table_start_form, in_table_start_input, in_table_start_row_part, in_table_start_section, in_table_start_table, in_table_tag, in_table_text_or_null};
-ghost use Rattle.std.specs.Prelude.{◌≡◌};
+ghost use Rattle.std.specs.Prelude.{◌≡◌, [], codes, false};
 ghost use Rattle.h5_tables.specs.declared.modes.InsertionMode.TheVariants.{InTableText};
-ghost use Rattle.h5_rules.specs.Rows.{SaveMode};
+ghost use Rattle.h5_rules.specs.Rows.{InsertElement, SaveMode};
 ghost use Rattle.h5_rules.specs.Sound.{HasHtmlRoot};
-ghost use Rattle.h5_state.specs.Steps.{IsSound, Makes, world_of};
+ghost use Rattle.h5_state.specs.Steps.{IsSound, Makes, MakesIfOk, world_of};
 ghost use Rattle.h5_state.specs.Turn.{TakesTag, TakesToken};
 
 use super::foster::foster_parent_in_body;
 use super::parts::clear_to_table_context;
 use h5_insertion::{
-    append_comment, find_in_table_scope, insert_and_pop_element, insert_and_pop_form,
-    insert_element, insert_marker, insert_phantom, is_current_table_outer, reset_insertion_mode,
+    append_comment, find_in_table_scope, insert_and_pop_form, insert_and_pop_tag, insert_marker,
+    insert_phantom, insert_tag, is_current_table_outer, reset_insertion_mode,
 };
 use h5_interface::TreeSink;
 use h5_names::{KnownName, LocalName};
@@ -25,6 +25,7 @@ use h5_state::{
 };
 use h5_tables::{InsertionMode, ProcessResult, Token, TreeError};
 use h5_token::{Tag, TagKind};
+use std::alloc::AllocError;
 
 /// Begins a text of the table: saves the mode, and returns the one in which the text is handled.
 pub fn begin_table_text<S: TreeSink>(sink: &S, state: &mut State<S::Handle>) -> InsertionMode
@@ -64,8 +65,7 @@ fn in_table_start_caption<S: TreeSink>(sink: &mut S, state: &mut State<S::Handle
 {
     clear_to_table_context(sink, state);
     insert_marker(sink, state)?;
-    let attrs = tag.attrs;
-    insert_element(sink, state, tag.name, attrs, tag.had_duplicate_attributes)?;
+    insert_tag(sink, state, tag)?;
     set_mode(sink, state, InsertionMode::InCaption);
     Ok(ProcessResult::Done)
 }
@@ -80,10 +80,20 @@ fn in_table_start_colgroup<S: TreeSink>(
     ensures { TakesTag S.TreeSink in_table_start_colgroup tag sink.old state.old sink.new state.new result }
 {
     clear_to_table_context(sink, state);
-    let attrs = tag.attrs;
-    insert_element(sink, state, tag.name, attrs, tag.had_duplicate_attributes)?;
+    insert_tag(sink, state, tag)?;
     set_mode(sink, state, InsertionMode::InColumnGroup);
     Ok(ProcessResult::Done)
+}
+
+// Inserts a column group that has no tag.
+fn insert_column_group<S: TreeSink>(
+    sink: &mut S,
+    state: &mut State<S::Handle>,
+) -> Result<(), AllocError>
+    requires { IsSound S.TreeSink sink.old state.old }
+    ensures { MakesIfOk S.TreeSink (InsertElement (codes "colgroup") [] false) sink.old state.old sink.new state.new result }
+{
+    insert_phantom(sink, state, KnownName::Colgroup)
 }
 
 // A start tag `col`: a column group is inserted for it.
@@ -92,7 +102,7 @@ fn in_table_start_col<S: TreeSink>(sink: &mut S, state: &mut State<S::Handle>, t
     ensures { TakesTag S.TreeSink in_table_start_col tag sink.old state.old sink.new state.new result }
 {
     clear_to_table_context(sink, state);
-    insert_phantom(sink, state, KnownName::Colgroup)?;
+    insert_column_group(sink, state)?;
     set_again(sink, state, Token::Tag(tag));
     Ok(ProcessResult::Reprocess(InsertionMode::InColumnGroup))
 }
@@ -103,8 +113,7 @@ fn in_table_start_section<S: TreeSink>(sink: &mut S, state: &mut State<S::Handle
     ensures { TakesTag S.TreeSink in_table_start_section tag sink.old state.old sink.new state.new result }
 {
     clear_to_table_context(sink, state);
-    let attrs = tag.attrs;
-    insert_element(sink, state, tag.name, attrs, tag.had_duplicate_attributes)?;
+    insert_tag(sink, state, tag)?;
     set_mode(sink, state, InsertionMode::InTableBody);
     Ok(ProcessResult::Done)
 }
@@ -152,8 +161,7 @@ fn in_table_start_input<S: TreeSink>(sink: &mut S, state: &mut State<S::Handle>,
 {
     if is_type_hidden(tag.attrs.as_slice()) {
         report_tag(sink, state, TreeError::HiddenInputInTable, &tag);
-        let attrs = tag.attrs;
-        insert_and_pop_element(sink, state, tag.name, attrs, tag.had_duplicate_attributes)?;
+        insert_and_pop_tag(sink, state, tag)?;
         Ok(ProcessResult::DoneAckSelfClosing)
     } else {
         foster_parent_in_body(sink, state, Token::Tag(tag))

@@ -9,7 +9,7 @@ ghost use Rattle.h5_state.specs.Turn.{TakesTag, TakesToken};
 
 use super::in_table::{in_table_tag, step_in_table};
 use super::parts::{clear_to_table_body_context, has_in_table_scope};
-use h5_insertion::{insert_element, insert_phantom};
+use h5_insertion::{insert_phantom, insert_tag};
 use h5_interface::TreeSink;
 use h5_names::{KnownName, QualName};
 use h5_rules_head::ignored_tag;
@@ -30,8 +30,7 @@ fn in_table_body_start_row<S: TreeSink>(
     ensures { TakesTag S.TreeSink in_table_body_start_row tag sink.old state.old sink.new state.new result }
 {
     clear_to_table_body_context(sink, state);
-    let attrs = tag.attrs;
-    insert_element(sink, state, tag.name, attrs, tag.had_duplicate_attributes)?;
+    insert_tag(sink, state, tag)?;
     set_mode(sink, state, InsertionMode::InRow);
     Ok(ProcessResult::Done)
 }

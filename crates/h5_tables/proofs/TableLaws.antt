@@ -5,7 +5,8 @@ use Rattle.h5_names.specs.AttributeText.{is_same_text}
 use Rattle.h5_names.specs.KnownNames.{name_text}
 use Rattle.h5_names.specs.declared.known_name.KnownName.{KnownName}
 use Rattle.h5_tables.specs.declared.svg_tags.TheConstants.{SVG_TAGS}
-use Rattle.h5_tables.specs.AdjustedNames.{Table, adjusted_svg_tag, found_at, svg_tags, table_map}
+use Rattle.h5_tables.specs.AdjustedNames.{Table, adjusted_svg_tag, found_at, svg_tags}
+use Rattle.h5_tables.specs.Tables.{table_map}
 
 -- at the row, or after it
 at_row : {A B : Type 0} (b : Bool) (f : A → B) (x : A) (later : Option A) (mapped : Option B) → mapped ≡ option_map f later

@@ -1,10 +1,15 @@
 -- Names that are adjusted inside SVG and MathML (HTML standard, section 13.2.6.1, "adjust MathML attributes", "adjust SVG attributes" and
 -- "adjust foreign attributes", and section 13.2.6.5, the table of SVG tag names). A tokenizer emits names in ASCII lower case; the tables
--- have the adjusted names.
+-- have the adjusted names. The tables are the constants that the code reads; `.ci/tables` compares them with the standard's.
 use Rattle.std.specs.Prelude.{ℕ, List, [], ◌∷◌, map, codes, Option, Some, None, if◌then◌else◌, unwrap_or}
 use Rattle.h5_names.specs.AttributeText.{AttributeText, is_same_text}
+use Rattle.h5_names.specs.KnownNames.{name_text}
 use Rattle.h5_names.specs.Urls.{xlink_text, xml_text, xmlns_text}
 use Rattle.h5_names.specs.declared.qualified.QualName.{QualName}
+use Rattle.h5_tables.specs.declared.attribute_names.TheConstants.{FOREIGN_ATTRIBUTES, MATHML_ATTRIBUTES, SVG_ATTRIBUTES}
+use Rattle.h5_tables.specs.declared.place.Place.{Place}
+use Rattle.h5_tables.specs.declared.place.Place.TheVariants.{Unqualified, XLink, Xml, Xmlns, XmlnsPrefixed}
+use Rattle.h5_tables.specs.declared.svg_tags.TheConstants.{SVG_TAGS}
 
 -- a table: the values of names
 abbrev pub Table : Type 0 → Type 0
@@ -15,155 +20,42 @@ abbrev pub found_at : {A : Type 0} → Table A → List ℕ → Option A
 found_at [] l = None
 found_at (row ∷ rows) l = if is_same_text l row.0 then Some row.1 else found_at rows l
 
--- a table with changed values
-abbrev pub table_map : {A B : Type 0} → (A → B) → Table A → Table B
-table_map f = map (λ row. (row.0, f row.1))
-
 -- SVG tags
 unfoldable pub svg_tags : Table (List ℕ)
-svg_tags =
-    (codes "altglyph", codes "altGlyph") ∷
-    (codes "altglyphdef", codes "altGlyphDef") ∷
-    (codes "altglyphitem", codes "altGlyphItem") ∷
-    (codes "animatecolor", codes "animateColor") ∷
-    (codes "animatemotion", codes "animateMotion") ∷
-    (codes "animatetransform", codes "animateTransform") ∷
-    (codes "clippath", codes "clipPath") ∷
-    (codes "feblend", codes "feBlend") ∷
-    (codes "fecolormatrix", codes "feColorMatrix") ∷
-    (codes "fecomponenttransfer", codes "feComponentTransfer") ∷
-    (codes "fecomposite", codes "feComposite") ∷
-    (codes "feconvolvematrix", codes "feConvolveMatrix") ∷
-    (codes "fediffuselighting", codes "feDiffuseLighting") ∷
-    (codes "fedisplacementmap", codes "feDisplacementMap") ∷
-    (codes "fedistantlight", codes "feDistantLight") ∷
-    (codes "fedropshadow", codes "feDropShadow") ∷
-    (codes "feflood", codes "feFlood") ∷
-    (codes "fefunca", codes "feFuncA") ∷
-    (codes "fefuncb", codes "feFuncB") ∷
-    (codes "fefuncg", codes "feFuncG") ∷
-    (codes "fefuncr", codes "feFuncR") ∷
-    (codes "fegaussianblur", codes "feGaussianBlur") ∷
-    (codes "feimage", codes "feImage") ∷
-    (codes "femerge", codes "feMerge") ∷
-    (codes "femergenode", codes "feMergeNode") ∷
-    (codes "femorphology", codes "feMorphology") ∷
-    (codes "feoffset", codes "feOffset") ∷
-    (codes "fepointlight", codes "fePointLight") ∷
-    (codes "fespecularlighting", codes "feSpecularLighting") ∷
-    (codes "fespotlight", codes "feSpotLight") ∷
-    (codes "fetile", codes "feTile") ∷
-    (codes "feturbulence", codes "feTurbulence") ∷
-    (codes "foreignobject", codes "foreignObject") ∷
-    (codes "glyphref", codes "glyphRef") ∷
-    (codes "lineargradient", codes "linearGradient") ∷
-    (codes "radialgradient", codes "radialGradient") ∷
-    (codes "textpath", codes "textPath") ∷ []
+svg_tags = map (λ row. (row.0.now, name_text row.1)) SVG_TAGS
 
 -- the adjusted name of an SVG tag
 abbrev pub adjusted_svg_tag : List ℕ → List ℕ
 adjusted_svg_tag l = unwrap_or (found_at svg_tags l) l
 
--- an attribute with this local name, in no namespace
-abbrev pub in_no_namespace : List ℕ → QualName
-in_no_namespace local = record { prefix = None; ns = []; local = local }
+-- the prefix and the namespace of an adjusted attribute. A name without a colon that is in the XMLNS namespace has the empty prefix
+abbrev pub prefix_at : Place → Option (List ℕ)
+prefix_at Unqualified = None
+prefix_at XLink = Some (codes "xlink")
+prefix_at Xml = Some (codes "xml")
+prefix_at Xmlns = Some []
+prefix_at XmlnsPrefixed = Some (codes "xmlns")
 
--- in the XLink namespace
-abbrev pub in_xlink : List ℕ → QualName
-in_xlink local = record { prefix = Some (codes "xlink"); ns = xlink_text; local = local }
+abbrev pub namespace_at : Place → List ℕ
+namespace_at Unqualified = []
+namespace_at XLink = xlink_text
+namespace_at Xml = xml_text
+namespace_at Xmlns = xmlns_text
+namespace_at XmlnsPrefixed = xmlns_text
 
--- in the XML namespace
-abbrev pub in_xml : List ℕ → QualName
-in_xml local = record { prefix = Some (codes "xml"); ns = xml_text; local = local }
+-- a local name with its prefix and its namespace
+abbrev pub name_at : Place → List ℕ → QualName
+name_at place local = record { prefix = prefix_at place; ns = namespace_at place; local = local }
 
--- in the XMLNS namespace, where a name without a colon has the empty prefix
-abbrev pub in_xmlns : List ℕ → List ℕ → QualName
-in_xmlns prefix local = record { prefix = Some prefix; ns = xmlns_text; local = local }
-
--- SVG attributes
-unfoldable pub svg_attribute_names : Table (List ℕ)
-svg_attribute_names =
-    (codes "attributename", codes "attributeName") ∷
-    (codes "attributetype", codes "attributeType") ∷
-    (codes "basefrequency", codes "baseFrequency") ∷
-    (codes "baseprofile", codes "baseProfile") ∷
-    (codes "calcmode", codes "calcMode") ∷
-    (codes "clippathunits", codes "clipPathUnits") ∷
-    (codes "diffuseconstant", codes "diffuseConstant") ∷
-    (codes "edgemode", codes "edgeMode") ∷
-    (codes "filterunits", codes "filterUnits") ∷
-    (codes "glyphref", codes "glyphRef") ∷
-    (codes "gradienttransform", codes "gradientTransform") ∷
-    (codes "gradientunits", codes "gradientUnits") ∷
-    (codes "kernelmatrix", codes "kernelMatrix") ∷
-    (codes "kernelunitlength", codes "kernelUnitLength") ∷
-    (codes "keypoints", codes "keyPoints") ∷
-    (codes "keysplines", codes "keySplines") ∷
-    (codes "keytimes", codes "keyTimes") ∷
-    (codes "lengthadjust", codes "lengthAdjust") ∷
-    (codes "limitingconeangle", codes "limitingConeAngle") ∷
-    (codes "markerheight", codes "markerHeight") ∷
-    (codes "markerunits", codes "markerUnits") ∷
-    (codes "markerwidth", codes "markerWidth") ∷
-    (codes "maskcontentunits", codes "maskContentUnits") ∷
-    (codes "maskunits", codes "maskUnits") ∷
-    (codes "numoctaves", codes "numOctaves") ∷
-    (codes "pathlength", codes "pathLength") ∷
-    (codes "patterncontentunits", codes "patternContentUnits") ∷
-    (codes "patterntransform", codes "patternTransform") ∷
-    (codes "patternunits", codes "patternUnits") ∷
-    (codes "pointsatx", codes "pointsAtX") ∷
-    (codes "pointsaty", codes "pointsAtY") ∷
-    (codes "pointsatz", codes "pointsAtZ") ∷
-    (codes "preservealpha", codes "preserveAlpha") ∷
-    (codes "preserveaspectratio", codes "preserveAspectRatio") ∷
-    (codes "primitiveunits", codes "primitiveUnits") ∷
-    (codes "refx", codes "refX") ∷
-    (codes "refy", codes "refY") ∷
-    (codes "repeatcount", codes "repeatCount") ∷
-    (codes "repeatdur", codes "repeatDur") ∷
-    (codes "requiredextensions", codes "requiredExtensions") ∷
-    (codes "requiredfeatures", codes "requiredFeatures") ∷
-    (codes "specularconstant", codes "specularConstant") ∷
-    (codes "specularexponent", codes "specularExponent") ∷
-    (codes "spreadmethod", codes "spreadMethod") ∷
-    (codes "startoffset", codes "startOffset") ∷
-    (codes "stddeviation", codes "stdDeviation") ∷
-    (codes "stitchtiles", codes "stitchTiles") ∷
-    (codes "surfacescale", codes "surfaceScale") ∷
-    (codes "systemlanguage", codes "systemLanguage") ∷
-    (codes "tablevalues", codes "tableValues") ∷
-    (codes "targetx", codes "targetX") ∷
-    (codes "targety", codes "targetY") ∷
-    (codes "textlength", codes "textLength") ∷
-    (codes "viewbox", codes "viewBox") ∷
-    (codes "viewtarget", codes "viewTarget") ∷
-    (codes "xchannelselector", codes "xChannelSelector") ∷
-    (codes "ychannelselector", codes "yChannelSelector") ∷
-    (codes "zoomandpan", codes "zoomAndPan") ∷ []
-
+-- attributes of SVG, of MathML, and of other namespaces
 unfoldable pub svg_attributes : Table QualName
-svg_attributes = table_map in_no_namespace svg_attribute_names
+svg_attributes = map (λ row. (row.0.now, name_at row.1.0 row.1.1.now)) SVG_ATTRIBUTES
 
--- MathML attributes
 unfoldable pub mathml_attributes : Table QualName
-mathml_attributes =
-    (codes "definitionurl", in_no_namespace (codes "definitionURL")) ∷ []
+mathml_attributes = map (λ row. (row.0.now, name_at row.1.0 row.1.1.now)) MATHML_ATTRIBUTES
 
--- attributes of other namespaces
 unfoldable pub foreign_attributes : Table QualName
-foreign_attributes =
-    (codes "xlink:actuate", in_xlink (codes "actuate")) ∷
-    (codes "xlink:arcrole", in_xlink (codes "arcrole")) ∷
-    (codes "xlink:href", in_xlink (codes "href")) ∷
-    (codes "xlink:role", in_xlink (codes "role")) ∷
-    (codes "xlink:show", in_xlink (codes "show")) ∷
-    (codes "xlink:title", in_xlink (codes "title")) ∷
-    (codes "xlink:type", in_xlink (codes "type")) ∷
-    (codes "xml:lang", in_xml (codes "lang")) ∷
-    (codes "xml:space", in_xml (codes "space")) ∷
-    (codes "xmlns", in_xmlns [] (codes "xmlns")) ∷
-    (codes "xmlns:xlink", in_xmlns (codes "xmlns") (codes "xlink")) ∷ []
+foreign_attributes = map (λ row. (row.0.now, name_at row.1.0 row.1.1.now)) FOREIGN_ATTRIBUTES
 
 -- an attribute gets its name in a table, and keeps its value
 abbrev pub renamed : Table QualName → AttributeText → AttributeText

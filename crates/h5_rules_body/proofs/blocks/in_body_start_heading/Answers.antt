@@ -22,12 +22,12 @@ returns g c =
         ending = search rules;
         quiet = λ h.
             let none = and_not (is_expected_p names) heading h in
-            c.insert_element.ensures.quiet ∙ c.pop_heading.ensures.quiet
+            c.insert_tag.ensures.quiet ∙ c.pop_heading.ensures.quiet
             ∙ c.check_heading.ensures.quiet (ap (first_passes is_heading) behind ∙ none.1)
             ∙ c.expect_to_close.ensures.quiet (closed.ensures.expected ∙ none.0)
             ∙ closed.ensures.made.quiet;
         noted = λ h.
-            subst (λ n. 0 < n) (sym (c.insert_element.ensures.quiet ∙ c.pop_heading.ensures.quiet))
+            subst (λ n. 0 < n) (sym (c.insert_tag.ensures.quiet ∙ c.pop_heading.ensures.quiet))
             (told_either (is_expected_p names) (not heading) (errors_of law c.expect_to_close.new.sink) (errors_of law c.check_heading.new.sink)
             (λ e. c.expect_to_close.ensures.noted (closed.ensures.expected ∙ e)) c.check_heading.ensures.told.rises
             (λ e. c.check_heading.ensures.noted (ap (first_passes is_heading) behind ∙ not-false heading e)) h);

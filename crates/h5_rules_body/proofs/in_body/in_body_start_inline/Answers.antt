@@ -1,46 +1,49 @@
-use Rattle.std.proofs.Common.{◌≡◌, ℕ, List, true, false, refl, rules, subst, sym}
+use Rattle.std.proofs.Common.{◌≡◌, true, refl, rules, [], ◌∷◌}
 use Rattle.h5_names.specs.KnownNames.{known_name_of, known_names, name_text}
-use Rattle.h5_names.specs.declared.known_name.KnownName.TheVariants.{A, Button, Form, Nobr, Plaintext, Table}
+use Rattle.h5_names.specs.declared.known_name.KnownName.TheVariants.{A, Button, Form, Nobr, Plaintext, Table, Applet, Area, B, Big, Br, Code, Dd, Dt, Em, Embed, Font, I, Img, Keygen, Li, Listing, Marquee, Object, Pre, S, Small, Strike, Strong, Tt, U, Wbr}
 use Rattle.h5_tables.specs.TagSets.{formatting_names, is_one_of}
-use Rattle.h5_rules.specs.ByName.{by_known, named}
-use Rattle.h5_rules.specs.modes.InBody.{description_names, in_body_marked, in_body_preformatted, in_body_start_embedded, in_body_start_inline, in_body_start_other, in_body_void, list_item_names}
-use Rattle.h5_rules.proofs.rows.KnownRuleLaws.{goes_on, one_of_known}
-use Rattle.h5_state.specs.Turn.{TakesTag}
+use Rattle.h5_rules.specs.ByName.{named, NonePasses}
+use Rattle.h5_rules.specs.modes.InBody.{description_names, in_body_marked, in_body_preformatted, in_body_start_inline, in_body_void, list_item_names}
+use Rattle.h5_rules.proofs.rows.KnownRuleLaws.{one_of_known}
+use Rattle.h5_token.specs.TokenText.{tag_text}
+use Rattle.h5_rules_head.proofs.DefaultLaws.{any_apart, default_of, only_apart}
+use Rattle.h5_rules_body.proofs.ArmLaws.{among_of, arm_of}
 use Rattle.h5_rules_body.proofs.in_body.in_body_start_inline.Goals as goal
 
 pub in_body_start_a-requires-clause-name : goal.in_body_start_a-requires-clause-name
 unfolding formatting_names known_name_of known_names
 in_body_start_a-requires-clause-name g c =
-    let named : is_one_of formatting_names (name_text c.known.result) ≡ true = search rules in
+    let named : is_one_of formatting_names (name_text c.known.result) ≡ true = among_of formatting_names c.known.result A ([]) c.in-A.is (refl, tt) in
     one_of_known formatting_names c.args.tag.name c.known.result refl c.known.ensures named
 
 pub in_body_start_nobr-requires-clause-name : goal.in_body_start_nobr-requires-clause-name
 unfolding formatting_names known_name_of known_names
 in_body_start_nobr-requires-clause-name g c =
-    let named : is_one_of formatting_names (name_text c.known.result) ≡ true = search rules in
+    let named : is_one_of formatting_names (name_text c.known.result) ≡ true = among_of formatting_names c.known.result Nobr ([]) c.in-Nobr.is (refl, tt) in
     one_of_known formatting_names c.args.tag.name c.known.result refl c.known.ensures named
 
 pub in_body_start_formatting-requires-clause-name : goal.in_body_start_formatting-requires-clause-name
 unfolding formatting_names known_name_of known_names
 in_body_start_formatting-requires-clause-name g c =
-    let named : is_one_of formatting_names (name_text c.known.result) ≡ true = search rules in
+    let named : is_one_of formatting_names (name_text c.known.result) ≡ true = among_of formatting_names c.known.result B (Big ∷ Code ∷ Em ∷ Font ∷ I ∷ S ∷ Small ∷ Strike ∷ Strong ∷ Tt ∷ U ∷ []) c.in-B.is (refl, (refl, (refl, (refl, (refl, (refl, (refl, (refl, (refl, (refl, (refl, (refl, tt)))))))))))) in
     one_of_known formatting_names c.args.tag.name c.known.result refl c.known.ensures named
 
 pub returns-in_default : goal.returns-in_default
 unfolding in_body_start_inline in_body_preformatted list_item_names description_names formatting_names in_body_marked in_body_void
 returns-in_default g c =
-    let name : List ℕ = name_text c.known.result in
-    let no_preformatted : is_one_of in_body_preformatted name ≡ false = search rules in
-    let no_form : named Form name ≡ false = search rules in
-    let no_list_item : is_one_of list_item_names name ≡ false = search rules in
-    let no_description : is_one_of description_names name ≡ false = search rules in
-    let no_plaintext : named Plaintext name ≡ false = search rules in
-    let no_button : named Button name ≡ false = search rules in
-    let no_a : named A name ≡ false = search rules in
-    let no_nobr : named Nobr name ≡ false = search rules in
-    let no_formatting : is_one_of formatting_names name ≡ false = search rules in
-    let no_marked : is_one_of in_body_marked name ≡ false = search rules in
-    let no_table : named Table name ≡ false = search rules in
-    let no_void : is_one_of in_body_void name ≡ false = search rules in
-    let same = goes_on in_body_start_inline (by_known in_body_start_embedded in_body_start_other) c.args.tag.name c.known.result c.known.ensures (no_preformatted, (no_form, (no_list_item, (no_description, (no_plaintext, (no_button, (no_a, (no_nobr, (no_formatting, (no_marked, (no_table, (no_void, tt)))))))))))) in
-    subst (λ rule. TakesTag g.S.TreeSink rule c.args.tag c.args.sink.now c.args.state.now c.in_body_start_embedded.new.sink c.in_body_start_embedded.new.state c.in_body_start_embedded.result) (sym same) c.in_body_start_embedded.ensures
+    let known = c.known.result in
+    let no = c.in_default in
+    let none : NonePasses in_body_start_inline (name_text known) = (any_apart known (Pre ∷ Listing ∷ []) (no.not-Pre, (no.not-Listing, tt)), (only_apart known Form no.not-Form, (any_apart known (Li ∷ []) (no.not-Li, tt), (any_apart known (Dd ∷ Dt ∷ []) (no.not-Dd, (no.not-Dt, tt)), (only_apart known Plaintext no.not-Plaintext, (only_apart known Button no.not-Button, (only_apart known A no.not-A, (only_apart known Nobr no.not-Nobr, (any_apart known (A ∷ B ∷ Big ∷ Code ∷ Em ∷ Font ∷ I ∷ Nobr ∷ S ∷ Small ∷ Strike ∷ Strong ∷ Tt ∷ U ∷ []) (no.not-A, (no.not-B, (no.not-Big, (no.not-Code, (no.not-Em, (no.not-Font, (no.not-I, (no.not-Nobr, (no.not-S, (no.not-Small, (no.not-Strike, (no.not-Strong, (no.not-Tt, (no.not-U, tt)))))))))))))), (any_apart known (Applet ∷ Marquee ∷ Object ∷ []) (no.not-Applet, (no.not-Marquee, (no.not-Object, tt))), (only_apart known Table no.not-Table, (any_apart known (Area ∷ Br ∷ Embed ∷ Img ∷ Keygen ∷ Wbr ∷ []) (no.not-Area, (no.not-Br, (no.not-Embed, (no.not-Img, (no.not-Keygen, (no.not-Wbr, tt)))))), tt)))))))))))) in
+    rw (default_of in_body_start_inline _ (tag_text c.args.tag) known c.known.ensures none) (search rules)
+
+pub returns-in-B : goal.returns-in-B
+unfolding in_body_start_inline in_body_preformatted list_item_names description_names formatting_names in_body_marked in_body_void
+returns-in-B g c = rw (arm_of in_body_start_inline _ (tag_text c.args.tag) c.known.result c.known.ensures B B (Big ∷ Code ∷ Em ∷ Font ∷ I ∷ S ∷ Small ∷ Strike ∷ Strong ∷ Tt ∷ U ∷ []) c.in-B.is ((λ other. refl), ((λ other. refl), ((λ other. refl), ((λ other. refl), ((λ other. refl), ((λ other. refl), ((λ other. refl), ((λ other. refl), ((λ other. refl), ((λ other. refl), ((λ other. refl), ((λ other. refl), tt))))))))))))) (search rules)
+
+pub returns-in-Applet : goal.returns-in-Applet
+unfolding in_body_start_inline in_body_preformatted list_item_names description_names formatting_names in_body_marked in_body_void
+returns-in-Applet g c = rw (arm_of in_body_start_inline _ (tag_text c.args.tag) c.known.result c.known.ensures Applet Applet (Marquee ∷ Object ∷ []) c.in-Applet.is ((λ other. refl), ((λ other. refl), ((λ other. refl), tt)))) (search rules)
+
+pub returns-in-Area : goal.returns-in-Area
+unfolding in_body_start_inline in_body_preformatted list_item_names description_names formatting_names in_body_marked in_body_void
+returns-in-Area g c = rw (arm_of in_body_start_inline _ (tag_text c.args.tag) c.known.result c.known.ensures Area Area (Br ∷ Embed ∷ Img ∷ Keygen ∷ Wbr ∷ []) c.in-Area.is ((λ other. refl), ((λ other. refl), ((λ other. refl), ((λ other. refl), ((λ other. refl), ((λ other. refl), tt))))))) (search rules)

@@ -26,13 +26,13 @@ returns g c =
         ending = search rules;
         quiet = λ h.
             let both = and_both (is_expected_p names) (is_expected_rule (names_behind_p names)) h in
-            c.insert_and_pop_element.ensures.quiet
+            c.insert_and_pop_tag.ensures.quiet
             ∙ c.check_rule.ensures.quiet (is_told ∙ not-true told (sym (expected_rule (names_behind_p names)) ∙ both.1))
             ∙ c.generate_implied_end_in_select.ensures.made.quiet
             ∙ c.expect_to_close.ensures.quiet (closed.ensures.expected ∙ both.0)
             ∙ closed.ensures.made.quiet;
         noted = λ h.
-            subst (λ n. 0 < n) (sym c.insert_and_pop_element.ensures.quiet)
+            subst (λ n. 0 < n) (sym c.insert_and_pop_tag.ensures.quiet)
             (told_either (is_expected_p names) (is_expected_rule (names_behind_p names)) (errors_of law c.generate_implied_end_in_select.new.sink) (errors_of law c.check_rule.new.sink)
             (λ e. subst (λ n. 0 < n) (sym c.generate_implied_end_in_select.ensures.made.quiet) (c.expect_to_close.ensures.noted (closed.ensures.expected ∙ e))) c.check_rule.ensures.told.rises
             (λ e. c.check_rule.ensures.noted (is_told ∙ not-false told (sym (expected_rule (names_behind_p names)) ∙ e))) h);

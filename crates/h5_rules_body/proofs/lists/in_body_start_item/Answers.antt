@@ -25,13 +25,13 @@ returns g c =
         ending = search rules;
         quiet = λ h.
             let both = and_both (is_expected_item locals names) (is_expected_p (names_behind_item locals names)) h in
-            c.insert_element.ensures.quiet
+            c.insert_tag.ensures.quiet
             ∙ c.expect_to_close-2.ensures.quiet (p_is ∙ both.1)
             ∙ p.ensures.made.quiet
             ∙ c.expect_to_close.ensures.quiet (item_is ∙ both.0)
             ∙ item.ensures.made.quiet ∙ c.set_frameset_not_ok.ensures.quiet;
         noted = λ h.
-            subst (λ n. 0 < n) (sym c.insert_element.ensures.quiet)
+            subst (λ n. 0 < n) (sym c.insert_tag.ensures.quiet)
             (told_either (is_expected_item locals names) (is_expected_p (names_behind_item locals names)) (errors_of law p.new.sink) (errors_of law c.expect_to_close-2.new.sink)
             (λ e. subst (λ n. 0 < n) (sym p.ensures.made.quiet) (c.expect_to_close.ensures.noted (item_is ∙ e))) c.expect_to_close-2.ensures.told.rises
             (λ e. c.expect_to_close-2.ensures.noted (p_is ∙ e)) h);
