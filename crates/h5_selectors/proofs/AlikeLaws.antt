@@ -1,5 +1,6 @@
 -- The siblings with a node's name, one by one along the links.
-use Rattle.std.proofs.Common.{◌≡◌, ◌∙◌, ℕ, ◌+◌, Bool, true, false, ◌&&◌, List, [], ◌∷◌, ◌++◌, Option, None, Some, ap, append-nil, arith, cond, length, refl, sym}
+use Rattle.std.proofs.Common.{◌≡◌, ◌∙◌, ℕ, ◌+◌, ◌-◌, ◌<◌, ◌≤◌, Bool, true, false, ◌&&◌, List, [], ◌∷◌, ◌++◌, Option, None, Some, ap, append-nil, arith, cond, length, refl, sym}
+use Rattle.std.specs.Prelude.{IfSome}
 use Rattle.std.specs.List.{filter}
 use Rattle.std.specs.Option.{option_map_or}
 use Rattle.std.proofs.lemmas.List.{length-append}
@@ -8,9 +9,8 @@ use Rattle.std.specs.Cmp.Lexicographic.{same_text}
 use Rattle.h5_names.specs.AttributeText.{is_same_text}
 use Rattle.h5_names.specs.declared.qualified.QualName.{QualName}
 use Rattle.h5_interface.specs.Forest.{Forest}
-use Rattle.h5_selectors.specs.Holds.{are_alike, is_alike}
 use Rattle.h5_selectors.specs.Rows.{IsBefore, IsBehind, node_in}
-use Rattle.h5_selectors.specs.Ways.{before, behind, name_of}
+use Rattle.h5_tree.specs.Elements.{are_alike, before, behind, is_same_type, name_of}
 
 both_true : (a b : Bool) → (a && b) ≡ true → (a ≡ true) × (b ≡ true)
 both_true true true e = (refl, refl)
@@ -24,9 +24,9 @@ like_the_same one other e third =
     ap (λ l. is_same_text l third.local && is_same_text one.ns third.ns) (same_text one.local other.local (sym parts.0))
     ∙ ap (λ s. is_same_text other.local third.local && is_same_text s third.ns) (same_text one.ns other.ns (sym parts.1))
 
-module _ (f : Forest) (quirky : Bool) (scope : Option ℕ) where
+module _ (f : Forest) where
   abbrev alike : ℕ → ℕ → Bool
-  alike = is_alike f quirky scope
+  alike = is_same_type f
 
   pub the_same : (n m : ℕ) → alike n m ≡ true → (x : ℕ) → alike n x ≡ alike m x
   the_same n m e x = at (name_of f n) (name_of f m) (name_of f x) e
@@ -86,3 +86,20 @@ module _ (f : Forest) (quirky : Bool) (scope : Option ℕ) where
         ap (λ b. length (cond b (node r ∷ filter (alike (node k)) (behind f (node r))) (filter (alike (node k)) (behind f (node r))))) same
         ∙ ap (λ l. length (node r ∷ l)) (filter_agree (alike (node k)) (alike (node r)) (the_same (node k) (node r) same) (behind f (node r)))
         ∙ more
+
+    -- where the links lead
+    pub earlier_within : (k q : ℕ) (o : Option ℕ) → q ≤ k → IsBefore f ns q o → IfSome o (λ r. (0 < r) × (r < k))
+    earlier_within k q None le e = tt
+    earlier_within k q (Some r) le (some, up, e) = (some, omega (arith, le, up))
+
+    pub later_within : (k r : ℕ) (o : Option ℕ) → k ≤ r → IsBehind f ns r o → IfSome o (λ q. (k < q) × (q < length ns))
+    later_within k r None le e = tt
+    later_within k r (Some q) le (up, within, e) = (omega (arith, le, up), within)
+
+    pub fewer_back : (q : ℕ) (o : Option ℕ) → IsBefore f ns q o → option_map_or (λ r. r + 1) o 0 < q + 1
+    fewer_back q None e = omega arith
+    fewer_back q (Some r) (some, up, e) = omega (arith, up)
+
+    pub fewer_forth : (r count : ℕ) (o : Option ℕ) → count ≡ length ns → r < count → IsBehind f ns r o → option_map_or (λ q. count - q) o 0 < count - r
+    fewer_forth r count None same lt e = omega (arith, lt)
+    fewer_forth r count (Some q) same lt (up, within, e) = omega (arith, lt, up, within, same)

@@ -2,10 +2,12 @@
 use Rattle.std.proofs.Common.{◌≡◌, ◌∙◌, ℕ, ◌+◌, ◌≤◌, List, [], ◌∷◌, Option, None, Some, ap, arith, length, refl, sym}
 use Rattle.std.specs.Option.{option_and_then, option_map_or}
 use Prim.Native.Nat.{zero, suc}
-use Rattle.h5_interface.specs.Forest.{CommentNode, DoctypeNode, DocumentNode, ElementNode, Forest, FragmentNode, InstructionNode, IsForest, Kind, Node, parent_of}
+use Rattle.h5_interface.specs.Forest.{CommentNode, DoctypeNode, DocumentNode, ElementNode, Forest, FragmentNode, InstructionNode, Kind, Node, parent_of}
 use Rattle.h5_arena.specs.ArenaModel.{child_parent, child_parent_of_kind}
 use Rattle.h5_arena.specs.Kin.{ancestors, ancestors_within, tree_parent}
-use Rattle.h5_arena.proofs.ClimbLaws.{AreUnder, few_under, none_under, one_more_under}
+use Rattle.h5_arena.proofs.ClimbLaws.{AreUnder, none_under}
+use Rattle.h5_tree.specs.Shape.{IsShaped}
+use Rattle.h5_tree.proofs.ShapedLaws.{few_under, one_more_under}
 
 -- the node whose child a node is, is its parent
 kept : (kind : Kind) (o : Option ℕ) (p : ℕ) → child_parent_of_kind kind o ≡ Some p → o ≡ Some p
@@ -24,7 +26,7 @@ parent_of_child f n p = at (f.node n)
     at (Some d) e = kept d.kind d.parent p e
 
 -- more levels change nothing
-settled : (f : Forest) (levels n : ℕ) (under : List ℕ) → IsForest f → AreUnder f n under → f.bound ≤ length under + levels
+settled : (f : Forest) (levels n : ℕ) (under : List ℕ) → IsShaped f → AreUnder f n under → f.bound ≤ length under + levels
     → ancestors_within (suc levels) f n ≡ ancestors_within levels f n
 settled f zero n under k h le = at (tree_parent f n) refl
   where
@@ -41,7 +43,7 @@ settled f (suc levels) n under k h le = at (tree_parent f n) refl (λ p up. sett
     at None e further = refl
     at (Some p) e further = ap (λ l. p ∷ l) (further p (parent_of_child f n p e))
 
-pub ancestors_step : (f : Forest) (n p : ℕ) → IsForest f → tree_parent f n ≡ Some p → ancestors f n ≡ p ∷ ancestors f p
+pub ancestors_step : (f : Forest) (n p : ℕ) → IsShaped f → tree_parent f n ≡ Some p → ancestors f n ≡ p ∷ ancestors f p
 ancestors_step f n p k e =
     sym (settled f f.bound n [] k (none_under f n) (omega arith))
     ∙ ap (λ o. option_map_or (λ q. q ∷ ancestors_within f.bound f q) o []) e

@@ -5,11 +5,13 @@ use Rattle.std.specs.List.{filter}
 use Rattle.std.specs.Option.{option_and_then, option_map, option_map_or}
 use Rattle.std.proofs.lemmas.Bool.{eq-eqb, eqb-true}
 use Prim.Native.Nat.{zero, suc}
-use Rattle.h5_interface.specs.Forest.{Child, ChildNode, ChildText, CommentNode, DoctypeNode, DocumentNode, ElementNode, Forest, FragmentNode, InstructionNode, IsForest, Kind, Node, below_of, children_of, count, is_at, nodes, parent_of}
-use Rattle.h5_interface.proofs.ForestLaws.{children_few, parent_of_child}
+use Rattle.h5_interface.specs.Forest.{Child, ChildNode, ChildText, CommentNode, DoctypeNode, DocumentNode, ElementNode, Forest, FragmentNode, InstructionNode, Kind, Node, below_of, children_of, count, is_at, nodes, parent_of}
+use Rattle.h5_interface.proofs.ForestLaws.{children_few}
 use Rattle.h5_arena.specs.ArenaModel.{child_parent, child_parent_of_kind, name_of_kind}
 use Rattle.h5_arena.specs.Kin.{siblings_with_self, children_before, children_behind, tree_parent}
-use Rattle.h5_selectors.specs.Ways.{before, behind, child_elements, elements_among, is_element}
+use Rattle.h5_tree.specs.Elements.{before, behind, child_elements, elements_among, is_element}
+use Rattle.h5_tree.specs.Shape.{IsShaped}
+use Rattle.h5_tree.proofs.ShapedLaws.{parent_of_child}
 
 -- an entry of the elements is an entry of the children
 module _ (f : Forest) where
@@ -92,7 +94,7 @@ child_parent_is (Some d) p el up = at d.kind el
     at FragmentNode e = cc
 
 -- a child element of a node, by its index among all of them
-module _ (f : Forest) (p i m : ℕ) (k : IsForest f) (lt : i < length (child_elements f p)) (here : get_or (child_elements f p) i 0 ≡ m) where
+module _ (f : Forest) (p i m : ℕ) (k : IsShaped f) (lt : i < length (child_elements f p)) (here : get_or (child_elements f p) i 0 ≡ m) where
   is_one : is_element f m ≡ true
   is_one = passes f (nodes (children_of f p)) i m lt here
 

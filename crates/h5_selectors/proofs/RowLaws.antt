@@ -1,22 +1,18 @@
 -- The links of rows.
-use Rattle.std.proofs.Common.{◌≡◌, ◌≢◌, ◌∙◌, ◌⊎◌, ℕ, ◌+◌, ◌-◌, ◌<◌, ◌≤◌, Bool, true, false, List, [], ◌∷◌, ◌++◌, Option, None, Some, All, ap, append_assoc, arith, below_more, drop, get_or, inl, inr, length, map, refl, set, subst, sym, take}
-use Rattle.std.specs.Prelude.{◌==◌, slice_get, unwrap_or}
-use Rattle.std.specs.Option.{option_map, option_map_or}
+use Rattle.std.proofs.Common.{◌≡◌, ◌≢◌, ◌∙◌, ◌⊎◌, ℕ, ◌+◌, ◌-◌, ◌<◌, ◌≤◌, Bool, true, false, List, [], ◌∷◌, ◌++◌, None, Some, All, ap, arith, below_more, drop, get_or, inl, inr, length, map, refl, set, subst, sym, take}
+use Rattle.std.specs.Prelude.{◌==◌, slice_get}
 use Rattle.std.proofs.lemmas.Bool.{eq-eqb, eqb-true}
 use Rattle.std.proofs.lemmas.List.{drop_more, get_or-append_right, get_or-map, get_or-set_other, get_or-set_same, get_or_append_left, length-append, length-map, length-set, map-append, take_more}
 use Rattle.std.proofs.lemmas.List.Elements.{All-push}
 use Rattle.std.proofs.lemmas.Option.{slice_get-get_or, slice_get_cases}
 use Rattle.std.proofs.Math.ListN.{drop_of_length-le}
 use Prim.Native.Nat.{zero, suc}
-use Rattle.h5_interface.specs.Forest.{Forest, IsForest, Node, children_of}
-use Rattle.h5_arena.specs.ArenaModel.{ArenaView, at_node, child_view, child_views, forest_seen, place}
-use Rattle.h5_arena.specs.declared.nodes.Child as kept
-use Rattle.h5_arena.specs.declared.nodes.NodeId.{NodeId}
-use Rattle.h5_selectors.specs.Rows.{AreBare, AreBelow, AreChildRows, AreLinked, AreRising, AreWithin, IsBefore, IsBehind, IsFirst, IsLinked, entry_before, entry_behind, node_in}
-use Rattle.h5_selectors.specs.Ways.{before, behind, child_elements, elements_among}
+use Rattle.h5_interface.specs.Forest.{Forest, children_of}
+use Rattle.h5_tree.specs.Elements.{AreElementsOrLeaves, before, behind, child_elements}
+use Rattle.h5_tree.specs.Shape.{IsShaped}
+use Rattle.h5_selectors.specs.Rows.{AreBelow, AreChildRows, AreLinked, AreRising, AreWithin, IsBefore, IsBehind, IsFirst, IsLinked, entry_before, entry_behind, node_in}
 use Rattle.h5_selectors.specs.declared.rows.Links.{Links}
 use Rattle.h5_selectors.proofs.BelowSteps.{below_children}
-use Rattle.h5_selectors.proofs.ChildSteps.{none_first, one_first}
 use Rattle.h5_selectors.proofs.KinOrder.{its_parent, those_before, those_behind}
 
 -- the links of one row are changed
@@ -45,38 +41,15 @@ linked_more f ns all new h is k d lt =
         let none : length all - length all ≡ 0 = omega arith in
         get_or-append_right all (new ∷ []) (length all) (length all) d refl (omega arith) ∙ ap (λ i. get_or (new ∷ []) i d) none
 
--- the children that an arena returns are those of the forest
-pub children_told : (a : ArenaView) (id : NodeId) (n : ℕ) (cs : List kept.Child) → id.index ≡ n → at_node (λ d. d.children) a id ≡ Some (child_views cs) → children_of (forest_seen a) n ≡ child_views cs
-children_told a id n cs same e = ap (children_of (forest_seen a)) (sym same) ∙ as_told ((forest_seen a).node id.index) ∙ ap (λ o. unwrap_or o []) e
-  where
-    as_told : (o : Option Node) → option_map_or (λ d. d.children) o [] ≡ unwrap_or (option_map (λ d. d.children) o) []
-    as_told None = refl
-    as_told (Some d) = refl
-
--- a child is found in a row, or isn't an element
-module _ (f : Forest) (ids : List NodeId) (found : List ℕ) (cs : List kept.Child) (i : ℕ) (c : kept.Child) (total : List ℕ) (lt : i < length cs) (is : c ≡ get_or cs i c) where
-  abbrev node_at : ℕ → ℕ
-  node_at = node_in f (map place ids)
-
-  abbrev rest : List ℕ
-  rest = elements_among f (child_views (drop (i + 1) cs))
-
-  first : elements_among f (child_view c ∷ child_views (drop (i + 1) cs)) ≡ elements_among f (child_views (drop i cs))
-  first = ap (λ x. elements_among f (child_view x ∷ child_views (drop (i + 1) cs))) is ∙ sym (ap (λ l. elements_among f (child_views l)) (drop_more cs i c lt))
-
-  pub row_found : (row : ℕ) (element d : NodeId) → row < length ids → element.index ≡ (get_or ids row d).index → element.index ∷ [] ≡ elements_among f (child_view c ∷ [])
-      → map node_at found ++ elements_among f (child_views (drop i cs)) ≡ total → map node_at (found ++ row ∷ []) ++ rest ≡ total
-  row_found row element d within same one h =
-      ap (λ l. l ++ rest) (map-append node_at found (row ∷ []))
-      ∙ append_assoc (map node_at found) (node_at row ∷ []) rest
-      ∙ ap (λ n. map node_at found ++ (n ∷ rest)) (get_or-map place ids row d 0 within ∙ sym same)
-      ∙ ap (λ l. map node_at found ++ l) (sym (one_first f (child_view c) (child_views (drop (i + 1) cs)) element.index (sym one)) ∙ first)
-      ∙ h
-
-  pub none_found : [] ≡ elements_among f (child_view c ∷ []) → map node_at found ++ elements_among f (child_views (drop i cs)) ≡ total → map node_at found ++ rest ≡ total
-  none_found none h =
-      ap (λ l. map node_at found ++ l) (sym (none_first f (child_view c) (child_views (drop (i + 1) cs)) (sym none)) ∙ first)
-      ∙ h
+-- the rows found for children, with one more
+pub row_found : {N : Type 0} (place : N → ℕ) (f : Forest) (ids cs : List N) (found : List ℕ) (i row : ℕ) (d e : N) → i < length cs → row < length ids → place (get_or ids row d) ≡ place (get_or cs i e)
+    → map (node_in f (map place ids)) found ≡ map place (take i cs) → map (node_in f (map place ids)) (found ++ row ∷ []) ≡ map place (take (i + 1) cs)
+row_found place f ids cs found i row d e lt within same h =
+    map-append (node_in f (map place ids)) found (row ∷ [])
+    ∙ ap (λ l. l ++ node_in f (map place ids) row ∷ []) h
+    ∙ ap (λ n. map place (take i cs) ++ n ∷ []) (get_or-map place ids row d 0 within ∙ same)
+    ∙ sym (map-append place (take i cs) (get_or cs i e ∷ []))
+    ∙ ap (map place) (sym (take_more cs i e lt))
 
 pub rising_more : (found : List ℕ) (row : ℕ) → AreRising found → All (λ r. r < row) found → AreRising (found ++ row ∷ [])
 rising_more found row h low i lt = at (slice_get_cases found (i + 1)).1 (let longer = length-append found (row ∷ []) in omega (arith, lt))
@@ -101,7 +74,7 @@ lower_more found row next low up =
     All-push (λ r. r < next) found row lower up
 
 -- the children of a row, one by one
-module _ (f : Forest) (ns : List ℕ) (at : ℕ) (rows : List ℕ) (k : IsForest f) (are : map (node_in f ns) rows ≡ child_elements f (node_in f ns at)) (rising : AreRising rows) (inside : AreWithin at (length ns) rows) where
+module _ (f : Forest) (ns : List ℕ) (at : ℕ) (rows : List ℕ) (k : IsShaped f) (are : map (node_in f ns) rows ≡ child_elements f (node_in f ns at)) (rising : AreRising rows) (inside : AreWithin at (length ns) rows) where
   abbrev p : ℕ
   p = node_in f ns at
 
@@ -165,7 +138,7 @@ module _ (f : Forest) (ns : List ℕ) (at : ℕ) (rows : List ℕ) (k : IsForest
     next_is = one_behind i lt;
   }
 
-  pub children_known : AreBare f (children_of f p) → AreBelow f ns at (slice_get rows 0)
+  pub children_known : AreElementsOrLeaves f (children_of f p) → AreBelow f ns at (slice_get rows 0)
   children_known bare = record { first_is = first (slice_get_cases rows 0).1; below_are = below_children f p k bare }
     where
       first : ((x : ℕ) × (0 < length rows) × (slice_get rows 0 ≡ Some x) × (get_or rows 0 x ≡ x)) ⊎ ((length rows ≤ 0) × (slice_get rows 0 ≡ None)) → IsFirst f ns at (slice_get rows 0)

@@ -8,19 +8,21 @@ use Rattle.std.proofs.lemmas.List.{get_or-append_right, get_or-set_other, get_or
 use Rattle.std.proofs.lemmas.List.Elements.{filter-append}
 use Rattle.std.proofs.lemmas.List.Folds.{list_any-append}
 use Prim.Native.Nat.{zero, suc}
-use Rattle.h5_interface.specs.Forest.{Forest, IsForest}
-use Rattle.h5_arena.specs.ArenaModel.{place}
+use Rattle.h5_interface.specs.Forest.{Forest}
 use Rattle.h5_arena.specs.Kin as kin
 use Rattle.h5_arena.specs.Kin.{tree_parent}
 use Rattle.h5_selectors.specs.Rows.{AreBelow, IsBefore, IsBehind, IsKnown, node_in, nodes_in, with_below}
 use Rattle.h5_selectors.specs.Tables.{counted_at, leads_out, leads_up, link_to, there, told}
-use Rattle.h5_selectors.specs.Ways.{ancestors, before, behind, below, child_elements, elements, first_of, is_element, last_of, led, parent_element}
+use Rattle.h5_tree.specs.Elements.{before, behind, below, child_elements, elements, is_element}
+use Rattle.h5_tree.specs.Shape.{IsShaped}
+use Rattle.h5_selectors.specs.Ways.{ancestors, first_of, last_of, led, parent_element}
 use Rattle.h5_selectors.specs.declared.formula.Way.{Way}
 use Rattle.h5_selectors.specs.declared.formula.Way.TheVariants.{Ancestor, Below, Child, Earlier, Later, Next, Parent, Previous}
 use Rattle.h5_selectors.specs.declared.rows.Links.{Links}
 use Rattle.h5_selectors.specs.declared.rows.Rows.{Rows}
 use Rattle.h5_selectors.proofs.AncestorSteps.{ancestors_step}
-use Rattle.h5_selectors.proofs.ChildSteps.{count_more, last_more}
+use Rattle.h5_selectors.proofs.Counting.{count_more}
+use Rattle.h5_selectors.proofs.LastLaws.{last_more}
 use Rattle.h5_selectors.proofs.Upwards.{first_asked}
 
 or_false : (a : Bool) → (a || false) ≡ a
@@ -63,8 +65,8 @@ behind_first j e = at (nat_lt 0 j) refl
     at true w = search (rules, tests)
     at false w = absurd (let no : (nat_lt 0 j || false) ≡ false = (rw w refl) in let both = sym e ∙ no in cc)
 
-pub row_count : (rows : Rows) → length (nodes_in rows) ≡ length rows.ids.items
-row_count rows = length-map rows.ids.items place
+pub row_count : {N : Type 0} (place : N → ℕ) (rows : Rows N) → length (nodes_in place rows) ≡ length rows.ids.items
+row_count place rows = length-map rows.ids.items place
 
 -- a test passes in some list of a list of lists exactly if it does in the joined list
 any_flat : (test : ℕ → Bool) (g : ℕ → List ℕ) (xs : List ℕ) → list_any test (flat_map g xs) ≡ list_any (λ m. list_any test (g m)) xs
@@ -199,11 +201,11 @@ module _ (f : Forest) (ns : List ℕ) (test : ℕ → Bool) (k : ℕ) where
         ∙ sym (first_asked f test p [])
         ∙ ap (λ o. list_any test (elements f (option_to_list o))) (sym up)
 
-    pub to_ancestors : IsForest f → there f test Ancestor p ≡ list_any test (ancestors f n)
+    pub to_ancestors : IsShaped f → there f test Ancestor p ≡ list_any test (ancestors f n)
     to_ancestors h = ap (λ l. list_any test (elements f l)) (sym (ancestors_step f n p h up))
 
   -- above it
-  pub is_above : (into table : List Bool) (links : Links) → IsForest f → IsKnown f ns k links → 0 < k → get_or into k false ≡ false → get_or into k false ≡ (is_element f n && test n)
+  pub is_above : (into table : List Bool) (links : Links) → IsShaped f → IsKnown f ns k links → 0 < k → get_or into k false ≡ false → get_or into k false ≡ (is_element f n && test n)
       → ((p : ℕ) → p < k → get_or table p false ≡ there f test Ancestor (node_in f ns p)) → told table links.parent ≡ there f test Ancestor n
   is_above into table links h is some none here known =
       let b = is.beside some in
@@ -213,7 +215,7 @@ module _ (f : Forest) (ns : List ℕ) (test : ℕ → Bool) (k : ℕ) where
       ∙ sym (first_asked f test n (kin.ancestors f n) ∙ ap (λ a. a || list_any test (ancestors f n)) (sym here ∙ none))
 
   -- the entry for each relation, by its link
-  module _ (h : IsForest f) (within : k < length ns) (links : Links) (is : IsKnown f ns k links) (table : List Bool) where
+  module _ (h : IsShaped f) (within : k < length ns) (links : Links) (is : IsKnown f ns k links) (table : List Bool) where
     abbrev TellsOf : Way → Type 0
     TellsOf way = (j : ℕ) → (nat_lt 0 j || leads_up way) ≡ true → j < length ns → get_or table j false ≡ there f test way (node_in f ns j)
 

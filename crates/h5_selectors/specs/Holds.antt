@@ -3,20 +3,17 @@ use Rattle.std.specs.Prelude.{ℕ, ◌+◌, ◌==◌, ◌&&◌, ◌||◌, Bool, 
 use Rattle.std.specs.List.{filter, list_any}
 use Rattle.std.specs.Option.{option_map_or}
 use Rattle.h5_names.specs.AttributeText.{AttributeText, is_same_text}
-use Rattle.h5_names.specs.Urls.{html_text}
 use Rattle.h5_names.specs.declared.qualified.QualName.{QualName}
 use Rattle.h5_interface.specs.Forest.{Forest, attrs_of}
 use Rattle.h5_arena.specs.ArenaModel.{value_of}
 use Rattle.h5_selectors.specs.AnPlusB.{is_index}
 use Rattle.h5_selectors.specs.Languages.{has_language}
 use Rattle.h5_selectors.specs.Values.{are_same, compares, includes}
-use Rattle.h5_selectors.specs.Ways.{counted, is_empty, is_root, led, name_of}
+use Rattle.h5_selectors.specs.Ways.{counted, is_root, led}
+use Rattle.h5_tree.specs.Elements.{has_name, is_empty, is_html, is_same_type}
 use Rattle.h5_selectors.specs.declared.formula.AttrTest.{AttrTest}
 use Rattle.h5_selectors.specs.declared.formula.Formula.{Formula, Any, Name, Id, Class, Attr, Root, Scope, Empty, Link, Html, Lang, NthOfType, Nth', Not', And', Or', Leads'}
 use Rattle.h5_selectors.specs.declared.formula.Written.{Written}
-
-abbrev pub is_html : QualName → Bool
-is_html name = is_same_text name.ns html_text
 
 -- the name to compare with: for HTML elements, or for others
 abbrev pub name_for : Written → (in_html : Bool) → List ℕ
@@ -32,19 +29,12 @@ abbrev pub has_value : AttrTest → (in_html : Bool) → List AttributeText → 
 has_value test in_html attrs =
     option_map_or (compares test.operator (compares_case test in_html) (string_bytes test.text)) (value_of (name_for test.name in_html) attrs) false
 
-abbrev pub are_alike : QualName → QualName → Bool
-are_alike one other = is_same_text one.local other.local && is_same_text one.ns other.ns
-
 -- an HTML link: an `a` or an `area` with an `href` (HTML standard, section 4.16.3, ":link")
 abbrev pub is_link : QualName → List AttributeText → Bool
 is_link name attrs = is_html name && ((is_same_text name.local (codes "a") || is_same_text name.local (codes "area")) && is_some (value_of (codes "href") attrs))
 
 -- in a forest, with ids and classes compared ASCII case-insensitively in quirks mode, and with a scope element or none
 module _ (f : Forest) (quirky : Bool) (scope : Option ℕ) where
-  -- a test of an element's name
-  abbrev pub asks_name : (QualName → Bool) → ℕ → Bool
-  asks_name test n = option_map_or test (name_of f n) false
-
   abbrev pub has_id : List ℕ → ℕ → Bool
   has_id text n = option_map_or (are_same quirky text) (value_of (codes "id") (attrs_of f n)) false
 
@@ -54,23 +44,20 @@ module _ (f : Forest) (quirky : Bool) (scope : Option ℕ) where
   abbrev pub is_scope : ℕ → Bool
   is_scope n = option_map_or (λ s. s == n) scope (is_root f n)
 
-  abbrev pub is_alike : ℕ → ℕ → Bool
-  is_alike n m = asks_name (λ name. asks_name (are_alike name) m) n
-
   -- true if the condition holds for an element
   abbrev pub holds : Formula → ℕ → Bool
   holds Any n = true
-  holds (Name written) n = asks_name (is_named written) n
+  holds (Name written) n = has_name f (is_named written) n
   holds (Id text) n = has_id (string_bytes text) n
   holds (Class text) n = has_class (string_bytes text) n
-  holds (Attr test) n = asks_name (λ name. has_value test (is_html name) (attrs_of f n)) n
+  holds (Attr test) n = has_name f (λ name. has_value test (is_html name) (attrs_of f n)) n
   holds Root n = is_root f n
   holds Scope n = is_scope n
   holds Empty n = is_empty f n
-  holds Link n = asks_name (λ name. is_link name (attrs_of f n)) n
-  holds Html n = asks_name is_html n
+  holds Link n = has_name f (λ name. is_link name (attrs_of f n)) n
+  holds Html n = has_name f is_html n
   holds (Lang ranges) n = has_language f (map string_bytes ranges.items) n
-  holds (NthOfType indices side) n = is_index indices (length (filter (is_alike n) (counted side f n)) + 1)
+  holds (NthOfType indices side) n = is_index indices (length (filter (is_same_type f n) (counted side f n)) + 1)
   holds (Nth' indices side p of) n = holds of n && is_index indices (length (filter (holds of) (counted side f n)) + 1)
   holds (Not' p inner) n = not (holds inner n)
   holds (And' p one q other) n = holds one n && holds other n

@@ -9,7 +9,8 @@ use Rattle.h5_names.specs.declared.qualified.QualName.{QualName}
 use Rattle.h5_interface.specs.Forest.{Forest, attrs_of}
 use Rattle.h5_arena.specs.ArenaModel.{value_of}
 use Rattle.h5_selectors.specs.Values.{are_same, is_nothing}
-use Rattle.h5_selectors.specs.Ways.{ancestors, name_of}
+use Rattle.h5_selectors.specs.Ways.{ancestors}
+use Rattle.h5_tree.specs.Elements.{name_of}
 
 -- true for the name `lang` in the XML namespace; the value of the first attribute with it
 abbrev pub is_xml_language : QualName → Bool

@@ -1,24 +1,14 @@
 -- Rows: a node and the elements below it, with links between the rows.
-use Rattle.std.specs.Prelude.{◌≡◌, ◌≢◌, ◌<◌, ℕ, ◌+◌, All, List, [], ◌∷◌, ◌++◌, Option, None, Some, IfSome, get_or, false, length, map, slice_get, true}
+use Rattle.std.specs.Prelude.{◌≡◌, ◌≢◌, ◌<◌, ℕ, ◌+◌, All, List, [], ◌∷◌, ◌++◌, Option, None, Some, IfSome, get_or, length, map, slice_get, true}
 use Rattle.std.specs.List.{flat_map}
 use Prim.Native.Nat.{zero, suc}
-use Rattle.h5_interface.specs.Forest.{Child, ChildNode, ChildText, Forest, IsForest, children_of}
-use Rattle.h5_arena.specs.ArenaModel.{IsHeld, place}
+use Rattle.h5_interface.specs.Forest.{Forest}
 use Rattle.h5_arena.specs.Kin.{tree_parent}
-use Rattle.h5_selectors.specs.Query.{seen_by}
-use Rattle.h5_selectors.specs.Ways.{before, behind, below, child_elements, is_element}
-use Rattle.h5_selectors.specs.declared.holds.Query.{Query}
+use Rattle.h5_tree.specs.Elements.{before, behind, below, child_elements}
+use Rattle.h5_tree.specs.Shape.{IsShaped}
+use Rattle.h5_selectors.specs.Query.{Context}
 use Rattle.h5_selectors.specs.declared.rows.Links.{Links}
 use Rattle.h5_selectors.specs.declared.rows.Rows.{Rows}
-
--- children that aren't elements have no children
-abbrev pub IsBare : Forest → Child → Type 0
-IsBare f (ChildText t) = Unit {0}
-IsBare f (ChildNode c) = is_element f c ≡ false → children_of f c ≡ []
-
-abbrev pub AreBare : Forest → List Child → Type 0
-AreBare f [] = Unit {0}
-AreBare f (c ∷ cs) = IsBare f c × AreBare f cs
 
 -- an element, and those below it
 abbrev pub with_below : Forest → ℕ → List ℕ
@@ -90,19 +80,19 @@ entry_behind rows i = slice_get rows (i + 1)
 abbrev pub AreChildRows : Forest → List ℕ → (parent : ℕ) → List ℕ → Type 0
 AreChildRows f ns parent rows = (i : ℕ) → i < length rows → AreBeside f ns (get_or rows i 0) parent (entry_before rows i) (entry_behind rows i)
 
--- the nodes of rows
-abbrev pub nodes_in : Rows → List ℕ
-nodes_in rows = map place rows.ids.items
+module _ {N : Type 0} (place : N → ℕ) where
+  -- the nodes of rows
+  abbrev pub nodes_in : Rows N → List ℕ
+  nodes_in rows = map place rows.ids.items
 
--- the node of a row
-abbrev pub node_of : Rows → ℕ → ℕ
-node_of rows row = get_or (nodes_in rows) row 0
+  -- the node of a row
+  abbrev pub node_of : Rows N → ℕ → ℕ
+  node_of rows row = get_or (nodes_in rows) row 0
 
--- rows on which a query can be tested: all links are known, except those of the first row to a parent and siblings
-pub record AreRows (query : Query) (rows : Rows) : Type 0 where
-  pub forest : IsForest (seen_by query)
-  pub held : All (IsHeld query.arena.now) rows.ids.items
-  pub count : length rows.links.items ≡ length rows.ids.items
-  pub links : AreLinked (seen_by query) (nodes_in rows) rows.links.items
-  pub parents : (k : ℕ) (d : Links) → 0 < k → k < length rows.links.items → (get_or rows.links.items k d).parent ≢ None
-  pub children : (k : ℕ) (d : Links) → k < length rows.links.items → (get_or rows.links.items k d).knows_children ≡ true
+  -- rows on which a query can be tested: all links are known, except those of the first row to a parent and siblings
+  pub record AreRows (c : Context) (rows : Rows N) : Type 0 where
+    pub shape : IsShaped c.forest
+    pub count : length rows.links.items ≡ length rows.ids.items
+    pub links : AreLinked c.forest (nodes_in rows) rows.links.items
+    pub parents : (k : ℕ) (d : Links) → 0 < k → k < length rows.links.items → (get_or rows.links.items k d).parent ≢ None
+    pub children : (k : ℕ) (d : Links) → k < length rows.links.items → (get_or rows.links.items k d).knows_children ≡ true

@@ -1,5 +1,7 @@
 //! Counts the siblings of each row that have the same name.
 ghost use Rattle.std.specs.Prelude.{◌≡◌, ◌<◌, ℕ, IfOk, get_or, length, vec_len};
+ghost use Rattle.std.specs.Option.{option_map};
+ghost use Rattle.h5_selectors.specs.Query.{context};
 ghost use Rattle.h5_selectors.specs.Rows.{AreRows};
 ghost use Rattle.h5_selectors.specs.Tables.{CountsAlike, IsAlikeBefore, IsAlikeBehind, one_more};
 ghost use Rattle.h5_selectors.specs.declared.formula.Side.TheVariants.{First, Last};
@@ -8,14 +10,15 @@ use super::holds::{Query, is_alike};
 use super::rows::Rows;
 use super::tables::{count_of, zeros};
 use crate::Side;
+use h5_tree::Tree;
 use std::alloc::AllocError;
 
 // The nearest row of a sibling before, with the same name.
-fn alike_before(query: &Query<'_>, rows: &Rows, at: usize) -> Option<usize>
-    requires rows { AreRows query.now rows.now }
+fn alike_before<T: Tree>(query: &Query<'_, T>, rows: &Rows<T::NodeId>, at: usize) -> Option<usize>
+    requires rows { AreRows T.number (context (T.forest query.now.tree.now) query.now.is_quirky (option_map T.number query.now.scope)) rows.now }
     requires some { 0 < at }
     requires within { at < length rows.now.ids.items }
-    ensures { IsAlikeBefore query.now rows.now at result }
+    ensures { IsAlikeBefore T.number (T.forest query.now.tree.now) rows.now at result }
 {
     let id = rows.id(at);
     let mut link = rows.links(at).previous;
@@ -29,11 +32,11 @@ fn alike_before(query: &Query<'_>, rows: &Rows, at: usize) -> Option<usize>
 }
 
 // The nearest row of a sibling after, with the same name.
-fn alike_behind(query: &Query<'_>, rows: &Rows, at: usize) -> Option<usize>
-    requires rows { AreRows query.now rows.now }
+fn alike_behind<T: Tree>(query: &Query<'_, T>, rows: &Rows<T::NodeId>, at: usize) -> Option<usize>
+    requires rows { AreRows T.number (context (T.forest query.now.tree.now) query.now.is_quirky (option_map T.number query.now.scope)) rows.now }
     requires some { 0 < at }
     requires within { at < length rows.now.ids.items }
-    ensures { IsAlikeBehind query.now rows.now at result }
+    ensures { IsAlikeBehind T.number (T.forest query.now.tree.now) rows.now at result }
 {
     let id = rows.id(at);
     let mut link = rows.links(at).next;
@@ -58,10 +61,10 @@ fn one_more(counts: &[usize], link: Option<usize>) -> usize
 }
 
 // For each row, the number of siblings before with the same name.
-fn before(query: &Query<'_>, rows: &Rows) -> Result<Vec<usize>, AllocError>
-    requires { AreRows query.now rows.now }
+fn before<T: Tree>(query: &Query<'_, T>, rows: &Rows<T::NodeId>) -> Result<Vec<usize>, AllocError>
+    requires { AreRows T.number (context (T.forest query.now.tree.now) query.now.is_quirky (option_map T.number query.now.scope)) rows.now }
     ensures count { IfOk result (λ counts. vec_len counts ≡ length rows.now.ids.items) }
-    ensures counts { IfOk result (λ counts. CountsAlike query.now First rows.now counts.items) }
+    ensures counts { IfOk result (λ counts. CountsAlike T.number (T.forest query.now.tree.now) First rows.now counts.items) }
 {
     let mut counts = zeros(query.alloc, rows.len())?;
     for at in 1..rows.len() {
@@ -72,10 +75,10 @@ fn before(query: &Query<'_>, rows: &Rows) -> Result<Vec<usize>, AllocError>
 }
 
 // For each row, the number of siblings after with the same name.
-fn behind(query: &Query<'_>, rows: &Rows) -> Result<Vec<usize>, AllocError>
-    requires { AreRows query.now rows.now }
+fn behind<T: Tree>(query: &Query<'_, T>, rows: &Rows<T::NodeId>) -> Result<Vec<usize>, AllocError>
+    requires { AreRows T.number (context (T.forest query.now.tree.now) query.now.is_quirky (option_map T.number query.now.scope)) rows.now }
     ensures count { IfOk result (λ counts. vec_len counts ≡ length rows.now.ids.items) }
-    ensures counts { IfOk result (λ counts. CountsAlike query.now Last rows.now counts.items) }
+    ensures counts { IfOk result (λ counts. CountsAlike T.number (T.forest query.now.tree.now) Last rows.now counts.items) }
 {
     let mut counts = zeros(query.alloc, rows.len())?;
     for step in 1..rows.len() {
@@ -87,14 +90,14 @@ fn behind(query: &Query<'_>, rows: &Rows) -> Result<Vec<usize>, AllocError>
 }
 
 /// For each row except the first, the number of siblings on this side with the same name.
-pub(crate) fn counts_alike(
-    query: &Query<'_>,
-    rows: &Rows,
+pub(crate) fn counts_alike<T: Tree>(
+    query: &Query<'_, T>,
+    rows: &Rows<T::NodeId>,
     side: Side,
 ) -> Result<Vec<usize>, AllocError>
-    requires { AreRows query.now rows.now }
+    requires { AreRows T.number (context (T.forest query.now.tree.now) query.now.is_quirky (option_map T.number query.now.scope)) rows.now }
     ensures count { IfOk result (λ counts. vec_len counts ≡ length rows.now.ids.items) }
-    ensures counts { IfOk result (λ counts. CountsAlike query.now side rows.now counts.items) }
+    ensures counts { IfOk result (λ counts. CountsAlike T.number (T.forest query.now.tree.now) side rows.now counts.items) }
 {
     match side {
         Side::First => before(query, rows),

@@ -1,60 +1,37 @@
 //! Languages of elements (HTML standard, section 3.2.6.2), and language ranges (RFC 4647, section 3.3.2, "Extended Filtering").
-ghost use Rattle.std.specs.Prelude.{◌≡◌, ◌∷◌, ◌≤◌, All, IfOk, IfSome, drop, length, map, option_copied, option_map, string_bytes};
+ghost use Rattle.std.specs.Prelude.{◌≡◌, ◌≤◌, IfOk, IfSome, drop, length, map, option_copied, option_map, string_bytes};
 ghost use Rattle.std.specs.List.{list_any};
-ghost use Rattle.h5_names.specs.AttributeText.{attribute_texts};
-ghost use Rattle.h5_arena.specs.ArenaModel.{IsHeld, forest_seen, place};
 ghost use Rattle.h5_selectors.specs.Languages as l;
 
 use super::values::are_same;
-use super::ways::{ancestors, name_of};
-use h5_arena::{Arena, NodeId};
-use h5_names::{Attribute, QualName};
+use super::ways::ancestors;
+use h5_names::namespaces;
+use h5_tree::Tree;
 use std::alloc::{AllocError, Global};
 
-const XML: &str = "http://www.w3.org/XML/1998/namespace";
-
-// Returns true for the name `lang` in the XML namespace.
-fn is_xml_language(name: &QualName) -> bool
-    ensures { result ≡ l.is_xml_language name.now }
-{
-    name.ns.as_str() == XML && name.local.as_str() == "lang"
-}
-
-// The value of the first attribute `lang` in the XML namespace.
-fn xml_language(attrs: &[Attribute]) -> Option<&str>
-    ensures { option_copied result ≡ l.xml_language (attribute_texts attrs.now) }
-{
-    for attribute in attrs {
-        if is_xml_language(&attribute.name) {
-            return Some(attribute.value.as_str());
-        }
-    }
-    None
-}
-
 // The language that an element's attributes give.
-fn own_language(arena: &Arena, id: NodeId) -> Option<&str>
-    requires { IsHeld arena.now id }
-    ensures { option_copied result ≡ l.own_language (forest_seen arena.now) id.index }
+pub(crate) fn own_language<T: Tree>(tree: &T, id: T::NodeId) -> Option<&str>
+    ensures { option_copied result ≡ l.own_language (T.forest tree.now) (T.number id) }
 {
-    let name = name_of(arena, id)?;
-    let language = xml_language(arena.attrs(id));
+    if !tree.is_element(id) {
+        return None;
+    }
+    let language = tree.attr_in_namespace(id, namespaces::XML, "lang");
     if language.is_some() {
         return language;
     }
-    if name.ns.is_html() || name.ns.is_svg() {
-        return arena.attr(id, "lang");
+    if tree.is_html_element(id) || tree.has_namespace(id, namespaces::SVG) {
+        return tree.attr(id, "lang");
     }
     None
 }
 
 // The language of the first of some elements that gives one.
-fn first_language<'a>(arena: &'a Arena, list: &[NodeId]) -> Option<&'a str>
-    requires { All (IsHeld arena.now) list.now }
-    ensures { option_copied result ≡ l.first_language (forest_seen arena.now) (map place list.now) }
+pub(crate) fn first_language<'a, T: Tree>(tree: &'a T, list: &[T::NodeId]) -> Option<&'a str>
+    ensures { option_copied result ≡ l.first_language (T.forest tree.now) (map T.number list.now) }
 {
     for id in list {
-        let language = own_language(arena, *id);
+        let language = own_language(tree, *id);
         if language.is_some() {
             return language;
         }
@@ -63,15 +40,18 @@ fn first_language<'a>(arena: &'a Arena, list: &[NodeId]) -> Option<&'a str>
 }
 
 /// The language of an element: its own, or that of the nearest ancestor that has one. An unknown language is the empty text.
-pub(crate) fn language_of(alloc: Global, arena: &Arena, id: NodeId) -> Result<&str, AllocError>
-    requires { IsHeld arena.now id }
-    ensures { IfOk result (λ language. language.now ≡ l.language (forest_seen arena.now) id.index) }
+pub(crate) fn language_of<T: Tree>(
+    alloc: Global,
+    tree: &T,
+    id: T::NodeId,
+) -> Result<&str, AllocError>
+    ensures { IfOk result (λ language. language.now ≡ l.language (T.forest tree.now) (T.number id)) }
 {
-    if let Some(language) = own_language(arena, id) {
+    if let Some(language) = own_language(tree, id) {
         return Ok(language);
     }
-    let above = ancestors(alloc, arena, id)?;
-    match first_language(arena, above.as_slice()) {
+    let above = ancestors(alloc, tree, id)?;
+    match first_language(tree, above.as_slice()) {
         Some(language) => Ok(language),
         None => Ok(""),
     }

@@ -1,4 +1,5 @@
-//! CSS selectors over the nodes of an arena (Selectors Level 4, without namespaces, pseudo-elements and user actions).
+//! CSS selectors over the nodes of a tree (Selectors Level 4, without namespaces, pseudo-elements and user actions). A tree is anything
+//! with the trait `Tree` of h5_tree: an arena, or a sound block.
 //!
 //! A selector is parsed to a `Formula`, a condition on one element: `formula` has the conditions, `an_plus_b` indices. `scan` reads names,
 //! strings and numbers; `attributes`, `indices`, `combinators` and `parser` parse selectors; `conditions` makes conditions of others, and `controls` those of
@@ -11,8 +12,8 @@
 //! condition on one element. `rows` has a node and the elements below it, `alike` counts siblings with equal names, and `tables` tests a
 //! condition on all rows, with one pass for each part. `selector` has the public calls, `fault` the errors.
 //!
-//! This crate depends on h5_names, h5_interface and h5_arena. Begin with `specs/Grammar.antt`; then read `specs/Holds.antt` and
-//! `specs/Selected.antt`.
+//! This crate depends on h5_names, h5_interface, h5_arena (its definitions) and h5_tree. Begin with `specs/Grammar.antt`; then read
+//! `specs/Holds.antt` and `specs/Selected.antt`.
 #![tactic(auto)]
 
 mod alike;

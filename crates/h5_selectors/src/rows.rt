@@ -1,15 +1,14 @@
 //! Rows: a node and the elements below it, each linked to the rows around it.
 ghost use Rattle.std.specs.Prelude.{◌≡◌, ◌≢◌, ◌<◌, List, None, ℕ, ◌∷◌, All, IfOk, IfSome, OnOk, Option, Some, get_or, length, map, true, vec_len};
-ghost use Rattle.h5_interface.specs.Forest.{Forest, IsForest};
-ghost use Rattle.h5_arena.specs.ArenaModel.{IsChildHeld, IsHeld, child_views, forest_seen, place};
-ghost use Rattle.h5_selectors.specs.Query.{seen_by};
-ghost use Rattle.h5_selectors.specs.Rows.{AreBare, AreBelow, AreBeside, AreChildRows, AreLinked, AreRising, AreRows, AreWithin, IsKnown, entry_before, entry_behind, node_in, node_of, nodes_in};
-ghost use Rattle.h5_selectors.specs.Ways.{below, child_elements};
-ghost use Rattle.h5_selectors.specs.declared.holds.Query.{Query as QueryAt};
+ghost use Rattle.std.specs.Option.{option_map};
+ghost use Rattle.h5_interface.specs.Forest.{Forest};
+ghost use Rattle.h5_tree.specs.Elements.{AreElementsOrLeaves, below, child_elements};
+ghost use Rattle.h5_tree.specs.Shape.{IsShaped};
+ghost use Rattle.h5_selectors.specs.Query.{Context, context, seen_by};
+ghost use Rattle.h5_selectors.specs.Rows.{AreBelow, AreBeside, AreChildRows, AreLinked, AreRising, AreRows, AreWithin, IsKnown, entry_before, entry_behind, node_in, node_of, nodes_in};
 
 use super::holds::Query;
-use super::ways::{element_of, elements_below, is_element};
-use h5_arena::{Arena, Child, NodeId};
+use h5_tree::Tree;
 use std::alloc::{AllocError, Global};
 
 /// The links of an element's row.
@@ -28,12 +27,12 @@ pub(crate) struct Links {
 
 /// A node and the elements below it, in tree order.
 #[derive(Drop)]
-pub(crate) struct Rows {
-    pub(crate) ids: Vec<NodeId>,
+pub(crate) struct Rows<N: Copy> {
+    pub(crate) ids: Vec<N>,
     links: Vec<Links>,
 }
 
-impl Rows {
+impl<N: Copy> Rows<N> {
     /// The number of rows.
     pub(crate) fn len(&self) -> usize
         ensures { result ≡ length self.now.ids.items }
@@ -42,10 +41,9 @@ impl Rows {
     }
 
     /// The node of a row.
-    pub(crate) fn id(&self, row: usize) -> NodeId
+    pub(crate) fn id(&self, row: usize) -> N
         requires { row < length self.now.ids.items }
-        ensures node { result.index ≡ node_of self.now row }
-        ensures held { (query : QueryAt) → AreRows query self.now → IsHeld query.arena.now result }
+        ensures { (place : N → ℕ) → place result ≡ node_of place self.now row }
     {
         self.ids[row]
     }
@@ -54,7 +52,7 @@ impl Rows {
     pub(crate) fn links(&self, row: usize) -> Links
         requires count { length self.now.links.items ≡ length self.now.ids.items }
         requires within { row < length self.now.ids.items }
-        ensures { (query : QueryAt) → AreRows query self.now → IsKnown (seen_by query) (nodes_in self.now) row result }
+        ensures { (place : N → ℕ) (c : Context) → AreRows place c self.now → IsKnown (seen_by c) (nodes_in place self.now) row result }
     {
         self.links[row]
     }
@@ -79,49 +77,32 @@ fn unlinked(alloc: Global, count: usize) -> Result<Vec<Links>, AllocError>
     Ok(links)
 }
 
-// Returns true only if children that aren't elements have no children.
-fn are_bare(arena: &Arena, children: &[Child]) -> bool
-    requires { All (IsChildHeld arena.now) children.now }
-    ensures { result ≡ true → AreBare (forest_seen arena.now) (child_views children.now) }
-{
-    for child in children {
-        if let Child::Node(id) = child {
-            if !is_element(arena, *id) && !arena.children(*id).is_empty() {
-                return false;
-            }
-        }
-    }
-    true
-}
-
 // The rows of the child elements of a row's node, and the first row after them. `None` if they aren't in the rows after it, each after the
 // subtree of the one before.
-fn child_rows(
-    arena: &Arena,
-    ids: &[NodeId],
+fn child_rows<T: Tree>(
+    tree: &T,
+    children: &[T::NodeId],
+    ids: &[T::NodeId],
     links: &[Links],
     at: usize,
     found: &mut Vec<usize>,
 ) -> Result<Option<usize>, AllocError>
     requires within { at < length ids.now }
     requires count { length links.now ≡ length ids.now }
-    requires held { All (IsHeld arena.now) ids.now }
-    requires links { AreLinked (forest_seen arena.now) (map place ids.now) links.now }
-    ensures found { IfOk result (λ end. IfSome end (λ _. map (node_in (forest_seen arena.now) (map place ids.now)) found.new.items ≡ child_elements (forest_seen arena.now) (node_in (forest_seen arena.now) (map place ids.now) at))) }
+    requires links { AreLinked (T.forest tree.now) (map T.number ids.now) links.now }
+    ensures found { IfOk result (λ end. IfSome end (λ _. map (node_in (T.forest tree.now) (map T.number ids.now)) found.new.items ≡ map T.number children.now)) }
     ensures rising { OnOk result (AreRising found.new.items) }
     ensures within { OnOk result (AreWithin at (length ids.now) found.new.items) }
     ensures end { IfOk result (λ end. IfSome end (λ e. at < e)) }
 {
     found.clear();
     let mut row = at + 1;
-    for child in arena.children(ids[at]) {
-        if let Some(element) = element_of(arena, child) {
-            if row >= ids.len() || ids[row] != element {
-                return Ok(None);
-            }
-            found.push(row)?;
-            row = links[row].end;
+    for child in children {
+        if row >= ids.len() || !tree.is_same_node(ids[row], *child) {
+            return Ok(None);
         }
+        found.push(row)?;
+        row = links[row].end;
     }
     Ok(Some(row))
 }
@@ -192,25 +173,26 @@ fn link_children(links: &mut Vec<Links>, parent: usize, children: &[usize])
 }
 
 // Links a row and the rows of its children, if these are in the order of the children.
-fn link_row(
-    arena: &Arena,
-    ids: &[NodeId],
+fn link_row<T: Tree>(
+    alloc: Global,
+    tree: &T,
+    ids: &[T::NodeId],
     links: &mut Vec<Links>,
     row: usize,
     room: &mut Vec<usize>,
 ) -> Result<(), AllocError>
-    requires forest { IsForest (forest_seen arena.now) }
+    requires shape { IsShaped (T.forest tree.now) }
     requires within { row < length ids.now }
     requires count { length links.old.items ≡ length ids.now }
-    requires held { All (IsHeld arena.now) ids.now }
-    requires links { AreLinked (forest_seen arena.now) (map place ids.now) links.old.items }
+    requires links { AreLinked (T.forest tree.now) (map T.number ids.now) links.old.items }
     ensures count { OnOk result (length links.new.items ≡ length ids.now) }
-    ensures links { OnOk result (AreLinked (forest_seen arena.now) (map place ids.now) links.new.items) }
+    ensures links { OnOk result (AreLinked (T.forest tree.now) (map T.number ids.now) links.new.items) }
 {
-    if !are_bare(arena, arena.children(ids[row])) {
+    if !tree.has_elements_or_leaves(ids[row]) {
         return Ok(());
     }
-    let Some(end) = child_rows(arena, ids, links.as_slice(), row, room)? else {
+    let children = tree.child_elements(alloc, ids[row])?;
+    let Some(end) = child_rows(tree, children.as_slice(), ids, links.as_slice(), row, room)? else {
         return Ok(());
     };
     link_children(links, row, room.as_slice());
@@ -219,16 +201,22 @@ fn link_row(
 }
 
 // The links of rows. Begins with the last row.
-fn linked(alloc: Global, arena: &Arena, ids: &[NodeId]) -> Result<Vec<Links>, AllocError>
-    requires forest { IsForest (forest_seen arena.now) }
-    requires held { All (IsHeld arena.now) ids.now }
+fn linked<T: Tree>(alloc: Global, tree: &T, ids: &[T::NodeId]) -> Result<Vec<Links>, AllocError>
+    requires { IsShaped (T.forest tree.now) }
     ensures count { IfOk result (λ links. length links.items ≡ length ids.now) }
-    ensures links { IfOk result (λ links. AreLinked (forest_seen arena.now) (map place ids.now) links.items) }
+    ensures links { IfOk result (λ links. AreLinked (T.forest tree.now) (map T.number ids.now) links.items) }
 {
     let mut links = unlinked(alloc, ids.len())?;
     let mut room = Vec::new(alloc);
     for step in 0..ids.len() {
-        link_row(arena, ids, &mut links, ids.len() - 1 - step, &mut room)?;
+        link_row(
+            alloc,
+            tree,
+            ids,
+            &mut links,
+            ids.len() - 1 - step,
+            &mut room,
+        )?;
     }
     Ok(links)
 }
@@ -247,27 +235,30 @@ fn are_known(links: &[Links]) -> bool
 }
 
 // A node, and the elements below it, in tree order.
-fn with_below(alloc: Global, arena: &Arena, id: NodeId) -> Result<Vec<NodeId>, AllocError>
-    requires { IsHeld arena.now id }
-    ensures nodes { IfOk result (λ ids. map place ids.items ≡ id.index ∷ below (forest_seen arena.now) id.index) }
-    ensures held { IfOk result (λ ids. All (IsHeld arena.now) ids.items) }
+fn with_below<T: Tree>(alloc: Global, tree: &T, id: T::NodeId) -> Result<Vec<T::NodeId>, AllocError>
+    ensures { IfOk result (λ ids. map T.number ids.items ≡ T.number id ∷ below (T.forest tree.now) (T.number id)) }
 {
-    let below = elements_below(alloc, arena, id)?;
+    let below = tree.descendant_elements(alloc, id)?;
     let mut ids = Vec::with_capacity(alloc, below.len() + 1)?;
     ids.push(id)?;
-    ids.extend_from_slice(below.as_slice())?;
+    for element in below.as_slice() {
+        ids.push(*element)?;
+    }
     Ok(ids)
 }
 
 /// Returns a node and the elements below it as rows, or `None` if a link isn't known.
-pub(crate) fn rows_of(query: &Query<'_>, id: NodeId) -> Result<Option<Rows>, AllocError>
-    requires forest { IsForest (seen_by query.now) }
-    requires held { IsHeld query.now.arena.now id }
-    ensures rows { IfOk result (λ rows. IfSome rows (AreRows query.now)) }
-    ensures nodes { IfOk result (λ rows. IfSome rows (λ rows. nodes_in rows ≡ id.index ∷ below (seen_by query.now) id.index)) }
+pub(crate) fn rows_of<T: Tree>(
+    query: &Query<'_, T>,
+    id: T::NodeId,
+) -> Result<Option<Rows<T::NodeId>>, AllocError>
+    ensures rows { IfOk result (λ rows. IfSome rows (AreRows T.number (context (T.forest query.now.tree.now) query.now.is_quirky (option_map T.number query.now.scope)))) }
+    ensures nodes { IfOk result (λ rows. IfSome rows (λ rows. nodes_in T.number rows ≡ T.number id ∷ below (T.forest query.now.tree.now) (T.number id))) }
 {
-    let ids = with_below(query.alloc, query.arena, id)?;
-    let links = linked(query.alloc, query.arena, ids.as_slice())?;
+    // The shape of the tree is known from here on.
+    let _count = query.tree.node_count();
+    let ids = with_below(query.alloc, query.tree, id)?;
+    let links = linked(query.alloc, query.tree, ids.as_slice())?;
     if !are_known(links.as_slice()) {
         return Ok(None);
     }

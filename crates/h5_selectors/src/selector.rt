@@ -1,27 +1,29 @@
 //! The calls of a selector.
 ghost use Rattle.std.specs.Prelude.{◌≡◌, ◌<◌, ℕ, All, Bool, IfErr, IfOk, IfSome, drop, false, get_or, length, map, not, slice_get};
 ghost use Rattle.std.specs.List.{filter};
+ghost use Rattle.std.specs.Option.{option_map};
 ghost use Rattle.std.specs.Str.{chars};
-ghost use Rattle.h5_arena.specs.ArenaModel.{IsHeld, optional_place, place};
+ghost use Rattle.h5_tree.specs.Elements.{below};
 ghost use Rattle.h5_selectors.specs.Asking.{asked};
 ghost use Rattle.h5_selectors.specs.Fault.{Found, IsWithin, Tells};
 ghost use Rattle.h5_selectors.specs.Grammar.{selectors_of};
-ghost use Rattle.h5_selectors.specs.Query.{matches_by, seen_by};
-ghost use Rattle.h5_selectors.specs.Ways.{below};
+ghost use Rattle.h5_selectors.specs.Query.{context, matches_by};
+ghost use Rattle.h5_selectors.specs.Selected.{is_match, is_quirky, matching_upwards, scope_in, selected};
 
 use super::holds::{Query, holds};
 use super::rows::rows_of;
 use super::tables::unmatched;
-use super::ways::{ancestors, elements_below, is_element};
+use super::ways::ancestors;
 use crate::{Formula, SelectorError, parse};
-use h5_arena::{Arena, NodeId};
-use h5_interface::TreeSink;
+use h5_interface::QuirksMode;
+use h5_tree::Tree;
 use std::alloc::{AllocError, Global};
 use std::marker::Model;
 
 /// A list of selectors, as in the prelude of a style rule.
 ///
-/// Each call requires a node of the arena (`Arena::holds`), and changes nothing. Its only error is `AllocError`, if an allocation fails.
+/// It can be asked of any tree, as often as needed; an id that isn't a node of the tree leads to nothing. A call changes nothing, and its
+/// only error is `AllocError`, if an allocation fails.
 pub struct Selector {
     list: Vec<Formula>,
     alloc: Global,
@@ -49,10 +51,27 @@ impl Model for Selector {
     ghost view = { λ s. s.list.items };
 }
 
+// The query of a tree that has this node as its scope, if it is an element.
+fn query_in<'a, T: Tree>(alloc: Global, tree: &'a T, id: T::NodeId) -> Query<'a, T>
+    ensures tree { T.forest result.tree.now ≡ T.forest tree.now }
+    ensures scope { option_map T.number result.scope ≡ scope_in (T.forest tree.now) (T.number id) }
+    ensures quirky { result.is_quirky ≡ is_quirky (T.mode tree.now) }
+{
+    Query {
+        tree,
+        scope: if tree.is_element(id) { Some(id) } else { None },
+        is_quirky: tree.quirks_mode() == QuirksMode::Quirks,
+        alloc,
+    }
+}
+
 // Returns true if one of the selectors matches an element.
-fn matches_one(list: &[Formula], query: &Query<'_>, id: NodeId) -> Result<bool, AllocError>
-    requires { IsHeld query.now.arena.now id }
-    ensures { IfOk result (λ answer. answer ≡ matches_by query.now list.now id.index) }
+fn matches_one<T: Tree>(
+    list: &[Formula],
+    query: &Query<'_, T>,
+    id: T::NodeId,
+) -> Result<bool, AllocError>
+    ensures { IfOk result (λ answer. answer ≡ matches_by (context (T.forest query.now.tree.now) query.now.is_quirky (option_map T.number query.now.scope)) list.now (T.number id)) }
 {
     for formula in list {
         if holds(formula, query, id)? {
@@ -63,18 +82,11 @@ fn matches_one(list: &[Formula], query: &Query<'_>, id: NodeId) -> Result<bool, 
 }
 
 // The nodes of the rows after the first that aren't left over.
-fn taken(
-    alloc: Global,
-    arena: &Arena,
-    ids: &[NodeId],
-    left: &[bool],
-) -> Result<Vec<NodeId>, AllocError>
+fn taken<N: Copy>(alloc: Global, ids: &[N], left: &[bool]) -> Result<Vec<N>, AllocError>
     requires some { 0 < length ids.now }
     requires count { length left.now ≡ length ids.now }
-    requires held { All (IsHeld arena.now) ids.now }
-    ensures found { IfOk result (λ found. (test : ℕ → Bool) → ((k : ℕ) → k < length ids.now → get_or left.now k false ≡ not (test (get_or (map place ids.now) k 0)))
+    ensures { IfOk result (λ found. (place : N → ℕ) (test : ℕ → Bool) → ((k : ℕ) → k < length ids.now → get_or left.now k false ≡ not (test (get_or (map place ids.now) k 0)))
         → map place found.items ≡ filter test (map place (drop 1 ids.now))) }
-    ensures held { IfOk result (λ found. All (IsHeld arena.now) found.items) }
 {
     let mut found = Vec::new(alloc);
     for at in 1..ids.len() {
@@ -114,14 +126,12 @@ fn all_ask_alone(list: &[Formula]) -> bool {
 }
 
 // The elements of a list that one of the selectors matches, each tested alone.
-fn all_matching(
+fn all_matching<T: Tree>(
     list: &[Formula],
-    query: &Query<'_>,
-    elements: &[NodeId],
-) -> Result<Vec<NodeId>, AllocError>
-    requires { All (IsHeld query.now.arena.now) elements.now }
-    ensures found { IfOk result (λ found. map place found.items ≡ filter (matches_by query.now list.now) (map place elements.now)) }
-    ensures held { IfOk result (λ found. All (IsHeld query.now.arena.now) found.items) }
+    query: &Query<'_, T>,
+    elements: &[T::NodeId],
+) -> Result<Vec<T::NodeId>, AllocError>
+    ensures { IfOk result (λ found. map T.number found.items ≡ filter (matches_by (context (T.forest query.now.tree.now) query.now.is_quirky (option_map T.number query.now.scope)) list.now) (map T.number elements.now)) }
 {
     let mut found = Vec::new(query.alloc);
     for element in elements {
@@ -133,14 +143,12 @@ fn all_matching(
 }
 
 // The first element of a list that one of the selectors matches.
-fn first_matching(
+fn first_matching<T: Tree>(
     list: &[Formula],
-    query: &Query<'_>,
-    elements: &[NodeId],
-) -> Result<Option<NodeId>, AllocError>
-    requires { All (IsHeld query.now.arena.now) elements.now }
-    ensures first { IfOk result (λ found. optional_place found ≡ slice_get (filter (matches_by query.now list.now) (map place elements.now)) 0) }
-    ensures held { IfOk result (λ found. IfSome found (IsHeld query.now.arena.now)) }
+    query: &Query<'_, T>,
+    elements: &[T::NodeId],
+) -> Result<Option<T::NodeId>, AllocError>
+    ensures { IfOk result (λ found. option_map T.number found ≡ slice_get (filter (matches_by (context (T.forest query.now.tree.now) query.now.is_quirky (option_map T.number query.now.scope)) list.now) (map T.number elements.now)) 0) }
 {
     for element in elements {
         if matches_one(list, query, *element)? {
@@ -151,18 +159,18 @@ fn first_matching(
 }
 
 // The elements below a node that one of the selectors matches, each tested alone.
-fn all_below(list: &[Formula], query: &Query<'_>, id: NodeId) -> Result<Vec<NodeId>, AllocError>
-    requires { IsHeld query.now.arena.now id }
-    ensures found { IfOk result (λ found. map place found.items ≡ filter (matches_by query.now list.now) (below (seen_by query.now) id.index)) }
-    ensures held { IfOk result (λ found. All (IsHeld query.now.arena.now) found.items) }
+fn all_below<T: Tree>(
+    list: &[Formula],
+    query: &Query<'_, T>,
+    id: T::NodeId,
+) -> Result<Vec<T::NodeId>, AllocError>
+    ensures { IfOk result (λ found. map T.number found.items ≡ filter (matches_by (context (T.forest query.now.tree.now) query.now.is_quirky (option_map T.number query.now.scope)) list.now) (below (T.forest query.now.tree.now) (T.number id))) }
 {
-    let below = elements_below(query.alloc, query.arena, id)?;
+    let below = query.tree.descendant_elements(query.alloc, id)?;
     all_matching(list, query, below.as_slice())
 }
 
 impl Selector {
-    ghost use Rattle.h5_selectors.specs.Selected.{is_match, matching_upwards, selected};
-
     /// Parses a list of selectors, with the meaning that the grammar gives it (Selectors Level 4, section 17, "Grammar"). Fails with
     /// `Invalid` if the text isn't one, with the problem that the grammar finds first from left to right, and its position, in characters.
     /// So the problem is `TooLong` where a selector has more than 1,000 parts, and `TooDeep` at a pseudo-class with arguments that is
@@ -181,28 +189,26 @@ impl Selector {
 
     /// Returns true if one of the selectors matches a node. Only elements match. `:scope` is the element itself (DOM standard, section 4.9,
     /// "matches").
-    pub fn matches(&self, arena: &Arena, id: NodeId) -> Result<bool, AllocError>
-        requires { IsHeld arena.now id }
-        ensures { IfOk result (λ answer. answer ≡ is_match arena.now id.index self.now) }
+    pub fn matches<T: Tree>(&self, tree: &T, id: T::NodeId) -> Result<bool, AllocError>
+        ensures { IfOk result (λ answer. answer ≡ is_match (T.forest tree.now) (T.mode tree.now) (T.number id) self.now) }
     {
-        if !is_element(arena, id) {
+        if !tree.is_element(id) {
             return Ok(false);
         }
-        let query = Query::new(self.alloc, arena, id);
+        let query = query_in(self.alloc, tree, id);
         matches_one(self.list.as_slice(), &query, id)
     }
 
     /// Returns the elements below a node that one of the selectors matches, each once, in tree order. The node itself isn't among them, nor
     /// are elements in the contents of a template. `:scope` is the node or, if that isn't an element, the root (DOM standard, section
     /// 4.2.6, "querySelectorAll").
-    pub fn select(&self, arena: &Arena, id: NodeId) -> Result<Vec<NodeId>, AllocError>
-        requires { IsHeld arena.now id }
-        ensures found { IfOk result (λ found. map place found.items ≡ selected arena.now id.index self.now) }
-        ensures held { IfOk result (λ found. All (IsHeld arena.now) found.items) }
+    pub fn select<T: Tree>(&self, tree: &T, id: T::NodeId) -> Result<Vec<T::NodeId>, AllocError>
+        ensures found { IfOk result (λ found. map T.number found.items ≡ selected (T.forest tree.now) (T.mode tree.now) (T.number id) self.now) }
+        ensures nodes { IfOk result (λ found. All (λ id. T.number id < (T.forest tree.now).bound) found.items) }
     {
-        let query = Query::new(self.alloc, arena, id);
-        // The nodes of an arena are a forest.
-        let _document = arena.get_document();
+        let query = query_in(self.alloc, tree, id);
+        // The shape of the tree is known from here on: elements are nodes.
+        let _count = tree.node_count();
         if all_ask_alone(self.list.as_slice()) {
             return all_below(self.list.as_slice(), &query, id);
         }
@@ -210,33 +216,39 @@ impl Selector {
             return all_below(self.list.as_slice(), &query, id);
         };
         let left = unmatched(self.list.as_slice(), &query, &rows)?;
-        taken(self.alloc, arena, rows.ids.as_slice(), left.as_slice())
+        taken(self.alloc, rows.ids.as_slice(), left.as_slice())
     }
 
     /// Returns the first element that `select` returns, if any.
-    pub fn select_first(&self, arena: &Arena, id: NodeId) -> Result<Option<NodeId>, AllocError>
-        requires { IsHeld arena.now id }
-        ensures first { IfOk result (λ found. optional_place found ≡ slice_get (selected arena.now id.index self.now) 0) }
-        ensures held { IfOk result (λ found. IfSome found (IsHeld arena.now)) }
+    pub fn select_first<T: Tree>(
+        &self,
+        tree: &T,
+        id: T::NodeId,
+    ) -> Result<Option<T::NodeId>, AllocError>
+        ensures first { IfOk result (λ found. option_map T.number found ≡ slice_get (selected (T.forest tree.now) (T.mode tree.now) (T.number id) self.now) 0) }
+        ensures nodes { IfOk result (λ found. IfSome found (λ id. T.number id < (T.forest tree.now).bound)) }
     {
-        let query = Query::new(self.alloc, arena, id);
-        let below = elements_below(self.alloc, arena, id)?;
+        let query = query_in(self.alloc, tree, id);
+        // The shape of the tree is known from here on: elements are nodes.
+        let _count = tree.node_count();
+        let below = tree.descendant_elements(self.alloc, id)?;
         first_matching(self.list.as_slice(), &query, below.as_slice())
     }
 
     /// Returns the nearest of a node and its ancestors that one of the selectors matches, if any. `:scope` is the node or, if that isn't an
     /// element, the root (DOM standard, section 4.9, "closest").
-    pub fn closest(&self, arena: &Arena, id: NodeId) -> Result<Option<NodeId>, AllocError>
-        requires { IsHeld arena.now id }
-        ensures first { IfOk result (λ found. optional_place found ≡ slice_get (matching_upwards arena.now id.index self.now) 0) }
-        ensures held { IfOk result (λ found. IfSome found (IsHeld arena.now)) }
+    pub fn closest<T: Tree>(&self, tree: &T, id: T::NodeId) -> Result<Option<T::NodeId>, AllocError>
+        ensures first { IfOk result (λ found. option_map T.number found ≡ slice_get (matching_upwards (T.forest tree.now) (T.mode tree.now) (T.number id) self.now) 0) }
+        ensures nodes { IfOk result (λ found. IfSome found (λ id. T.number id < (T.forest tree.now).bound)) }
     {
         let list = self.list.as_slice();
-        let query = Query::new(self.alloc, arena, id);
-        if is_element(arena, id) && matches_one(list, &query, id)? {
+        let query = query_in(self.alloc, tree, id);
+        // The shape of the tree is known from here on: elements are nodes.
+        let _count = tree.node_count();
+        if tree.is_element(id) && matches_one(list, &query, id)? {
             return Ok(Some(id));
         }
-        let above = ancestors(self.alloc, arena, id)?;
+        let above = ancestors(self.alloc, tree, id)?;
         first_matching(list, &query, above.as_slice())
     }
 }

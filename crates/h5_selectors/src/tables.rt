@@ -2,11 +2,11 @@
 //! says for each row if the part holds.
 ghost use Rattle.std.specs.Prelude.{◌≡◌, ◌<◌, ◌≤◌, ◌+◌, ◌∷◌, ◌++◌, [], ◌&&◌, ◌||◌, ℕ, All, Bool, IfOk, IfSome, List, OnOk, Option, cond, false, get_or, length, map, nat_lt, not, true, vec_len};
 ghost use Rattle.std.specs.List.{filter, list_any};
-ghost use Rattle.h5_arena.specs.ArenaModel.{IsHeld};
-ghost use Rattle.h5_selectors.specs.Query.{holds_by, matches_by, seen_by};
+ghost use Rattle.std.specs.Option.{option_map};
+ghost use Rattle.h5_selectors.specs.Query.{context, holds_by, matches_by};
 ghost use Rattle.h5_selectors.specs.Rows.{AreRows, node_of};
 ghost use Rattle.h5_selectors.specs.Tables.{Counts, CountsAlike, IsTableOf, Narrows, Tells, TellsAhead, counted_at, is_nth_by, leads_out, link_to, stations_of, there, told};
-ghost use Rattle.h5_selectors.specs.Ways.{is_element, led};
+ghost use Rattle.h5_selectors.specs.Ways.{led};
 ghost use Rattle.h5_selectors.specs.declared.formula.Formula.{Formula as FormulaAt};
 ghost use Rattle.h5_selectors.specs.declared.formula.Way.TheVariants.{Ancestor, Below, Earlier, Later, Parent};
 ghost use Rattle.h5_selectors.specs.declared.rows.Links.{Links};
@@ -14,8 +14,8 @@ ghost use Rattle.h5_selectors.specs.declared.rows.Links.{Links};
 use super::alike::counts_alike;
 use super::holds::{Query, holds, holds_along, is_nth, is_nth_of_type, more};
 use super::rows::{Links, Rows};
-use super::ways::is_element;
 use crate::{AnPlusB, Formula, Side, Way};
+use h5_tree::Tree;
 use std::alloc::{AllocError, Global};
 
 // A table with this number of equal entries.
@@ -44,16 +44,16 @@ fn without(alloc: Global, set: &[bool], other: &[bool]) -> Result<Vec<bool>, All
 }
 
 // The rows of a set for which the condition holds, each tested alone.
-fn asked(
+fn asked<T: Tree>(
     formula: &Formula,
-    query: &Query<'_>,
-    rows: &Rows,
+    query: &Query<'_, T>,
+    rows: &Rows<T::NodeId>,
     set: &[bool],
 ) -> Result<Vec<bool>, AllocError>
-    requires rows { AreRows query.now rows.now }
+    requires rows { AreRows T.number (context (T.forest query.now.tree.now) query.now.is_quirky (option_map T.number query.now.scope)) rows.now }
     requires count { length set.now ≡ length rows.now.ids.items }
     ensures count { IfOk result (λ table. vec_len table ≡ length rows.now.ids.items) }
-    ensures table { IfOk result (λ table. Narrows (holds_by query.now formula.now) rows.now set.now table.items) }
+    ensures table { IfOk result (λ table. Narrows T.number (holds_by (context (T.forest query.now.tree.now) query.now.is_quirky (option_map T.number query.now.scope)) formula.now) rows.now set.now table.items) }
 {
     let mut table = Vec::with_capacity(query.alloc, set.len())?;
     for at in 0..set.len() {
@@ -90,33 +90,37 @@ fn or_told(is_in: bool, table: &[bool], link: Option<usize>) -> bool
 }
 
 // The elements of a set.
-fn elements_in(query: &Query<'_>, rows: &Rows, set: &[bool]) -> Result<Vec<bool>, AllocError>
-    requires rows { AreRows query.now rows.now }
+fn elements_in<T: Tree>(
+    query: &Query<'_, T>,
+    rows: &Rows<T::NodeId>,
+    set: &[bool],
+) -> Result<Vec<bool>, AllocError>
+    requires rows { AreRows T.number (context (T.forest query.now.tree.now) query.now.is_quirky (option_map T.number query.now.scope)) rows.now }
     requires count { length set.now ≡ length rows.now.ids.items }
     ensures count { IfOk result (λ table. vec_len table ≡ length rows.now.ids.items) }
-    ensures table { IfOk result (λ table. (test : ℕ → Bool) → Tells test rows.now set.now → TellsAhead (seen_by query.now) test Parent rows.now table.items) }
+    ensures table { IfOk result (λ table. (test : ℕ → Bool) → Tells T.number test rows.now set.now → TellsAhead T.number (T.forest query.now.tree.now) test Parent rows.now table.items) }
 {
     let mut table = Vec::with_capacity(query.alloc, set.len())?;
     for at in 0..set.len() {
-        table.push(is_element(query.arena, rows.id(at)) && set[at])?;
+        table.push(query.tree.is_element(rows.id(at)) && set[at])?;
     }
     Ok(table)
 }
 
 // Returns true if the element of a row or one of its ancestors is in a set of elements. The ancestors of the first row are tested alone.
-fn is_above(
+fn is_above<T: Tree>(
     inner: &Formula,
-    query: &Query<'_>,
-    rows: &Rows,
+    query: &Query<'_, T>,
+    rows: &Rows<T::NodeId>,
     set: &[bool],
     table: &[bool],
 ) -> Result<bool, AllocError>
-    requires rows { AreRows query.now rows.now }
+    requires rows { AreRows T.number (context (T.forest query.now.tree.now) query.now.is_quirky (option_map T.number query.now.scope)) rows.now }
     requires count { length set.now ≡ length rows.now.ids.items }
-    requires set { TellsAhead (seen_by query.now) (holds_by query.now inner.now) Parent rows.now set.now }
+    requires set { TellsAhead T.number (T.forest query.now.tree.now) (holds_by (context (T.forest query.now.tree.now) query.now.is_quirky (option_map T.number query.now.scope)) inner.now) Parent rows.now set.now }
     requires rest { length table.now < length rows.now.ids.items }
-    requires table { (k : ℕ) → k < length table.now → get_or table.now k false ≡ there (seen_by query.now) (holds_by query.now inner.now) Ancestor (node_of rows.now k) }
-    ensures { IfOk result (λ answer. answer ≡ there (seen_by query.now) (holds_by query.now inner.now) Ancestor (node_of rows.now (length table.now))) }
+    requires table { (k : ℕ) → k < length table.now → get_or table.now k false ≡ there (T.forest query.now.tree.now) (holds_by (context (T.forest query.now.tree.now) query.now.is_quirky (option_map T.number query.now.scope)) inner.now) Ancestor (node_of T.number rows.now k) }
+    ensures { IfOk result (λ answer. answer ≡ there (T.forest query.now.tree.now) (holds_by (context (T.forest query.now.tree.now) query.now.is_quirky (option_map T.number query.now.scope)) inner.now) Ancestor (node_of T.number rows.now (length table.now))) }
 {
     let at = table.len();
     if set[at] {
@@ -129,17 +133,17 @@ fn is_above(
 }
 
 // For each row, true if its element or one of its ancestors is in a set of elements.
-fn above(
+fn above<T: Tree>(
     inner: &Formula,
-    query: &Query<'_>,
-    rows: &Rows,
+    query: &Query<'_, T>,
+    rows: &Rows<T::NodeId>,
     set: &[bool],
 ) -> Result<Vec<bool>, AllocError>
-    requires rows { AreRows query.now rows.now }
+    requires rows { AreRows T.number (context (T.forest query.now.tree.now) query.now.is_quirky (option_map T.number query.now.scope)) rows.now }
     requires count { length set.now ≡ length rows.now.ids.items }
-    requires set { TellsAhead (seen_by query.now) (holds_by query.now inner.now) Parent rows.now set.now }
+    requires set { TellsAhead T.number (T.forest query.now.tree.now) (holds_by (context (T.forest query.now.tree.now) query.now.is_quirky (option_map T.number query.now.scope)) inner.now) Parent rows.now set.now }
     ensures count { IfOk result (λ table. vec_len table ≡ length rows.now.ids.items) }
-    ensures table { IfOk result (λ table. TellsAhead (seen_by query.now) (holds_by query.now inner.now) Ancestor rows.now table.items) }
+    ensures table { IfOk result (λ table. TellsAhead T.number (T.forest query.now.tree.now) (holds_by (context (T.forest query.now.tree.now) query.now.is_quirky (option_map T.number query.now.scope)) inner.now) Ancestor rows.now table.items) }
 {
     let mut table = Vec::with_capacity(query.alloc, set.len())?;
     for _row in set {
@@ -150,11 +154,15 @@ fn above(
 }
 
 // For each row, true if it or a sibling before it is in a set.
-fn earlier(query: &Query<'_>, rows: &Rows, set: &[bool]) -> Result<Vec<bool>, AllocError>
-    requires rows { AreRows query.now rows.now }
+fn earlier<T: Tree>(
+    query: &Query<'_, T>,
+    rows: &Rows<T::NodeId>,
+    set: &[bool],
+) -> Result<Vec<bool>, AllocError>
+    requires rows { AreRows T.number (context (T.forest query.now.tree.now) query.now.is_quirky (option_map T.number query.now.scope)) rows.now }
     requires count { length set.now ≡ length rows.now.ids.items }
     ensures count { IfOk result (λ table. vec_len table ≡ length rows.now.ids.items) }
-    ensures table { IfOk result (λ table. (test : ℕ → Bool) → Tells test rows.now set.now → TellsAhead (seen_by query.now) test Earlier rows.now table.items) }
+    ensures table { IfOk result (λ table. (test : ℕ → Bool) → Tells T.number test rows.now set.now → TellsAhead T.number (T.forest query.now.tree.now) test Earlier rows.now table.items) }
 {
     let mut table = Vec::with_capacity(query.alloc, set.len())?;
     for at in 0..set.len() {
@@ -165,11 +173,15 @@ fn earlier(query: &Query<'_>, rows: &Rows, set: &[bool]) -> Result<Vec<bool>, Al
 }
 
 // For each row, true if it or a sibling after it is in a set.
-fn later(query: &Query<'_>, rows: &Rows, set: &[bool]) -> Result<Vec<bool>, AllocError>
-    requires rows { AreRows query.now rows.now }
+fn later<T: Tree>(
+    query: &Query<'_, T>,
+    rows: &Rows<T::NodeId>,
+    set: &[bool],
+) -> Result<Vec<bool>, AllocError>
+    requires rows { AreRows T.number (context (T.forest query.now.tree.now) query.now.is_quirky (option_map T.number query.now.scope)) rows.now }
     requires count { length set.now ≡ length rows.now.ids.items }
     ensures count { IfOk result (λ table. vec_len table ≡ length rows.now.ids.items) }
-    ensures table { IfOk result (λ table. (test : ℕ → Bool) → Tells test rows.now set.now → TellsAhead (seen_by query.now) test Later rows.now table.items) }
+    ensures table { IfOk result (λ table. (test : ℕ → Bool) → Tells T.number test rows.now set.now → TellsAhead T.number (T.forest query.now.tree.now) test Later rows.now table.items) }
 {
     let mut table = answers(query.alloc, set.len(), false)?;
     for step in 0..set.len() {
@@ -181,11 +193,15 @@ fn later(query: &Query<'_>, rows: &Rows, set: &[bool]) -> Result<Vec<bool>, Allo
 }
 
 // For each row, true if it, a descendant, a sibling after it or a descendant of such a sibling is in a set.
-fn under(query: &Query<'_>, rows: &Rows, set: &[bool]) -> Result<Vec<bool>, AllocError>
-    requires rows { AreRows query.now rows.now }
+fn under<T: Tree>(
+    query: &Query<'_, T>,
+    rows: &Rows<T::NodeId>,
+    set: &[bool],
+) -> Result<Vec<bool>, AllocError>
+    requires rows { AreRows T.number (context (T.forest query.now.tree.now) query.now.is_quirky (option_map T.number query.now.scope)) rows.now }
     requires count { length set.now ≡ length rows.now.ids.items }
     ensures count { IfOk result (λ table. vec_len table ≡ length rows.now.ids.items) }
-    ensures table { IfOk result (λ table. (test : ℕ → Bool) → Tells test rows.now set.now → TellsAhead (seen_by query.now) test Below rows.now table.items) }
+    ensures table { IfOk result (λ table. (test : ℕ → Bool) → Tells T.number test rows.now set.now → TellsAhead T.number (T.forest query.now.tree.now) test Below rows.now table.items) }
 {
     let mut table = answers(query.alloc, set.len(), false)?;
     for step in 0..set.len() {
@@ -199,18 +215,18 @@ fn under(query: &Query<'_>, rows: &Rows, set: &[bool]) -> Result<Vec<bool>, Allo
 }
 
 // The table that is looked up for this relation.
-fn ahead(
+fn ahead<T: Tree>(
     inner: &Formula,
-    query: &Query<'_>,
+    query: &Query<'_, T>,
     way: Way,
-    rows: &Rows,
+    rows: &Rows<T::NodeId>,
     set: &[bool],
 ) -> Result<Vec<bool>, AllocError>
-    requires rows { AreRows query.now rows.now }
+    requires rows { AreRows T.number (context (T.forest query.now.tree.now) query.now.is_quirky (option_map T.number query.now.scope)) rows.now }
     requires count { length set.now ≡ length rows.now.ids.items }
-    requires set { Tells (holds_by query.now inner.now) rows.now set.now }
+    requires set { Tells T.number (holds_by (context (T.forest query.now.tree.now) query.now.is_quirky (option_map T.number query.now.scope)) inner.now) rows.now set.now }
     ensures count { IfOk result (λ table. vec_len table ≡ length rows.now.ids.items) }
-    ensures table { IfOk result (λ table. TellsAhead (seen_by query.now) (holds_by query.now inner.now) way rows.now table.items) }
+    ensures table { IfOk result (λ table. TellsAhead T.number (T.forest query.now.tree.now) (holds_by (context (T.forest query.now.tree.now) query.now.is_quirky (option_map T.number query.now.scope)) inner.now) way rows.now table.items) }
 {
     match way {
         Way::Parent => elements_in(query, rows, set),
@@ -253,18 +269,18 @@ fn is_alone(row: usize, way: Way) -> bool
 
 // Returns true if an element in this relation to a row is in the set. The first row is tested alone if it can have elements outside the
 // rows.
-fn is_led(
+fn is_led<T: Tree>(
     inner: &Formula,
-    query: &Query<'_>,
+    query: &Query<'_, T>,
     way: Way,
-    rows: &Rows,
+    rows: &Rows<T::NodeId>,
     table: &[bool],
     at: usize,
 ) -> Result<bool, AllocError>
-    requires rows { AreRows query.now rows.now }
-    requires table { TellsAhead (seen_by query.now) (holds_by query.now inner.now) way rows.now table.now }
+    requires rows { AreRows T.number (context (T.forest query.now.tree.now) query.now.is_quirky (option_map T.number query.now.scope)) rows.now }
+    requires table { TellsAhead T.number (T.forest query.now.tree.now) (holds_by (context (T.forest query.now.tree.now) query.now.is_quirky (option_map T.number query.now.scope)) inner.now) way rows.now table.now }
     requires within { at < length rows.now.ids.items }
-    ensures { IfOk result (λ answer. answer ≡ list_any (holds_by query.now inner.now) (led way (seen_by query.now) (node_of rows.now at))) }
+    ensures { IfOk result (λ answer. answer ≡ list_any (holds_by (context (T.forest query.now.tree.now) query.now.is_quirky (option_map T.number query.now.scope)) inner.now) (led way (T.forest query.now.tree.now) (node_of T.number rows.now at))) }
 {
     if is_alone(at, way) {
         return holds_along(inner, query, way, rows.id(at));
@@ -273,20 +289,20 @@ fn is_led(
 }
 
 // The rows of a set that have an element in this relation in another set.
-fn leading(
+fn leading<T: Tree>(
     inner: &Formula,
-    query: &Query<'_>,
+    query: &Query<'_, T>,
     way: Way,
-    rows: &Rows,
+    rows: &Rows<T::NodeId>,
     set: &[bool],
     into: &[bool],
 ) -> Result<Vec<bool>, AllocError>
-    requires rows { AreRows query.now rows.now }
+    requires rows { AreRows T.number (context (T.forest query.now.tree.now) query.now.is_quirky (option_map T.number query.now.scope)) rows.now }
     requires count { length set.now ≡ length rows.now.ids.items }
     requires into_count { length into.now ≡ length rows.now.ids.items }
-    requires into { Tells (holds_by query.now inner.now) rows.now into.now }
+    requires into { Tells T.number (holds_by (context (T.forest query.now.tree.now) query.now.is_quirky (option_map T.number query.now.scope)) inner.now) rows.now into.now }
     ensures count { IfOk result (λ table. vec_len table ≡ length rows.now.ids.items) }
-    ensures table { IfOk result (λ table. Narrows (λ n. list_any (holds_by query.now inner.now) (led way (seen_by query.now) n)) rows.now set.now table.items) }
+    ensures table { IfOk result (λ table. Narrows T.number (λ n. list_any (holds_by (context (T.forest query.now.tree.now) query.now.is_quirky (option_map T.number query.now.scope)) inner.now) (led way (T.forest query.now.tree.now) n)) rows.now set.now table.items) }
 {
     let ahead = ahead(inner, query, way, rows, into)?;
     let mut table = Vec::with_capacity(query.alloc, set.len())?;
@@ -316,11 +332,15 @@ fn counted_at(counts: &[usize], set: &[bool], link: Option<usize>) -> usize
 }
 
 // For each row, the number of siblings before it in a set.
-fn counts_before(query: &Query<'_>, rows: &Rows, set: &[bool]) -> Result<Vec<usize>, AllocError>
-    requires rows { AreRows query.now rows.now }
+fn counts_before<T: Tree>(
+    query: &Query<'_, T>,
+    rows: &Rows<T::NodeId>,
+    set: &[bool],
+) -> Result<Vec<usize>, AllocError>
+    requires rows { AreRows T.number (context (T.forest query.now.tree.now) query.now.is_quirky (option_map T.number query.now.scope)) rows.now }
     requires count { length set.now ≡ length rows.now.ids.items }
     ensures count { IfOk result (λ counts. vec_len counts ≡ length rows.now.ids.items) }
-    ensures counts { IfOk result (λ counts. (test : ℕ → Bool) → Tells test rows.now set.now → Counts (seen_by query.now) test Side.First rows.now counts.items) }
+    ensures counts { IfOk result (λ counts. (test : ℕ → Bool) → Tells T.number test rows.now set.now → Counts T.number (T.forest query.now.tree.now) test Side.First rows.now counts.items) }
 {
     let mut counts = Vec::with_capacity(query.alloc, set.len())?;
     for at in 0..set.len() {
@@ -343,11 +363,15 @@ pub(crate) fn zeros(alloc: Global, count: usize) -> Result<Vec<usize>, AllocErro
 }
 
 // For each row, the number of siblings after it in a set.
-fn counts_behind(query: &Query<'_>, rows: &Rows, set: &[bool]) -> Result<Vec<usize>, AllocError>
-    requires rows { AreRows query.now rows.now }
+fn counts_behind<T: Tree>(
+    query: &Query<'_, T>,
+    rows: &Rows<T::NodeId>,
+    set: &[bool],
+) -> Result<Vec<usize>, AllocError>
+    requires rows { AreRows T.number (context (T.forest query.now.tree.now) query.now.is_quirky (option_map T.number query.now.scope)) rows.now }
     requires count { length set.now ≡ length rows.now.ids.items }
     ensures count { IfOk result (λ counts. vec_len counts ≡ length rows.now.ids.items) }
-    ensures counts { IfOk result (λ counts. (test : ℕ → Bool) → Tells test rows.now set.now → Counts (seen_by query.now) test Side.Last rows.now counts.items) }
+    ensures counts { IfOk result (λ counts. (test : ℕ → Bool) → Tells T.number test rows.now set.now → Counts T.number (T.forest query.now.tree.now) test Side.Last rows.now counts.items) }
 {
     let mut counts = zeros(query.alloc, set.len())?;
     for step in 0..set.len() {
@@ -358,16 +382,16 @@ fn counts_behind(query: &Query<'_>, rows: &Rows, set: &[bool]) -> Result<Vec<usi
     Ok(counts)
 }
 
-fn counts(
-    query: &Query<'_>,
-    rows: &Rows,
+fn counts<T: Tree>(
+    query: &Query<'_, T>,
+    rows: &Rows<T::NodeId>,
     side: Side,
     set: &[bool],
 ) -> Result<Vec<usize>, AllocError>
-    requires rows { AreRows query.now rows.now }
+    requires rows { AreRows T.number (context (T.forest query.now.tree.now) query.now.is_quirky (option_map T.number query.now.scope)) rows.now }
     requires count { length set.now ≡ length rows.now.ids.items }
     ensures count { IfOk result (λ counts. vec_len counts ≡ length rows.now.ids.items) }
-    ensures counts { IfOk result (λ counts. (test : ℕ → Bool) → Tells test rows.now set.now → Counts (seen_by query.now) test side rows.now counts.items) }
+    ensures counts { IfOk result (λ counts. (test : ℕ → Bool) → Tells T.number test rows.now set.now → Counts T.number (T.forest query.now.tree.now) test side rows.now counts.items) }
 {
     match side {
         Side::First => counts_before(query, rows, set),
@@ -376,23 +400,23 @@ fn counts(
 }
 
 // Returns true if a row is in a set, and its index among the siblings in the set is one of these. The first row is tested alone.
-fn is_placed(
+fn is_placed<T: Tree>(
     of: &Formula,
-    query: &Query<'_>,
+    query: &Query<'_, T>,
     indices: AnPlusB,
     side: Side,
-    rows: &Rows,
+    rows: &Rows<T::NodeId>,
     among: &[bool],
     counts: &[usize],
     at: usize,
 ) -> Result<bool, AllocError>
-    requires rows { AreRows query.now rows.now }
+    requires rows { AreRows T.number (context (T.forest query.now.tree.now) query.now.is_quirky (option_map T.number query.now.scope)) rows.now }
     requires among_count { length among.now ≡ length rows.now.ids.items }
-    requires among { Tells (holds_by query.now of.now) rows.now among.now }
+    requires among { Tells T.number (holds_by (context (T.forest query.now.tree.now) query.now.is_quirky (option_map T.number query.now.scope)) of.now) rows.now among.now }
     requires counts_count { length counts.now ≡ length rows.now.ids.items }
-    requires counts { Counts (seen_by query.now) (holds_by query.now of.now) side rows.now counts.now }
+    requires counts { Counts T.number (T.forest query.now.tree.now) (holds_by (context (T.forest query.now.tree.now) query.now.is_quirky (option_map T.number query.now.scope)) of.now) side rows.now counts.now }
     requires within { at < length rows.now.ids.items }
-    ensures { IfOk result (λ answer. answer ≡ is_nth_by query.now indices side of.now (node_of rows.now at)) }
+    ensures { IfOk result (λ answer. answer ≡ is_nth_by (context (T.forest query.now.tree.now) query.now.is_quirky (option_map T.number query.now.scope)) indices side of.now (node_of T.number rows.now at)) }
 {
     if at == 0 {
         return is_nth(of, query, rows.id(at), indices, side);
@@ -401,21 +425,21 @@ fn is_placed(
 }
 
 // The rows of a set that are in another one, and whose index among the siblings in that one is one of these.
-fn placed(
+fn placed<T: Tree>(
     of: &Formula,
-    query: &Query<'_>,
+    query: &Query<'_, T>,
     indices: AnPlusB,
     side: Side,
-    rows: &Rows,
+    rows: &Rows<T::NodeId>,
     set: &[bool],
     among: &[bool],
 ) -> Result<Vec<bool>, AllocError>
-    requires rows { AreRows query.now rows.now }
+    requires rows { AreRows T.number (context (T.forest query.now.tree.now) query.now.is_quirky (option_map T.number query.now.scope)) rows.now }
     requires count { length set.now ≡ length rows.now.ids.items }
     requires among_count { length among.now ≡ length rows.now.ids.items }
-    requires among { Tells (holds_by query.now of.now) rows.now among.now }
+    requires among { Tells T.number (holds_by (context (T.forest query.now.tree.now) query.now.is_quirky (option_map T.number query.now.scope)) of.now) rows.now among.now }
     ensures count { IfOk result (λ table. vec_len table ≡ length rows.now.ids.items) }
-    ensures table { IfOk result (λ table. Narrows (is_nth_by query.now indices side of.now) rows.now set.now table.items) }
+    ensures table { IfOk result (λ table. Narrows T.number (is_nth_by (context (T.forest query.now.tree.now) query.now.is_quirky (option_map T.number query.now.scope)) indices side of.now) rows.now set.now table.items) }
 {
     let counts = counts(query, rows, side, among)?;
     let mut table = Vec::with_capacity(query.alloc, set.len())?;
@@ -428,19 +452,19 @@ fn placed(
 }
 
 // Returns true if the index of a row among the siblings with its name is one of these. The first row is tested alone.
-fn is_placed_alike(
-    query: &Query<'_>,
+fn is_placed_alike<T: Tree>(
+    query: &Query<'_, T>,
     indices: AnPlusB,
     side: Side,
-    rows: &Rows,
+    rows: &Rows<T::NodeId>,
     counts: &[usize],
     at: usize,
 ) -> Result<bool, AllocError>
-    requires rows { AreRows query.now rows.now }
+    requires rows { AreRows T.number (context (T.forest query.now.tree.now) query.now.is_quirky (option_map T.number query.now.scope)) rows.now }
     requires count { length counts.now ≡ length rows.now.ids.items }
-    requires counts { CountsAlike query.now side rows.now counts.now }
+    requires counts { CountsAlike T.number (T.forest query.now.tree.now) side rows.now counts.now }
     requires within { at < length rows.now.ids.items }
-    ensures { IfOk result (λ answer. answer ≡ holds_by query.now (FormulaAt.NthOfType indices side) (node_of rows.now at)) }
+    ensures { IfOk result (λ answer. answer ≡ holds_by (context (T.forest query.now.tree.now) query.now.is_quirky (option_map T.number query.now.scope)) (FormulaAt.NthOfType indices side) (node_of T.number rows.now at)) }
 {
     if at == 0 {
         return is_nth_of_type(query, rows.id(at), indices, side);
@@ -449,17 +473,17 @@ fn is_placed_alike(
 }
 
 // The rows of a set whose index among the siblings with their name is one of these.
-fn placed_alike(
-    query: &Query<'_>,
+fn placed_alike<T: Tree>(
+    query: &Query<'_, T>,
     indices: AnPlusB,
     side: Side,
-    rows: &Rows,
+    rows: &Rows<T::NodeId>,
     set: &[bool],
 ) -> Result<Vec<bool>, AllocError>
-    requires rows { AreRows query.now rows.now }
+    requires rows { AreRows T.number (context (T.forest query.now.tree.now) query.now.is_quirky (option_map T.number query.now.scope)) rows.now }
     requires count { length set.now ≡ length rows.now.ids.items }
     ensures count { IfOk result (λ table. vec_len table ≡ length rows.now.ids.items) }
-    ensures table { IfOk result (λ table. Narrows (holds_by query.now (FormulaAt.NthOfType indices side)) rows.now set.now table.items) }
+    ensures table { IfOk result (λ table. Narrows T.number (holds_by (context (T.forest query.now.tree.now) query.now.is_quirky (option_map T.number query.now.scope)) (FormulaAt.NthOfType indices side)) rows.now set.now table.items) }
 {
     let counts = counts_alike(query, rows, side)?;
     let mut table = Vec::with_capacity(query.alloc, set.len())?;
@@ -490,17 +514,17 @@ fn stations(alloc: Global, formula: &Formula) -> Result<Vec<&Formula>, AllocErro
 
 // The rows of a set for which one of two conditions holds. The second one may be one of two in turn.
 #[cycle(narrowed)]
-fn narrowed_any(
+fn narrowed_any<T: Tree>(
     one: &Formula,
     other: &Formula,
-    query: &Query<'_>,
-    rows: &Rows,
+    query: &Query<'_, T>,
+    rows: &Rows<T::NodeId>,
     set: &[bool],
 ) -> Result<Vec<bool>, AllocError>
-    requires rows { AreRows query.now rows.now }
+    requires rows { AreRows T.number (context (T.forest query.now.tree.now) query.now.is_quirky (option_map T.number query.now.scope)) rows.now }
     requires count { length set.now ≡ length rows.now.ids.items }
     ensures count { IfOk result (λ table. vec_len table ≡ length rows.now.ids.items) }
-    ensures table { IfOk result (λ table. Narrows (λ n. holds_by query.now one.now n || holds_by query.now other.now n) rows.now set.now table.items) }
+    ensures table { IfOk result (λ table. Narrows T.number (λ n. holds_by (context (T.forest query.now.tree.now) query.now.is_quirky (option_map T.number query.now.scope)) one.now n || holds_by (context (T.forest query.now.tree.now) query.now.is_quirky (option_map T.number query.now.scope)) other.now n) rows.now set.now table.items) }
 {
     let first = narrowed(one, query, rows, set)?;
     let mut left = without(query.alloc, set, first.as_slice())?;
@@ -517,16 +541,16 @@ fn narrowed_any(
 
 // The rows of a set for which a condition without combinators holds.
 #[cycle(narrowed)]
-fn narrowed_alone(
+fn narrowed_alone<T: Tree>(
     formula: &Formula,
-    query: &Query<'_>,
-    rows: &Rows,
+    query: &Query<'_, T>,
+    rows: &Rows<T::NodeId>,
     set: &[bool],
 ) -> Result<Vec<bool>, AllocError>
-    requires rows { AreRows query.now rows.now }
+    requires rows { AreRows T.number (context (T.forest query.now.tree.now) query.now.is_quirky (option_map T.number query.now.scope)) rows.now }
     requires count { length set.now ≡ length rows.now.ids.items }
     ensures count { IfOk result (λ table. vec_len table ≡ length rows.now.ids.items) }
-    ensures table { IfOk result (λ table. Narrows (holds_by query.now formula.now) rows.now set.now table.items) }
+    ensures table { IfOk result (λ table. Narrows T.number (holds_by (context (T.forest query.now.tree.now) query.now.is_quirky (option_map T.number query.now.scope)) formula.now) rows.now set.now table.items) }
 {
     match formula {
         Formula::Or(one, other) => narrowed_any(&**one, &**other, query, rows, set),
@@ -546,18 +570,18 @@ fn narrowed_alone(
 
 // The rows of a set for which the condition holds. `into` is the table of the condition after the next combinator, if there is one.
 #[cycle(narrowed)]
-fn narrowed_to(
+fn narrowed_to<T: Tree>(
     formula: &Formula,
-    query: &Query<'_>,
-    rows: &Rows,
+    query: &Query<'_, T>,
+    rows: &Rows<T::NodeId>,
     set: &[bool],
     into: &[bool],
 ) -> Result<Vec<bool>, AllocError>
-    requires rows { AreRows query.now rows.now }
+    requires rows { AreRows T.number (context (T.forest query.now.tree.now) query.now.is_quirky (option_map T.number query.now.scope)) rows.now }
     requires count { length set.now ≡ length rows.now.ids.items }
-    requires into { IsTableOf query.now rows.now (stations_of formula.now) into.now }
+    requires into { IsTableOf T.number (context (T.forest query.now.tree.now) query.now.is_quirky (option_map T.number query.now.scope)) rows.now (stations_of formula.now) into.now }
     ensures count { IfOk result (λ table. vec_len table ≡ length rows.now.ids.items) }
-    ensures table { IfOk result (λ table. Narrows (holds_by query.now formula.now) rows.now set.now table.items) }
+    ensures table { IfOk result (λ table. Narrows T.number (holds_by (context (T.forest query.now.tree.now) query.now.is_quirky (option_map T.number query.now.scope)) formula.now) rows.now set.now table.items) }
 {
     let mut left = copied(query.alloc, set)?;
     let mut at = formula;
@@ -573,16 +597,16 @@ fn narrowed_to(
 
 // The rows of a set for which the condition holds.
 #[cycle(narrowed)]
-fn narrowed(
+fn narrowed<T: Tree>(
     formula: &Formula,
-    query: &Query<'_>,
-    rows: &Rows,
+    query: &Query<'_, T>,
+    rows: &Rows<T::NodeId>,
     set: &[bool],
 ) -> Result<Vec<bool>, AllocError>
-    requires rows { AreRows query.now rows.now }
+    requires rows { AreRows T.number (context (T.forest query.now.tree.now) query.now.is_quirky (option_map T.number query.now.scope)) rows.now }
     requires count { length set.now ≡ length rows.now.ids.items }
     ensures count { IfOk result (λ table. vec_len table ≡ length rows.now.ids.items) }
-    ensures table { IfOk result (λ table. Narrows (holds_by query.now formula.now) rows.now set.now table.items) }
+    ensures table { IfOk result (λ table. Narrows T.number (holds_by (context (T.forest query.now.tree.now) query.now.is_quirky (option_map T.number query.now.scope)) formula.now) rows.now set.now table.items) }
 {
     let mut stations = stations(query.alloc, formula)?;
     let mut into = Vec::new(query.alloc);
@@ -594,14 +618,14 @@ fn narrowed(
 }
 
 /// The rows that none of the selectors matches.
-pub(crate) fn unmatched(
+pub(crate) fn unmatched<T: Tree>(
     list: &[Formula],
-    query: &Query<'_>,
-    rows: &Rows,
+    query: &Query<'_, T>,
+    rows: &Rows<T::NodeId>,
 ) -> Result<Vec<bool>, AllocError>
-    requires { AreRows query.now rows.now }
+    requires { AreRows T.number (context (T.forest query.now.tree.now) query.now.is_quirky (option_map T.number query.now.scope)) rows.now }
     ensures count { IfOk result (λ left. vec_len left ≡ length rows.now.ids.items) }
-    ensures left { IfOk result (λ left. Tells (λ n. not (matches_by query.now list.now n)) rows.now left.items) }
+    ensures left { IfOk result (λ left. Tells T.number (λ n. not (matches_by (context (T.forest query.now.tree.now) query.now.is_quirky (option_map T.number query.now.scope)) list.now n)) rows.now left.items) }
 {
     let mut left = answers(query.alloc, rows.len(), true)?;
     for formula in list {

@@ -1,8 +1,10 @@
-//! Selectors over the tree of a page.
+//! Selectors over the tree of a page: in an arena, and in a block.
 use h5_arena::Arena;
 use h5_driver::ParseOpts;
 use h5_driver::standard::parse_document;
+use h5_flat::{View, columns_of_document};
 use h5_selectors::{Selector, SelectorError, SelectorProblem};
+use h5_tree::{SoundView, Tree};
 use std::alloc::Global;
 use std::process::Abort;
 use std::test::Fail;
@@ -61,16 +63,62 @@ const TEXT_ROWS: [(&str, usize); 6] = [
     (":lang('')", 4),
 ];
 
-fn check(
+// The block of a tree.
+fn packed(alloc: Global, arena: &Arena) -> Result<Vec<u8>, Fail> {
+    Ok(columns_of_document(alloc, arena, false)?.pack(alloc)?)
+}
+
+fn check<T: Tree>(
+    rt: &impl Abort,
+    alloc: Global,
+    tree: &T,
+    root: T::NodeId,
+    rows: &[(&str, usize)],
+) -> Result<(), Fail> {
+    for &(text, count) in rows {
+        let found = Selector::parse(alloc, text)?.select(tree, root)?;
+        assert_eq!(rt; found.len(), count, "{text}");
+    }
+    Ok(())
+}
+
+// The nearest element that matches is found.
+fn check_closest<T: Tree>(
+    rt: &impl Abort,
+    alloc: Global,
+    tree: &T,
+    root: T::NodeId,
+) -> Result<(), Fail> {
+    let links = Selector::parse(alloc, "a")?;
+    let Some(link) = links.select_first(tree, root)? else {
+        return Err("a link is there".into());
+    };
+    let lists = Selector::parse(alloc, "ul")?;
+    let Some(list) = lists.closest(tree, link)? else {
+        return Err("it is in a list".into());
+    };
+    let classes = Selector::parse(alloc, ".x")?;
+    assert!(rt; classes.matches(tree, list)?);
+    assert!(rt; !classes.matches(tree, link)?);
+    Ok(())
+}
+
+// The same elements are found in an arena and in its block.
+fn check_both(
     rt: &impl Abort,
     alloc: Global,
     arena: &Arena,
-    (text, count): (&str, usize),
+    rows: &[(&str, usize)],
 ) -> Result<(), Fail> {
-    let selector = Selector::parse(alloc, text)?;
-    let found = selector.select(arena, arena.document())?;
-    assert_eq!(rt; found.len(), count, "{text}");
-    Ok(())
+    check(rt, alloc, arena, arena.document(), rows)?;
+    let block = packed(alloc, arena)?;
+    let Some(view) = View::of(block.as_slice()) else {
+        return Err("what is packed is a block".into());
+    };
+    let Some(tree) = SoundView::of(view) else {
+        return Err("a packed block is sound".into());
+    };
+    check(rt, alloc, &tree, 0, rows)
 }
 
 fn check_page(
@@ -80,33 +128,12 @@ fn check_page(
     rows: &[(&str, usize)],
 ) -> Result<(), Fail> {
     let arena = parse_document(alloc, Arena::new(alloc)?, ParseOpts::default()).one(page)?;
-    for &row in rows {
-        check(rt, alloc, &arena, row)?;
-    }
-    Ok(())
-}
-
-// The nearest element that matches is found.
-fn check_closest(rt: &impl Abort, alloc: Global, arena: &Arena) -> Result<(), Fail> {
-    let links = Selector::parse(alloc, "a")?;
-    let Some(link) = links.select_first(arena, arena.document())? else {
-        return Err("a link is there".into());
-    };
-    let lists = Selector::parse(alloc, "ul")?;
-    let Some(list) = lists.closest(arena, link)? else {
-        return Err("it is in a list".into());
-    };
-    let classes = Selector::parse(alloc, ".x")?;
-    assert!(rt; classes.matches(arena, list)?);
-    assert!(rt; !classes.matches(arena, link)?);
-    Ok(())
+    check_both(rt, alloc, &arena, rows)
 }
 
 fn check_all(rt: &impl Abort, alloc: Global, arena: &Arena) -> Result<(), Fail> {
-    for &row in &ROWS {
-        check(rt, alloc, arena, row)?;
-    }
-    check_closest(rt, alloc, arena)
+    check_both(rt, alloc, arena, &ROWS)?;
+    check_closest(rt, alloc, arena, arena.document())
 }
 
 #[test]

@@ -23,6 +23,8 @@ pub use Rattle.h5_arena.specs.Html
 pub use Rattle.h5_arena.specs.Kin
 pub use Rattle.h5_arena.specs.Lent
 pub use Rattle.h5_arena.specs.NodeCalls
+pub use Rattle.h5_tree.specs.Elements
+pub use Rattle.h5_tree.specs.Shape
 pub use Rattle.h5_selectors.specs.Asking
 pub use Rattle.h5_selectors.specs.Counting
 pub use Rattle.h5_selectors.specs.Fault

@@ -5,8 +5,8 @@ use Rattle.h5_selectors.specs.declared.formula.Side.TheVariants.{First}
 use Rattle.h5_selectors.proofs.alike.before.Given as goal
 
 abbrev pub invariant-loop-at : goal.invariant-loop-at
-invariant-loop-at l = record {
+invariant-loop-at g l = record {
   count : length l.counts.items ≡ length l.rows.ids.items;
   few : (k : ℕ) → get_or l.counts.items k 0 ≤ l.at;
-  counts : (k : ℕ) → 0 < k → k < l.at → get_or l.counts.items k 0 ≡ count_alike l.query First (node_of l.rows k);
+  counts : (k : ℕ) → 0 < k → k < l.at → get_or l.counts.items k 0 ≡ count_alike (g.T.Tree.forest l.query.tree.now) First (node_of g.T.Tree.number l.rows k);
 }

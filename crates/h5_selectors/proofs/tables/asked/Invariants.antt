@@ -1,9 +1,10 @@
 use Rattle.std.proofs.Common.{◌≡◌, ℕ, ◌<◌, ◌&&◌, false, get_or, vec_len}
-use Rattle.h5_selectors.specs.Query.{holds_by}
+use Rattle.std.specs.Option.{option_map}
+use Rattle.h5_selectors.specs.Query.{context, holds_by}
 use Rattle.h5_selectors.specs.Rows.{node_of}
 use Rattle.h5_selectors.proofs.tables.asked.Given as goal
 
 abbrev pub invariant-loop-at : goal.invariant-loop-at
-invariant-loop-at l =
+invariant-loop-at g l =
     (vec_len l.table ≡ l.at)
-    × ((k : ℕ) → k < l.at → get_or l.table.items k false ≡ (get_or l.set k false && holds_by l.query l.formula (node_of l.rows k)))
+    × ((k : ℕ) → k < l.at → get_or l.table.items k false ≡ (get_or l.set k false && holds_by (context (g.T.Tree.forest l.query.tree.now) l.query.is_quirky (option_map g.T.Tree.number l.query.scope)) l.formula (node_of g.T.Tree.number l.rows k)))

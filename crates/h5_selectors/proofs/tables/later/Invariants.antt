@@ -1,11 +1,10 @@
 use Rattle.std.proofs.Common.{◌≡◌, ℕ, ◌+◌, ◌<◌, ◌≤◌, Bool, false, get_or, length}
-use Rattle.h5_selectors.specs.Query.{seen_by}
 use Rattle.h5_selectors.specs.Rows.{node_of}
 use Rattle.h5_selectors.specs.Tables.{Tells, there}
 use Rattle.h5_selectors.specs.declared.formula.Way.TheVariants.{Later}
 use Rattle.h5_selectors.proofs.tables.later.Given as goal
 
 abbrev pub invariant-loop-step : goal.invariant-loop-step
-invariant-loop-step l =
+invariant-loop-step g l =
     (length l.table.items ≡ length l.set)
-    × ((test : ℕ → Bool) → Tells test l.rows l.set → (k : ℕ) → 0 < k → length l.set ≤ k + l.step → k < length l.set → get_or l.table.items k false ≡ there (seen_by l.query) test Later (node_of l.rows k))
+    × ((test : ℕ → Bool) → Tells g.T.Tree.number test l.rows l.set → (k : ℕ) → 0 < k → length l.set ≤ k + l.step → k < length l.set → get_or l.table.items k false ≡ there (g.T.Tree.forest l.query.tree.now) test Later (node_of g.T.Tree.number l.rows k))

@@ -1,9 +1,11 @@
 use Rattle.std.proofs.Common.{◌≡◌, ℕ, ◌<◌, ◌&&◌, false, get_or, vec_len}
+use Rattle.std.specs.Option.{option_map}
 use Rattle.h5_selectors.specs.Rows.{node_of}
 use Rattle.h5_selectors.specs.Tables.{is_nth_by}
+use Rattle.h5_selectors.specs.Query.{context}
 use Rattle.h5_selectors.proofs.tables.placed.Given as goal
 
 abbrev pub invariant-loop-at : goal.invariant-loop-at
-invariant-loop-at l =
+invariant-loop-at g l =
     (vec_len l.table ≡ l.at)
-    × ((k : ℕ) → k < l.at → get_or l.table.items k false ≡ (get_or l.set k false && is_nth_by l.query l.indices l.side l.of (node_of l.rows k)))
+    × ((k : ℕ) → k < l.at → get_or l.table.items k false ≡ (get_or l.set k false && is_nth_by (context (g.T.Tree.forest l.query.tree.now) l.query.is_quirky (option_map g.T.Tree.number l.query.scope)) l.indices l.side l.of (node_of g.T.Tree.number l.rows k)))

@@ -1,6 +1,0 @@
-use Rattle.std.proofs.Common.{arith}
-use Rattle.std.proofs.lemmas.Grind.{common_steps}
-use Rattle.h5_selectors.proofs.languages.xml_language.Goals as goal
-
-pub loop-attribute-preserved : goal.loop-attribute-preserved
-loop-attribute-preserved c = grind (arith, common_steps)
