@@ -202,6 +202,7 @@ class Rust:
     def __init__(self, path):
         self.path, self.crate = path, path.split("/")[1]
         self.uses, self.names, self.modules = {}, {}, {}
+        self.inner = {}
         self.types, self.functions, self.implementations = {}, [], []
         self.scope = Scope(path, self.names, self.modules, {})
         with open(f"{ROOT}/{path}", encoding="utf-8") as file:
@@ -257,7 +258,11 @@ class Rust:
         if head.startswith("ghost use "):
             add_use(text, self.path, names, modules)
         elif re.match(r"(pub )?use ", head) and not owner:
-            self.add_rust_use(text)
+            self.add_rust_use(text, self.uses)
+        elif re.match(r"pub mod \w+ \{", head) and not owner:
+            inner = self.inner.setdefault(head.split()[2], {})
+            for using in re.findall(r"pub use [^;]*;", text):
+                self.add_rust_use(using, inner)
         elif re.match(r"(unsafe )?impl\b", head):
             self.add_implementation(at, last)
         elif head.startswith("ghost ") and owner:
@@ -276,13 +281,14 @@ class Rust:
         text = [line for line in self.lines[first:last + 1] if not line.strip().startswith("#[")]
         return Thing(kind, name, self.path, at + 1, text, scope)
 
-    def add_rust_use(self, text):
+    @staticmethod
+    def add_rust_use(text, uses):
         text = re.sub(r"\s+", " ", text)
         text = re.sub(r"^(pub )?use ", "", text).rstrip(";")
         for path in expand(text):
             path, _, other = path.partition(" as ")
             parts = path.split("::")
-            self.uses[other or parts[-1]] = parts
+            uses[other or parts[-1]] = parts
 
     def add_item(self, at, last, kind, name):
         thing = self.thing(kind, name, at, last, self.scope)
@@ -406,7 +412,7 @@ class Sources:
         """The things that an import names: one, or none if it is of another library."""
         parts = module.split(".")
         crate = parts[1] if parts[0] == "Rattle" and len(parts) > 1 else None
-        if crate in self.leaves or parts[0] in ("Prim", "Native", "mathlib", "lib"):
+        if crate in self.leaves or parts[0] in ("Prim", "Native", "mathlib", "lib", "denote"):
             return [f"{module}.{name}"]
         if module in self.antt:
             file = self.antt[module]
@@ -416,6 +422,8 @@ class Sources:
                 return self.named(*file.names[name], place)
         if parts[2:4] == ["specs", "declared"]:
             return self.declared(crate, parts[4:], name, place)
+        if parts[2:4] == ["specs", "contracts"] and name == "the_type":
+            return self.declared(crate, parts[4:], parts[-1], place)
         for used in self.antt[f"Rattle.{crate}.specs.Lib"].modules.items() if f"Rattle.{crate}.specs.Lib" in self.antt else ():
             if parts[3:] == [used[0]]:
                 return self.named(used[1], name, place)
@@ -474,9 +482,11 @@ class Sources:
             near = [thing for thing in found if module and thing.path.endswith((f"/{module[0]}.rt", f"/{module[0]}/mod.rt"))]
             if len(near or found) == 1:
                 return near or found
-            for path in (f"crates/{crate}/src/lib.rt", f"crates/{crate}/src/{'/'.join(module)}.rt"):
-                if path in self.rust and name in self.rust[path].uses and not found:
-                    again = self.rust[path].uses[name]
+            root, own = (self.rust.get(f"crates/{crate}/src/{file}.rt") for file in ("lib", "/".join(module)))
+            inner = root.inner.get(module[0], {}) if root and module else {}
+            for uses in (inner, root.uses if root else {}, own.uses if own else {}):
+                if name in uses and not found:
+                    again = uses[name]
                     if again[0] in self.crates and again != used:
                         return self.rust_item(again[0], again, place)
                     if again[0] in self.leaves:

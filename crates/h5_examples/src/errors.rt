@@ -1,9 +1,7 @@
 //! Parse errors and their places.
-use html_tree_builder::Arena;
-use html_tree_builder::standard::{
-    BufferQueue, Errors, ReportingTokenizer, TokenizerOpts, TokenizerResult,
-};
+use html_tree_builder::standard::{Errors, ReportingTokenizer};
 use html_tree_builder::tree_builder::{TreeBuilder, TreeBuilderOpts};
+use html_tree_builder::{Arena, BufferQueue, TokenizerOpts, TokenizerResult};
 use std::alloc::{AllocError, Global};
 use std::fmt::Write;
 

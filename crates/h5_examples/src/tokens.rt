@@ -1,7 +1,8 @@
 //! Tokens without a tree.
-use html_tree_builder::standard::{BufferQueue, Tokenizer, TokenizerOpts};
+use html_tree_builder::standard::Tokenizer;
 use html_tree_builder::token::{BuildFault, TagKind, Token, TokenSink, TokenSinkResult};
 use html_tree_builder::utf8::Utf8LossyDecoder;
+use html_tree_builder::{BufferQueue, TokenizerOpts};
 use std::alloc::Global;
 
 /// Counts start tags.

@@ -9,14 +9,13 @@ use super::source::{Fed, read_all};
 use super::tokens::Written;
 use super::tree_errors::FirstErrors;
 use html_tree_builder::interface::{TreeSink, create_element};
-use html_tree_builder::standard::{
-    BufferQueue, Errors, Parser, ReportingTokenizer, Tokenizer, TokenizerOpts, parse_document,
-    parse_fragment,
-};
+use html_tree_builder::standard::{Errors, ReportingTokenizer, Tokenizer};
 use html_tree_builder::token::BuildFault;
 use html_tree_builder::token::states::State;
 use html_tree_builder::tree_builder::{TreeBuilder, TreeBuilderOpts};
-use html_tree_builder::{Arena, ParseOpts, QualName};
+use html_tree_builder::{
+    Arena, BufferQueue, ParseOpts, Parser, QualName, TokenizerOpts, parse_document, parse_fragment,
+};
 use std::alloc::Global;
 use std::io::Read;
 

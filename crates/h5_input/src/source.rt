@@ -1,12 +1,10 @@
 //! Bytes that are read in chunks, and their text.
 use super::decoding::{HowRead, PageText};
 use super::fault::InputFault;
-use html_tree_builder::Arena;
 use html_tree_builder::encodings::EncodingOpts;
-use html_tree_builder::standard::{
-    BufferQueue, ErrorSink, Parser, ReportingTokenizer, Tokenizer, TokenizerResult,
-};
+use html_tree_builder::standard::{ErrorSink, Parser, ReportingTokenizer, Tokenizer};
 use html_tree_builder::token::{BuildFault, TokenSink};
+use html_tree_builder::{Arena, BufferQueue, TokenizerResult};
 use std::alloc::Global;
 use std::io::{self, ErrorKind, Read};
 

@@ -10,7 +10,7 @@ ghost use Rattle.h5_page.specs.LinksOfPage.{AreLinksOf};
 use super::links::{Link, Links};
 use super::page::{tree_of, unwritten};
 use html_tree_builder::arena::NodeRef;
-use html_tree_builder::serialize::laws::calls_are_taken_in_turn;
+use html_tree_builder::laws::calls_are_taken_in_turn;
 use html_tree_builder::serialize::{Serialize, SerializeFault, TraversalScope};
 use std::alloc::{AllocError, Global};
 

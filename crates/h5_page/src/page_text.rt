@@ -12,7 +12,7 @@ use super::counts::ItemCounter;
 use super::page::{tree_of, unwritten};
 use super::text_writer::{PageText, TextOpts, TextWriter};
 use html_tree_builder::arena::NodeRef;
-use html_tree_builder::serialize::laws::calls_are_taken_in_turn;
+use html_tree_builder::laws::calls_are_taken_in_turn;
 use html_tree_builder::serialize::{Serialize, SerializeFault, TraversalScope};
 use std::alloc::{AllocError, Global};
 

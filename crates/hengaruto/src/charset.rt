@@ -1,5 +1,5 @@
 //! The encoding that a page declares.
-use html_tree_builder::data::extract_a_character_encoding_from_a_meta_element;
+use html_tree_builder::encoding::extract_a_character_encoding_from_a_meta_element;
 use html_tree_builder::encodings::Encoding;
 use html_tree_builder::{Arena, NodeId};
 use std::alloc::AllocError;

@@ -34,6 +34,7 @@ pub use h5_round_trip::laws::{
     documents_are_read as documents_are_read_by_the_plain_reader, documents_are_written,
     values_are_read_back,
 };
+pub use h5_serialize::laws::calls_are_taken_in_turn;
 pub use h5_states::laws::{
     cuts_tell_the_same_errors, tellings_join, told_pieces_join, what_tells_errors_reads,
 };

@@ -8,6 +8,5 @@ pub use h5_driver::standard::{
     Parser, StandardReader, Utf8Parser, parse_document, parse_fragment, parse_fragment_for_element,
 };
 pub use h5_standard::{
-    BufferQueue, ErrorSink, Errors, LocatedError, ParseError, Position, ReportingTokenizer,
-    Tokenizer, TokenizerOpts, TokenizerResult,
+    ErrorSink, Errors, LocatedError, ParseError, Position, ReportingTokenizer, Tokenizer,
 };
