@@ -185,10 +185,137 @@ static void selects(void)
     free(found.bytes);
 
     found = (struct given){NULL, SOME};
-    CHECK(select_of(tree, 0, "\xff", &found) == HENGARUTO_BAD_ARGUMENT);
-    CHECK(select_of(tree, 1000, "li", &found) == HENGARUTO_NO_NODE);
-    CHECK(hengaruto_select(bytes_of("x"), 1, 0, bytes_of("li"), 2, &found.bytes, &found.length) == HENGARUTO_BAD_BLOCK);
-    CHECK(found.bytes == NULL && found.length == SOME);
+    free(tree.bytes);
+}
+
+/* The words of a result, one after the other. */
+static int are_words(struct given found, const uint32_t *words, size_t count)
+{
+    int same = found.length == 4 * count;
+
+    for (size_t i = 0; same && i < count; i++) {
+        const unsigned char *at = found.bytes + 4 * i;
+
+        same = words[i] == (at[0] | (uint32_t)at[1] << 8 | (uint32_t)at[2] << 16 | (uint32_t)at[3] << 24);
+    }
+    free(found.bytes);
+    return same;
+}
+
+static uint32_t select_all_of(struct given tree, uint32_t node, const char *selectors, size_t length, struct given *found)
+{
+    return hengaruto_select_all(tree.bytes, tree.length, node, bytes_of(selectors), length, &found->bytes, &found->length);
+}
+
+static void selects_all(void)
+{
+    struct given tree = parsed("<ul><li>1<li class=x>2<li>3</ul><p class=x>4", 0), found = {NULL, SOME};
+    uint32_t ul = element(tree, "ul"), p = element(tree, "p");
+    const uint32_t lists[] = {2, ul + 3, p, 0, 3, ul + 1, ul + 3, ul + 5}, below[] = {1, ul + 3};
+
+    CHECK(select_all_of(tree, 0, ".x\0b\0li", 7, &found) == HENGARUTO_OK && are_words(found, lists, 8));
+    CHECK(select_all_of(tree, ul, ".x", 2, &found) == HENGARUTO_OK && are_words(found, below, 2));
+
+    const struct {
+        const char *selectors, *begin;
+        size_t length;
+    } wrong[] = {{"li >", "selector 1: at offset ", 4}, {"li\0p,\0b", "selector 2: at offset ", 7}, {"li\0", "selector 2: at offset 0: ", 3},
+                 {"", "selector 1: at offset 0: ", 0}};
+    for (size_t i = 0; i < sizeof wrong / sizeof *wrong; i++) {
+        found = (struct given){NULL, SOME};
+        CHECK(select_all_of(tree, 0, wrong[i].selectors, wrong[i].length, &found) == HENGARUTO_BAD_SELECTOR);
+        REQUIRE(found.bytes != NULL);
+        CHECK(strncmp((const char *)found.bytes, wrong[i].begin, strlen(wrong[i].begin)) == 0);
+        CHECK(strlen((const char *)found.bytes) == found.length);
+        free(found.bytes);
+    }
+    free(tree.bytes);
+}
+
+typedef uint32_t (*asking)(const unsigned char *block, size_t block_length, uint32_t node, const unsigned char *selector,
+                           size_t selector_length, uint32_t *found);
+
+static void numbers(void)
+{
+    struct given tree = parsed("<div class=x><p><b>1</b></p><b>2</b></div>", 0);
+    uint32_t div = element(tree, "div"), p = element(tree, "p"), b = element(tree, "b"), found = SOME;
+    const struct {
+        asking asks;
+        uint32_t node;
+        const char *selector;
+        uint32_t found;
+    } calls[] = {
+        {hengaruto_select_first, 0, "b", b},
+        {hengaruto_select_first, 0, "div > b", b + 2},
+        {hengaruto_select_first, b, "b", HENGARUTO_NONE},
+        {hengaruto_select_first, b + 1, "*", HENGARUTO_NONE},
+        {hengaruto_matches, b, "p > b", 1},
+        {hengaruto_matches, b, "div > b", 0},
+        {hengaruto_matches, b + 1, "*", 0},
+        {hengaruto_matches, 0, "*", 0},
+        {hengaruto_closest, b, "b", b},
+        {hengaruto_closest, b, "p", p},
+        {hengaruto_closest, b + 1, ".x", div},
+        {hengaruto_closest, b, "table", HENGARUTO_NONE},
+        {hengaruto_closest, 0, "*", HENGARUTO_NONE},
+    };
+
+    for (size_t i = 0; i < sizeof calls / sizeof *calls; i++) {
+        const char *selector = calls[i].selector;
+
+        CHECK(calls[i].asks(tree.bytes, tree.length, calls[i].node, bytes_of(selector), strlen(selector), &found) == HENGARUTO_OK);
+        CHECK(found == calls[i].found);
+    }
+    free(tree.bytes);
+}
+
+/* A block that hengaruto_check rejects: its first node is an element. */
+static struct given unsound(struct given tree)
+{
+    struct given block = {malloc(tree.length), tree.length};
+
+    REQUIRE(block.bytes != NULL);
+    memcpy(block.bytes, tree.bytes, tree.length);
+    block.bytes[36] = HENGARUTO_ELEMENT;
+    return block;
+}
+
+/* What the calls that select refuse, in the order of the checks: each row has all that the rows after it are refused for. */
+static void refusals(void)
+{
+    struct given tree = parsed("<p>x", 0), wrong = unsound(tree), found = {NULL, SOME};
+    const asking number_calls[] = {hengaruto_select_first, hengaruto_matches, hengaruto_closest};
+    const struct {
+        struct given block;
+        uint32_t node;
+        const char *selector;
+        uint32_t status;
+    } calls[] = {
+        {{wrong.bytes, wrong.length - 1}, 1000, "\xff", HENGARUTO_BAD_BLOCK},
+        {wrong, 1000, "\xff", HENGARUTO_NO_NODE},
+        {wrong, 0, "\xff", HENGARUTO_BAD_BLOCK},
+        {tree, 0, "\xff", HENGARUTO_BAD_ARGUMENT},
+    };
+    uint32_t number = SOME;
+
+    CHECK(hengaruto_check(wrong.bytes, wrong.length) == HENGARUTO_BAD_BLOCK);
+    for (size_t i = 0; i < sizeof calls / sizeof *calls; i++) {
+        CHECK(select_of(calls[i].block, calls[i].node, calls[i].selector, &found) == calls[i].status);
+        CHECK(select_all_of(calls[i].block, calls[i].node, calls[i].selector, 1, &found) == calls[i].status);
+        for (size_t j = 0; j < 3; j++) {
+            CHECK(number_calls[j](calls[i].block.bytes, calls[i].block.length, calls[i].node, bytes_of(calls[i].selector), 1, &number) ==
+                  calls[i].status);
+        }
+    }
+    for (size_t j = 0; j < 3; j++) {
+        CHECK(number_calls[j](tree.bytes, tree.length, 0, bytes_of("p >"), 3, &number) == HENGARUTO_BAD_SELECTOR);
+    }
+    CHECK(hengaruto_check_selector(bytes_of("\xff"), 1, &found.bytes, &found.length) == HENGARUTO_BAD_ARGUMENT);
+    CHECK(hengaruto_check_selector(bytes_of("p > a"), 5, &found.bytes, &found.length) == HENGARUTO_OK);
+    CHECK(found.bytes == NULL && found.length == SOME && number == SOME);
+    CHECK(hengaruto_check_selector(bytes_of("p >"), 3, &found.bytes, &found.length) == HENGARUTO_BAD_SELECTOR);
+    CHECK(gave(found, "at offset 3: expected a selector"));
+    free(wrong.bytes);
     free(tree.bytes);
 }
 
@@ -432,6 +559,9 @@ int main(void)
     fragments();
     html();
     selects();
+    selects_all();
+    numbers();
+    refusals();
     pages();
     encodings();
     places();

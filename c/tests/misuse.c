@@ -6,6 +6,7 @@ static const char PAGE[] = "<!doctype html><title>t</title><p class=a id=b>one <
                            "<template><i>x</i></template><?y?><ul><li>1<li>2";
 
 static const char SELECTOR[] = "p.a b, [id], li:nth-child(2n)";
+static const char SELECTORS[] = "p.a b\0[id]\0li:nth-child(2n)";
 
 static uint64_t state = 88172645463325252u;
 
@@ -18,24 +19,33 @@ static uint32_t any(void)
     return (uint32_t)(state >> 16);
 }
 
-/* The calls that read a whole block. */
+/* Reads the result of a call, which has this status. */
+static void take(uint32_t status, uint32_t wanted, const struct given *given)
+{
+    CHECK(status == wanted);
+    if (status == HENGARUTO_OK) {
+        read_bytes(given->bytes, 0, given->length + 1);
+        free(given->bytes);
+    }
+}
+
+/* The calls that read a whole block. A call that selects also refuses a block that hengaruto_check rejects. */
 static void look(const unsigned char *block, size_t length, uint32_t node)
 {
     struct given given;
-    uint32_t status = hengaruto_html(block, length, node, any() & 1, &given.bytes, &given.length);
+    uint32_t number = HENGARUTO_NONE, status = hengaruto_html(block, length, node, any() & 1, &given.bytes, &given.length);
 
     CHECK(status == HENGARUTO_OK || status == HENGARUTO_NO_NODE || status == HENGARUTO_BAD_BLOCK);
+    take(status, status, &given);
     if (status == HENGARUTO_OK) {
-        read_bytes(given.bytes, 0, given.length + 1);
-        free(given.bytes);
+        status = hengaruto_check(block, length);
     }
-    status = hengaruto_select(block, length, node, bytes_of(SELECTOR), sizeof SELECTOR - 1, &given.bytes, &given.length);
-    CHECK(status == HENGARUTO_OK || status == HENGARUTO_NO_NODE || status == HENGARUTO_BAD_BLOCK);
-    if (status == HENGARUTO_OK) {
-        CHECK(given.length % 4 == 0);
-        read_bytes(given.bytes, 0, given.length + 1);
-        free(given.bytes);
-    }
+    take(hengaruto_select(block, length, node, bytes_of(SELECTOR), sizeof SELECTOR - 1, &given.bytes, &given.length), status, &given);
+    take(hengaruto_select_all(block, length, node, bytes_of(SELECTORS), sizeof SELECTORS - 1, &given.bytes, &given.length), status, &given);
+    CHECK(hengaruto_matches(block, length, node, bytes_of(SELECTOR), sizeof SELECTOR - 1, &number) == status);
+    CHECK(hengaruto_select_first(block, length, node, bytes_of(SELECTOR), sizeof SELECTOR - 1, &number) == status);
+    CHECK(hengaruto_closest(block, length, node, bytes_of(SELECTOR), sizeof SELECTOR - 1, &number) == status);
+    CHECK(status != HENGARUTO_OK || number == HENGARUTO_NONE || hengaruto_kind(block, length, number) == HENGARUTO_ELEMENT);
 }
 
 static unsigned char *copied(const unsigned char *bytes, size_t length)

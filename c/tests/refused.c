@@ -48,7 +48,10 @@ void __wrap_free(void *memory)
 static const char PAGE[] = "<!doctype html><title>t</title><p class=a id=b>one <b>two</b><!--c--><svg xlink:href=x><a/></svg><x-y><table>"
                            "<td>q<template><i>x&amp;<a href=q>w</a></template><ul><li>1<li>2";
 static const char SELECTOR[] = "p.a > b, li:nth-child(2)", NO_SELECTOR[] = "p > [a=";
+static const char SELECTORS[] = "p.a > b\0li:nth-child(2)", NO_SELECTORS[] = "p\0p > [a=";
 static const char DECLARED[] = "<p a=b><meta http-equiv=content-type content='text/html; charset=koi8-r'>\xf7";
+/* The element b of the page. */
+#define BOLD 9u
 static struct given tree;
 
 typedef uint32_t (*call)(struct given *given);
@@ -77,6 +80,48 @@ static uint32_t selects(struct given *given)
 static uint32_t bad_selector(struct given *given)
 {
     return hengaruto_select(tree.bytes, tree.length, 0, bytes_of(NO_SELECTOR), sizeof NO_SELECTOR - 1, &given->bytes, &given->length);
+}
+
+static uint32_t select_all(struct given *given)
+{
+    return hengaruto_select_all(tree.bytes, tree.length, 0, bytes_of(SELECTORS), sizeof SELECTORS - 1, &given->bytes, &given->length);
+}
+
+static uint32_t bad_selectors(struct given *given)
+{
+    return hengaruto_select_all(tree.bytes, tree.length, 0, bytes_of(NO_SELECTORS), sizeof NO_SELECTORS - 1, &given->bytes, &given->length);
+}
+
+static uint32_t check_selector(struct given *given)
+{
+    return hengaruto_check_selector(bytes_of(NO_SELECTOR), sizeof NO_SELECTOR - 1, &given->bytes, &given->length);
+}
+
+typedef uint32_t (*asking)(const unsigned char *block, size_t block_length, uint32_t node, const unsigned char *selector,
+                           size_t selector_length, uint32_t *found);
+
+/* A call that returns a number, which isn't 0. */
+static uint32_t number_of(asking asks, uint32_t node, struct given *given)
+{
+    uint32_t found = 0, status = asks(tree.bytes, tree.length, node, bytes_of(SELECTOR), sizeof SELECTOR - 1, &found);
+
+    given->length = found;
+    return status;
+}
+
+static uint32_t select_first(struct given *given)
+{
+    return number_of(hengaruto_select_first, 0, given);
+}
+
+static uint32_t matches(struct given *given)
+{
+    return number_of(hengaruto_matches, BOLD, given);
+}
+
+static uint32_t closest(struct given *given)
+{
+    return number_of(hengaruto_closest, BOLD, given);
 }
 
 static uint32_t page_text(struct given *given)
@@ -120,7 +165,7 @@ static long refuse_each(const char *name, call made, uint32_t wanted)
         uint32_t status = made(&given);
         granted = -1;
         if (status == wanted) {
-            CHECK(given.bytes != NULL);
+            CHECK(given.bytes != NULL || given.length > 0);
             free(given.bytes);
             CHECK(live == before);
             return request;
@@ -149,6 +194,12 @@ int main(void)
         {"html", html, HENGARUTO_OK},
         {"select", selects, HENGARUTO_OK},
         {"select, of a wrong selector", bad_selector, HENGARUTO_BAD_SELECTOR},
+        {"select_all", select_all, HENGARUTO_OK},
+        {"select_all, of a wrong selector", bad_selectors, HENGARUTO_BAD_SELECTOR},
+        {"check_selector, of a wrong selector", check_selector, HENGARUTO_BAD_SELECTOR},
+        {"select_first", select_first, HENGARUTO_OK},
+        {"matches", matches, HENGARUTO_OK},
+        {"closest", closest, HENGARUTO_OK},
         {"page_text", page_text, HENGARUTO_OK},
         {"page_text, of a width", page_text_of_a_width, HENGARUTO_OK},
         {"page_links", page_links, HENGARUTO_OK},

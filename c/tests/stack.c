@@ -19,6 +19,7 @@ static void drop(uint32_t status, unsigned char **bytes)
     if (status == HENGARUTO_OK || status == HENGARUTO_BAD_SELECTOR) {
         free(*bytes);
     }
+    *bytes = NULL;
 }
 
 static void whole_pages(const unsigned char *page, size_t length)
@@ -39,8 +40,14 @@ static void select_all(struct given tree, const unsigned char *selector, size_t 
 {
     unsigned char *bytes;
     size_t count;
+    uint32_t last = hengaruto_node_count(tree.bytes, tree.length) - 1, status, number;
 
     drop(hengaruto_select(tree.bytes, tree.length, 0, selector, length, &bytes, &count), &bytes);
+    drop(hengaruto_select_all(tree.bytes, tree.length, 0, selector, length, &bytes, &count), &bytes);
+    drop(hengaruto_check_selector(selector, length, &bytes, &count), &bytes);
+    status = hengaruto_select_first(tree.bytes, tree.length, 0, selector, length, &number);
+    CHECK(status == hengaruto_matches(tree.bytes, tree.length, last, selector, length, &number));
+    CHECK(status == hengaruto_closest(tree.bytes, tree.length, last, selector, length, &number));
 }
 
 static void reads_of(struct given tree, uint32_t node)

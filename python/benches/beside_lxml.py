@@ -134,4 +134,5 @@ def main(words):
         print(f"{name}: {peak} MB at most, {before} MB before the parse")
 
 
-main(sys.argv[1:])
+if __name__ == "__main__":
+    main(sys.argv[1:])

@@ -21,6 +21,7 @@ from ._input import Source
 from ._library import Error, SelectorError
 from ._pages import Parser, clean, links, text
 from ._search import NameTest, Test
+from ._selectors import Selector, SelectorText
 from ._tree import (
     COMMENT,
     DOCTYPE,
@@ -41,6 +42,6 @@ __version__ = "0.3.0"
 
 __all__ = [
     "parse", "parse_fragment", "load", "Document", "Node", "Parser", "Source", "text", "links", "clean", "decode", "Error", "SelectorError",
-    "NameTest", "Test",
+    "NameTest", "Test", "Selector", "SelectorText",
     "ELEMENT", "TEXT", "PROCESSING_INSTRUCTION", "COMMENT", "DOCUMENT", "DOCTYPE", "FRAGMENT", "NAMESPACES",
 ]

@@ -8,7 +8,7 @@ from typing import Any
 OK, MEMORY, NO_NODE, NO_TREE, BAD_ARGUMENT, BAD_SELECTOR = range(6)
 
 _U32, _SIZE, _BYTES = ctypes.c_uint32, ctypes.c_size_t, ctypes.c_char_p
-_OUT, _LENGTH = ctypes.POINTER(ctypes.c_void_p), ctypes.POINTER(ctypes.c_size_t)
+_OUT, _LENGTH, _NUMBER = ctypes.POINTER(ctypes.c_void_p), ctypes.POINTER(ctypes.c_size_t), ctypes.POINTER(ctypes.c_uint32)
 _SIGNATURES = {
     "parse": [_BYTES, _SIZE, _U32, _OUT, _LENGTH],
     "parse_fragment": [_BYTES, _SIZE, _BYTES, _SIZE, _U32, _U32, _OUT, _LENGTH],
@@ -16,6 +16,11 @@ _SIGNATURES = {
     "decode": [_BYTES, _SIZE, _BYTES, _SIZE, _OUT, _LENGTH],
     "html": [_BYTES, _SIZE, _U32, _U32, _OUT, _LENGTH],
     "select": [_BYTES, _SIZE, _U32, _BYTES, _SIZE, _OUT, _LENGTH],
+    "select_all": [_BYTES, _SIZE, _U32, _BYTES, _SIZE, _OUT, _LENGTH],
+    "select_first": [_BYTES, _SIZE, _U32, _BYTES, _SIZE, _NUMBER],
+    "matches": [_BYTES, _SIZE, _U32, _BYTES, _SIZE, _NUMBER],
+    "closest": [_BYTES, _SIZE, _U32, _BYTES, _SIZE, _NUMBER],
+    "check_selector": [_BYTES, _SIZE, _OUT, _LENGTH],
     "page_text": [_BYTES, _SIZE, _SIZE, _OUT, _LENGTH],
     "page_links": [_BYTES, _SIZE, _OUT, _LENGTH],
     "clean": [_BYTES, _SIZE, _OUT, _LENGTH],
@@ -62,17 +67,47 @@ def given(name: str, *arguments: Any) -> bytes:
     """Returns the result of a call, and frees the memory of the library."""
     out, length = ctypes.c_void_p(), ctypes.c_size_t()
     status = getattr(_library, "hengaruto_" + name)(*arguments, ctypes.byref(out), ctypes.byref(length))
-    if status == MEMORY:
-        raise MemoryError("hengaruto: out of memory, or the tree is 4 GiB or larger")
-    if status not in (OK, BAD_SELECTOR):
-        raise Error(_MESSAGES.get(status, f"status {status}"))
+    if status == BAD_SELECTOR:
+        raise SelectorError(_taken(out, length).decode("utf-8", "replace"))
+    if status != OK:
+        raise _error_of(status)
+    return _taken(out, length)
+
+
+def number(name: str, block: bytes, node: int, selector: bytes) -> int:
+    """Returns the number that a call with a selector returns."""
+    found = ctypes.c_uint32()
+    status = getattr(_library, "hengaruto_" + name)(block, len(block), node, selector, len(selector), ctypes.byref(found))
+    if status == BAD_SELECTOR:
+        # This call returns no message.
+        check_selector(selector)
+    if status != OK:
+        raise _error_of(status)
+    return found.value
+
+
+def check_selector(selector: bytes) -> None:
+    """Raises a `SelectorError` if a text in UTF-8 isn't a selector."""
+    out, length = ctypes.c_void_p(), ctypes.c_size_t()
+    status = _library.hengaruto_check_selector(selector, len(selector), ctypes.byref(out), ctypes.byref(length))
+    if status == BAD_SELECTOR:
+        raise SelectorError(_taken(out, length).decode("utf-8", "replace"))
+    if status != OK:
+        raise _error_of(status)
+
+
+def _taken(out: ctypes.c_void_p, length: ctypes.c_size_t) -> bytes:
+    """Returns a copy of a result, and frees it."""
     try:
-        answer = ctypes.string_at(out, length.value)
+        return ctypes.string_at(out, length.value)
     finally:
         _free(out)
-    if status == BAD_SELECTOR:
-        raise SelectorError(answer.decode("utf-8", "replace"))
-    return answer
+
+
+def _error_of(status: int) -> Exception:
+    if status == MEMORY:
+        return MemoryError("hengaruto: out of memory, or the tree is 4 GiB or larger")
+    return Error(_MESSAGES.get(status, f"status {status}"))
 
 
 def is_tree(block: bytes) -> bool:

@@ -2,14 +2,16 @@
 from __future__ import annotations
 
 import operator
+from bisect import bisect_left, bisect_right
 from itertools import islice
-from typing import Any, Dict, Iterator, List, Mapping, Optional, Sequence, Tuple, TypeVar, Union
+from typing import Any, Dict, Iterable, Iterator, List, Mapping, Optional, Sequence, Set, Tuple, TypeVar, Union, overload
 from urllib.parse import urljoin
 
 from . import _library
 from ._forms import fields_of
 from ._input import Source, as_text, octets, utf8
 from ._search import NameTest, Test, Wanted
+from ._selectors import Selector, SelectorText, octets_of
 from ._tables import rows_of
 
 ELEMENT, TEXT, PROCESSING_INSTRUCTION, COMMENT, DOCUMENT, DOCTYPE, FRAGMENT = 1, 3, 7, 8, 9, 10, 11
@@ -35,6 +37,9 @@ _KINDS = {
 }
 _CONTEXTS = {"": 1, "math": 2, "svg": 3}
 _HEAD = 9
+# The number of selectors whose elements a document keeps, at most.
+_MOST_SELECTORS = 64
+_K = TypeVar("_K")
 _T = TypeVar("_T")
 _D = TypeVar("_D")
 
@@ -115,7 +120,7 @@ class Document:
 
     __slots__ = (
         "block", "quirks", "scripting", "_count", "_kinds", "_parents", "_ends", "_texts", "_rows", "_row_names", "_row_ends", "_spaces",
-        "_locals", "_keys", "_values_at", "_texts_at", "_words",
+        "_locals", "_keys", "_values_at", "_texts_at", "_words", "_asked", "_known",
     )
 
     block: bytes
@@ -147,9 +152,35 @@ class Document:
         self._locals = [str(view[starts[i] : starts[i + 1]], "utf-8", "replace") for i in range(names)]
         self._keys = [_item(_PREFIXES, space >> 8, "") + local for space, local in zip(spaces, self._locals)]
         self._words: Optional[Dict[str, List[int]]] = None
+        self._asked: Set[bytes] = set()
+        self._known: Dict[bytes, Optional[memoryview]] = {}
 
     def __reduce__(self) -> Tuple[Any, ...]:
         return load, (self.block,)
+
+    def _matching(self, text: bytes) -> Optional[memoryview]:
+        """The numbers of all elements of the document that a selector matches, from its second use on. None at its first use, or if the
+        elements below a node aren't those of the whole document that are below it.
+
+        Each call of the library reads the whole block once. So a loop over the rows of a table, each with the same selector, would take a
+        time that is quadratic in the number of rows.
+        """
+        asked, known = self._asked, self._known
+        if text in known:
+            return known[text]
+        if text not in asked:
+            if len(asked) < _MOST_SELECTORS:
+                asked.add(text)
+            else:
+                self._asked, self._known = {text}, {}
+            return None
+        # `:scope` may also be written with an escape; the content of a template isn't below the document.
+        has_scope = b":scope" in text.lower() or b"\\" in text
+        if has_scope or any(kind & 255 == FRAGMENT for kind in self._kinds[1:]):
+            known[text] = None
+        else:
+            known[text] = memoryview(self.node._selected("select", text)).cast("I")
+        return known[text]
 
     def __len__(self) -> int:
         return self._count
@@ -203,9 +234,9 @@ class Document:
         """The elements with this name and these attributes, as `Node.find_all` returns them."""
         return self.node.find_all(name, attrs, recursive=recursive, string=string, limit=limit, **attributes)
 
-    def select(self, selector: str) -> List[Node]:
+    def select(self, selector: SelectorText) -> List[Node]:
         """The elements that a CSS selector matches, each once, in tree order. An invalid selector raises a `SelectorError`, and a block
-        into which no tree was packed an `Error`.
+        that `load` rejects an `Error`.
 
         >>> doc = parse("<ul><li>1<li class=x>2<li>3</ul>")
         >>> [node.text() for node in doc.select("li.x, li:first-child")]
@@ -213,7 +244,22 @@ class Document:
         """
         return self.node.select(selector)
 
-    def select_first(self, selector: str) -> Optional[Node]:
+    @overload
+    def select_all(self, selectors: Mapping[_K, SelectorText]) -> Dict[_K, List[Node]]: ...
+
+    @overload
+    def select_all(self, selectors: Iterable[SelectorText]) -> List[List[Node]]: ...
+
+    def select_all(self, selectors: Any) -> Any:
+        """The elements that each of several CSS selectors matches, as `Node.select_all` returns them.
+
+        >>> found = parse("<h1>Teas</h1><ul><li>Black<li>Green</ul>").select_all({"title": "h1", "teas": "li"})
+        >>> {key: [node.text() for node in nodes] for key, nodes in found.items()}
+        {'title': ['Teas'], 'teas': ['Black', 'Green']}
+        """
+        return self.node.select_all(selectors)
+
+    def select_first(self, selector: SelectorText) -> Optional[Node]:
         """The first element that a CSS selector matches, or None."""
         return self.node.select_first(selector)
 
@@ -544,44 +590,89 @@ class Node:
             below = self.iter(wanted.name)
         return (node for node in below if node.kind == ELEMENT and wanted.fits(node))
 
-    def select(self, selector: str) -> List[Node]:
+    def select(self, selector: SelectorText) -> List[Node]:
         """The elements below this node that a CSS selector matches, each once, in tree order. An invalid selector raises a
-        `SelectorError`, and a block into which no tree was packed an `Error`.
+        `SelectorError`, and a block that `load` rejects an `Error`.
 
         >>> [node["href"] for node in parse("<nav><a href=x></a></nav><a href=y></a>").find("nav").select("a[href]")]
         ['x']
         """
-        document = self.document
-        return [Node(document, index) for index in self._selected(selector)]
+        text = octets_of(selector)
+        matching = self._matching(text)
+        if matching is None:
+            return self._nodes(memoryview(self._selected("select", text)).cast("I"))
+        return self._nodes(matching[bisect_right(matching, self.index) : bisect_left(matching, self._end())])
 
-    def select_first(self, selector: str) -> Optional[Node]:
+    @overload
+    def select_all(self, selectors: Mapping[_K, SelectorText]) -> Dict[_K, List[Node]]: ...
+
+    @overload
+    def select_all(self, selectors: Iterable[SelectorText]) -> List[List[Node]]: ...
+
+    def select_all(self, selectors: Any) -> Any:
+        """The elements below this node that each of several CSS selectors matches: a list of what `select` returns for each, or, for a
+        dict of selectors, a dict with the same keys. This is faster than many calls of `select`. If a selector is invalid, the message of
+        the `SelectorError` begins with which one it is.
+
+        >>> doc = parse("<p>One <b>bold</b> word<p>Two")
+        >>> [len(nodes) for nodes in doc.node.select_all(["p", "b", "i"])]
+        [2, 1, 0]
+        >>> doc.node.select_all(["p", "b >"])
+        Traceback (most recent call last):
+        ...
+        hengaruto.SelectorError: selector 2: at offset 3: expected a selector
+        """
+        if isinstance(selectors, Mapping):
+            return dict(zip(selectors, self.select_all(list(selectors.values()))))
+        if isinstance(selectors, (str, bytes, Selector)):
+            raise TypeError(f"selectors must be a list or a dict of selectors, not {type(selectors).__name__}")
+        # A NUL means U+FFFD in a selector, and separates selectors here.
+        texts = [octets_of(it).replace(b"\0", b"\xef\xbf\xbd") for it in selectors]
+        if not texts:
+            return []
+        words = memoryview(self._selected("select_all", b"\0".join(texts))).cast("I")
+        found, at = [], 0
+        for _ in texts:
+            end = at + 1 + words[at]
+            found.append(self._nodes(words[at + 1 : end]))
+            at = end
+        return found
+
+    def select_first(self, selector: SelectorText) -> Optional[Node]:
         """The first element below this node that a CSS selector matches, or None.
 
         >>> parse("<p>x<p>y").select_first("p + p").text()
         'y'
         """
-        found = self._selected(selector)
-        return Node(self.document, found[0]) if len(found) else None
+        text = octets_of(selector)
+        matching = self._matching(text)
+        if matching is None:
+            return self._found("select_first", text)
+        first = matching[bisect_right(matching, self.index) : bisect_left(matching, self._end())][:1]
+        return Node(self.document, first[0]) if first else None
 
     css = select
     select_one = css_first = select_first
 
-    def matches(self, selector: str) -> bool:
-        """Returns true if a CSS selector matches this element in its document.
+    def matches(self, selector: SelectorText) -> bool:
+        """Returns true if a CSS selector matches this element in its document. `:scope` is the element itself.
 
         >>> parse("<p>x<p>y").select_first("p + p").matches("p:last-child")
         True
         """
-        return self.index in self.document.node._selected(selector)
+        text = octets_of(selector)
+        matching = self._matching(text)
+        if matching is None:
+            return _library.number("matches", self.document.block, self.index, text) == 1
+        return len(matching[bisect_left(matching, self.index) : bisect_right(matching, self.index)]) == 1
 
-    def closest(self, selector: str) -> Optional[Node]:
-        """The nearest of this element and its ancestors that a CSS selector matches, or None.
+    def closest(self, selector: SelectorText) -> Optional[Node]:
+        """The nearest of this node and its ancestors that a CSS selector matches, or None.
 
         >>> parse("<div id=a><p><b>x").find("b").closest("[id]").name
         'div'
         """
-        found = set(self.document.node._selected(selector))
-        return next((node for node in (self, *self.ancestors()) if node.index in found), None)
+        return self._found("closest", octets_of(selector))
 
     def text(self) -> str:
         """The text of a text node; for other nodes, all texts below them, joined."""
@@ -674,13 +765,22 @@ class Node:
         block = self.document.block
         return str(_library.given("html", block, len(block), self.index, outer), "utf-8", "replace")
 
-    def _selected(self, selector: str) -> memoryview:
+    def _selected(self, name: str, text: bytes) -> bytes:
         block = self.document.block
-        try:
-            text = as_text(selector, "a selector").encode("utf-8")
-        except UnicodeEncodeError as error:
-            raise _library.SelectorError(f"at offset {error.start}: a surrogate can't be encoded in UTF-8") from None
-        return memoryview(_library.given("select", block, len(block), self.index, text, len(text))).cast("I")
+        return _library.given(name, block, len(block), self.index, text, len(text))
+
+    def _matching(self, text: bytes) -> Optional[memoryview]:
+        """As `Document._matching`. The document itself is asked by calls of the library: there is no smaller part of it to read."""
+        return self.document._matching(text) if self.index else None
+
+    def _found(self, name: str, text: bytes) -> Optional[Node]:
+        """The node whose number a call returns."""
+        number = _library.number(name, self.document.block, self.index, text)
+        return None if number == NONE else Node(self.document, number)
+
+    def _nodes(self, numbers: Iterable[int]) -> List[Node]:
+        document = self.document
+        return [Node(document, number) for number in numbers]
 
     def _end(self) -> int:
         """The number of the first node after the subtree."""

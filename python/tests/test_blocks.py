@@ -1,5 +1,4 @@
 """Blocks: stored, sent, shared by threads, truncated and changed."""
-import contextlib
 import copy
 import multiprocessing
 import pickle
@@ -70,12 +69,11 @@ def read_all_of(doc):
         repr(node), node.kind, node.name, node.namespace, node.attrs, node.data, node.public_id, node.get("id")
         node.text(), node.to_html(), node.inner_html(), list(node.children()), list(node.ancestors()), node.next
     list(doc.iter()), list(doc.links()), doc.find("p"), doc.title, doc.root, doc.text(), doc.to_html()
-    with contextlib.suppress(hengaruto.Error):
-        doc.select("p b, [id]")
+    doc.select_all(["p b", "[id]"]), doc.node.closest("p"), [node.matches("p, :empty") for node in doc.node.descendants()]
 
 
 def test_changed_blocks():
-    """A changed block is rejected, or all its reads return; selecting in one without a tree raises an error."""
+    """A changed block is rejected, or all its reads return, and elements are selected in it."""
     block, rand = hengaruto.parse(PAGE).block, random.Random(1)
     loaded = 0
     for _ in range(2000):

@@ -119,3 +119,22 @@ def test_random_pages_beside_html5lib():
     rand = random.Random(1)
     for _ in range(500):
         same_as_html5lib("<!DOCTYPE html><body>" + "".join(rand.choices(WORDS, k=rand.randint(1, 30))))
+
+
+REPEATED = (
+    "<table><tr><td>1<td><a href=x>2</a><tr><td>3</table>",
+    "<div id=a><p>x<b>y</b></p><template><p>z<b>w</b></p></template></div><p><b>v</b>",
+    "<p>One<p class=x>Two <i>three</i>",
+)
+
+
+@pytest.mark.parametrize("page", REPEATED)
+@pytest.mark.parametrize("selector", ("td", "p > b", ":scope > *", "\\:scope, b", "tr:first-child td", "p.x, i", "*"))
+def test_a_selector_that_is_used_again_finds_the_same(page, selector):
+    doc = hengaruto.parse(page)
+    for node in (*doc, *doc):
+        alone = hengaruto.load(doc.block)[node.index]
+        assert [found.index for found in node.select(selector)] == [found.index for found in alone.select(selector)]
+        first = alone.select_first(selector)
+        assert node.select_first(selector) == (None if first is None else doc[first.index])
+        assert node.matches(selector) == alone.matches(selector)

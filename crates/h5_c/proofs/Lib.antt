@@ -1,1 +1,3 @@
+mod AskLaws
+mod CountLaws
 mod Giving

@@ -1,9 +1,9 @@
 //! The statuses of calls, and how bytes are returned to the caller.
-ghost use Rattle.std.specs.Prelude.{◌≡◌, ◌≢◌, ◌++◌, ◌∷◌, [], IfOk, MatchResult};
+ghost use Rattle.std.specs.Prelude.{◌≡◌, ◌≢◌, ◌++◌, ◌∷◌, [], IfOk, MatchResult, OnOk};
 ghost use Rattle.h5_flat.specs.Packed.{bytes_of_words};
 ghost use Rattle.h5_c.specs.Status.{HandsOut};
 
-use std::alloc::{AllocError, Global};
+use std::alloc::AllocError;
 use std::mem::forget;
 
 pub(crate) const OK: u32 = 0;
@@ -14,7 +14,7 @@ pub(crate) const NO_MEMORY: u32 = 1;
 /// No such node, row or name.
 pub(crate) const NO_NODE: u32 = 2;
 
-/// The bytes aren't a block, or not one that a tree was packed into.
+/// The bytes aren't a block, or it isn't sound.
 pub(crate) const BAD_BLOCK: u32 = 3;
 
 /// A name or a selector that isn't UTF-8, or a namespace that has no elements.
@@ -56,13 +56,12 @@ pub(crate) fn give(made: Result<Vec<u8>, AllocError>, out: &mut *mut u8, length:
     OK
 }
 
-/// Words as bytes in little-endian order.
-pub(crate) fn bytes_of(alloc: Global, words: &[u32]) -> Result<Vec<u8>, AllocError>
-    ensures { IfOk result (λ bytes. bytes.items ≡ bytes_of_words words.now) }
+/// Appends words to bytes, in little-endian order.
+pub(crate) fn put_words(bytes: &mut Vec<u8>, words: &[u32]) -> Result<(), AllocError>
+    ensures { OnOk result (bytes.new.items ≡ bytes.old.items ++ bytes_of_words words.now) }
 {
-    let mut bytes = Vec::new(alloc);
     for word in words {
         bytes.extend_from_slice(&word.to_le_bytes())?;
     }
-    Ok(bytes)
+    Ok(())
 }

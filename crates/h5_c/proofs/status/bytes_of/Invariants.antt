@@ -1,6 +1,0 @@
-use Rattle.std.proofs.Common.{◌≡◌, ◌++◌, drop}
-use Rattle.h5_flat.specs.Packed.{bytes_of_words}
-use Rattle.h5_c.proofs.status.bytes_of.Given as goal
-
-abbrev pub invariant-loop-word : goal.invariant-loop-word
-invariant-loop-word l = (l.bytes.items ++ bytes_of_words (drop l.word-index l.words) ≡ bytes_of_words l.words)
