@@ -8,8 +8,9 @@ from typing import Any, Dict, Iterable, Iterator, List, Mapping, Optional, Seque
 from urllib.parse import urljoin
 
 from . import _library
+from ._encoding import declared
 from ._forms import fields_of
-from ._input import Source, as_text, octets, utf8
+from ._input import Input, Source, as_text, content, octets, utf8
 from ._search import NameTest, Test, Wanted
 from ._selectors import Selector, SelectorText, octets_of
 from ._tables import rows_of
@@ -44,12 +45,15 @@ _T = TypeVar("_T")
 _D = TypeVar("_D")
 
 
-def parse(page: Source, *, scripting: bool = False, iframe_srcdoc: bool = False) -> Document:
-    """Parses a page into the tree that browsers build.
+def parse(page: Input, *, encoding: Optional[str] = None, scripting: bool = False, iframe_srcdoc: bool = False) -> Document:
+    """Parses a page into the tree that browsers build. The page is a text or bytes, the path of a file (a `pathlib.Path`), or an open file.
 
-    Bytes are taken as UTF-8. Decode bytes in another encoding first: `parse(decode(page))`. Scripting is off by default, as in html5lib and
-    lxml: the content of `noscript` is parsed into elements. With `scripting=True` it is text, as in a browser that runs scripts. With
-    `iframe_srcdoc=True` the page is the srcdoc of an iframe.
+    Bytes are decoded as the program decodes them: from the encoding of their byte order mark; or else from `encoding`, which is that of the
+    HTTP header; or else from the one that the first 1,024 bytes declare; or else from UTF-8. `Document.encoding` has its name. An unknown
+    `encoding` raises an `Error`, and one for a text a `TypeError`.
+
+    Scripting is off by default, as in html5lib and lxml: the content of `noscript` is parsed into elements. With `scripting=True` it is
+    text, as in a browser that runs scripts. With `iframe_srcdoc=True` the page is the srcdoc of an iframe.
 
     >>> parse("<title>A page</title><p>One <b>bold</b> word").to_html()
     '<html><head><title>A page</title></head><body><p>One <b>bold</b> word</p></body></html>'
@@ -57,9 +61,17 @@ def parse(page: Source, *, scripting: bool = False, iframe_srcdoc: bool = False)
     'x'
     >>> parse("<noscript><p>x</p></noscript>", scripting=True).find("p") is None
     True
+    >>> doc = parse(b"<meta charset=latin1><p>caf\\xe9")
+    >>> doc.find("p").text(), doc.encoding
+    ('café', 'windows-1252')
     """
-    page = utf8(page)
-    return Document(_library.given("parse", page, len(page), _options(scripting, iframe_srcdoc)))
+    source, options = content(page), _options(scripting, iframe_srcdoc)
+    name = declared(source, encoding)
+    if isinstance(source, str):
+        source = utf8(source)
+        return Document(_library.given("parse", source, len(source), options))
+    label = (encoding or "").encode("utf-8")
+    return Document(_library.given("parse_bytes", source, len(source), label, len(label), options), name)
 
 
 def parse_fragment(page: Source, context: str = "div", *, scripting: bool = False) -> Document:
@@ -102,6 +114,13 @@ def load(block: Union[bytes, bytearray, memoryview]) -> Document:
     return Document(block)
 
 
+def _restored(block: bytes, encoding: Optional[str]) -> Document:
+    """Returns a document that was pickled."""
+    document = load(block)
+    document.encoding = encoding
+    return document
+
+
 def _options(scripting: bool, iframe_srcdoc: bool) -> int:
     return (1 if scripting else 0) | (2 if iframe_srcdoc else 0)
 
@@ -119,8 +138,8 @@ class Document:
     """
 
     __slots__ = (
-        "block", "quirks", "scripting", "_count", "_kinds", "_parents", "_ends", "_texts", "_rows", "_row_names", "_row_ends", "_spaces",
-        "_locals", "_keys", "_values_at", "_texts_at", "_words", "_asked", "_known",
+        "block", "quirks", "scripting", "encoding", "_count", "_kinds", "_parents", "_ends", "_texts", "_rows", "_row_names", "_row_ends",
+        "_spaces", "_locals", "_keys", "_values_at", "_texts_at", "_words", "_asked", "_known",
     )
 
     block: bytes
@@ -129,8 +148,11 @@ class Document:
     """0 no quirks, 1 limited quirks, 2 quirks."""
     scripting: bool
     """True if the page was parsed with `scripting=True`. The HTML of a `noscript` depends on it."""
+    encoding: Optional[str]
+    """The name of the encoding from which `parse` decoded the page, as the Encoding Standard writes it. None if the page was a text, or if
+    the document is a fragment or comes from `load`."""
 
-    def __init__(self, block: bytes) -> None:
+    def __init__(self, block: bytes, encoding: Optional[str] = None) -> None:
         view = memoryview(block)
         words = view[: len(block) // 4 * 4].cast("I")
         if len(words) < _HEAD or view[:4] != b"HGT1":
@@ -140,6 +162,7 @@ class Document:
         if words[1] != len(block) or pools + words[6] + words[7] + words[8] != len(block):
             raise _library.Error("not a tree: invalid block")
         self.block, self.quirks, self.scripting, self._count = block, words[2] % 4, words[2] // 4 % 2 == 1, nodes
+        self.encoding = encoding
         parts, at = [], _HEAD
         for count in (nodes, nodes, nodes, nodes + 1, nodes + 1, rows, rows, names, names):
             parts.append(words[at : at + count])
@@ -156,7 +179,7 @@ class Document:
         self._known: Dict[bytes, Optional[memoryview]] = {}
 
     def __reduce__(self) -> Tuple[Any, ...]:
-        return load, (self.block,)
+        return _restored, (self.block, self.encoding)
 
     def _matching(self, text: bytes) -> Optional[memoryview]:
         """The numbers of all elements of the document that a selector matches, from its second use on. None at its first use, or if the
@@ -726,8 +749,8 @@ class Node:
         return [node.data or "" for node in self.descendants() if node.kind == COMMENT]
 
     def rows(self) -> List[List[str]]:
-        """The rows of a table, each with the texts of its cells, words separated by one space. A cell that spans rows or columns stands in each of them. Raises
-        TypeError if this isn't a table.
+        """The rows of a table, each with the texts of its cells, words separated by one space. A cell that spans rows or columns stands in
+        each of them. Raises TypeError if this isn't a table.
 
         >>> parse("<table><tr><th rowspan=2>Tea<td>4.00<tr><td>5.00").find("table").rows()
         [['Tea', '4.00'], ['Tea', '5.00']]
@@ -735,8 +758,8 @@ class Node:
         return rows_of(self._named("table", "rows"))
 
     def fields(self) -> List[Tuple[str, str]]:
-        """What a form sends if no button is pressed: the names and values of its controls, in tree order. Files aren't sent. Raises TypeError
-        if this isn't a form.
+        """What a form sends if no button is pressed: the names and values of its controls, in tree order. Files aren't sent. Raises
+        TypeError if this isn't a form.
 
         >>> parse("<form><input name=q value=tea><input type=checkbox name=all checked><button name=b></form>").find("form").fields()
         [('q', 'tea'), ('all', 'on')]

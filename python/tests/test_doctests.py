@@ -10,7 +10,11 @@ README = os.path.join(os.path.dirname(os.path.dirname(os.path.abspath(__file__))
 
 
 @pytest.mark.parametrize(
-    "name", ["hengaruto", "hengaruto._tree", "hengaruto._search", "hengaruto._selectors", "hengaruto._pages", "hengaruto._encoding", "hengaruto._library", "hengaruto.trees"]
+    "name",
+    [
+        "hengaruto", "hengaruto._tree", "hengaruto._search", "hengaruto._selectors", "hengaruto._clean", "hengaruto._listings",
+        "hengaruto._pages", "hengaruto._encoding", "hengaruto._library", "hengaruto.trees",
+    ],
 )
 def test_docstrings(name):
     assert doctest.testmod(importlib.import_module(name)).failed == 0
@@ -32,4 +36,4 @@ def test_readme():
         else:
             exec(statement, names)
         statement = ""
-    assert shown == 18
+    assert shown == 23

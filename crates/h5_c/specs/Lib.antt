@@ -1,4 +1,5 @@
 pub mod Encodings
 pub mod Pages
+pub mod Policies
 pub mod Selecting
 pub mod Status

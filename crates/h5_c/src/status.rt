@@ -23,6 +23,9 @@ pub(crate) const BAD_ARGUMENT: u32 = 4;
 /// An invalid selector.
 pub(crate) const BAD_SELECTOR: u32 = 5;
 
+/// An invalid policy.
+pub(crate) const BAD_POLICY: u32 = 6;
+
 // Bytes and a NUL after them: C may read them as a string, and even an empty result has its own memory.
 fn with_nul(bytes: Vec<u8>) -> Result<Vec<u8>, AllocError>
     ensures { IfOk result (λ all. all.items ≡ bytes.items ++ 0 ∷ []) }
