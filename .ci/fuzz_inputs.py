@@ -47,7 +47,10 @@ ON_TREES = [
     ".block", ".quirks", "[{number}].iter({name})", "[{number}].text()",
 ]
 CALLS = [
-    "hengaruto.text({page}, width={width})", "hengaruto.links({page})", "hengaruto.clean({page})", "hengaruto.decode({bytes}, {label})",
+    "hengaruto.text({page}, width={width})", "hengaruto.links({page})", "hengaruto.errors({page})", "hengaruto.meta({page})",
+    "hengaruto.outline({page})", "hengaruto.clean({page})", "hengaruto.decode({bytes}, {label})",
+    "hengaruto.parse({bytes}, encoding={label})", "hengaruto.text({bytes}, encoding={label})", "hengaruto.clean({page}, policy={policy})",
+    "hengaruto.clean({page}, tags=[{name}, {name}, 'p'], attributes=dict(p=[{name}]), url_schemes=[{name}], id_prefix={name})",
     "hengaruto.load({bytes})", "hengaruto.load(changed({tree}.block, {changes}))", "fed([{page}, {page}])", "pickle.loads(pickle.dumps({tree}))",
     "hengaruto.trees.to_etree({tree}, namespaces={flag})", "[it.rows() for it in {tree}.iter('table')]",
     "[it.fields() for it in {tree}.iter('form')]", "{name} in {tree}.node", "{tree} == {tree}", "hash({tree}.node)", "len({tree})",
@@ -86,6 +89,8 @@ def selector(rand):
 
 
 def policy(rand):
+    if rand.random() < 0.05:
+        return "elements = []\na = " + rand.choice(["[", "{a = ", "[{a = ", "a."]) * rand.choice([3, 127, 128, 255, 256, 257, 9000])
     return "\n".join(rand.choice(POLICY_LINES) for _ in range(rand.randint(0, 6)))
 
 
@@ -101,7 +106,7 @@ def record(rand):
 
 def c_case(rand):
     """A case of c/tests/fuzz.c: a letter, options, an argument and a page."""
-    letter = rand.choice("pfsmbedtc")
+    letter = rand.choice("pfsmbedtcoy")
     argument = {
         "f": lambda: rand.choice(CONTEXTS).rpartition(" ")[2].encode(),
         "s": lambda: changed(rand, selector(rand).encode()),
@@ -109,6 +114,8 @@ def c_case(rand):
         "m": lambda: bytes(rand.randrange(256) if it % 3 != 1 else rand.choice([0, 0, 0, 1, 2]) for it in range(3 * rand.randint(0, 9))),
         "e": lambda: rand.choice(LABELS).encode(),
         "d": lambda: rand.choice(LABELS).encode(),
+        "y": lambda: rand.choice([*LABELS, ""]).encode(),
+        "o": lambda: changed(rand, policy(rand).encode()),
     }.get(letter, bytes)()
     return letter, rand.randrange(256), argument[:65535], block(rand) if letter == "b" else page(rand)
 
@@ -130,6 +137,7 @@ def python_value(rand, kind):
         "selector": lambda: repr(selector(rand)),
         "name": lambda: repr(rand.choice([*TAGS, "", "é", "\x00", "id", "class"])),
         "label": lambda: repr(rand.choice([*LABELS, None])),
+        "policy": lambda: repr(policy(rand)),
         "test": lambda: rand.choice([python_value(rand, "name"), "None", "True", "False", "re.compile('a')", "['p', None, re.compile('b')]", "bool"]),
         "tests": lambda: rand.choice(["None", "'a'", f"{{'class': {python_value(rand, 'test')}}}", "{}"]),
         "url": lambda: repr(rand.choice(URLS)),

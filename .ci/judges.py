@@ -21,7 +21,7 @@ TOOLS = [
     [".ci/trusted", "--check"],
     [".ci/tables"],
     ["crates/h5_names/write_known_names.py", "--check"],
-    ["crates/h5_machine/write_table.py", "--check"],
+    ["crates/h5_tokenizer_states/write_table.py", "--check"],
     ["crates/h5_encodings/write_tables.py", "--check"],
     ["crates/h5_vectors/write_page.py", "--check"],
 ]

@@ -4,7 +4,7 @@ library is the one in dist/, unless HENGARUTO_LIBRARY names another.
 A tree is a list of lines: `start NAMESPACE NAME`, after it `attribute NAMESPACE NAME VALUE`, `end NAMESPACE NAME`, `text TEXT`,
 `comment TEXT`, `doctype NAME` and `instruction TARGET DATA`. After a first line `within`, only the content of the element that follows is
 written. NAMESPACE is a number: none, HTML, MathML, SVG, XLink, XML, XMLNS, from 0. Texts have the escapes of `h5 tree`. Block.antt and
-Packed.antt in crates/h5_flat/specs describe a block.
+Packed.antt in crates/h5_tree_block/specs describe a block.
 """
 import ctypes
 import functools

@@ -1,4 +1,4 @@
-//! The plain tokenizer of `h5`, as `docs/DIFFERENCES.md` and the definitions of `h5_markup` and `h5_tokenizer` have it, before html5ever's
+//! The plain tokenizer of `h5`, as `docs/DIFFERENCES.md` and the definitions of `h5_markup` and `h5_plain_tokenizer` have it, before html5ever's
 //! tree builder. html5ever's own tokenizer reads more of HTML than that.
 use crate::lines::{Answer, Builder};
 use crate::tendril::StrTendril;

@@ -4,7 +4,7 @@ use super::outcome::{Outcome, bare};
 use super::parsing::{PAGE, PAGE_HTML};
 use super::tally::Tally;
 use h5_tests_sinks::is_forest;
-use h5_tokenizer::{BufferQueue, Tokenizer, TokenizerOpts};
+use h5_plain_tokenizer::{BufferQueue, Tokenizer, TokenizerOpts};
 use std::alloc::{AllocError, Global};
 use std::io;
 

@@ -1,7 +1,7 @@
 //! Calls of the library's root. A call whose allocation failed is made again, and must then return what it should.
 use super::outcome::Outcome;
 use super::tally::Tally;
-use h5_flat::{View, arena_of, columns_of_document, html_of};
+use h5_tree_block::{View, arena_of, columns_of_document, html_of};
 use h5_page::{links_of_page, text_of_page};
 use html_tree_builder::bytes::BytesParser;
 use html_tree_builder::clean::{DefaultPolicy, clean};

@@ -342,6 +342,89 @@ static void pages(void)
     CHECK(hengaruto_clean(bytes_of(""), 0, &given.bytes, &given.length) == HENGARUTO_OK && gave(given, ""));
 }
 
+typedef uint32_t (*listing)(const unsigned char *page, size_t page_length, unsigned char **items, size_t *length);
+
+/* A page, and its items, whose values each have a bar after them in place of the NUL. */
+static void listings(void)
+{
+    static const struct {
+        listing call;
+        const char *page, *items;
+    } rows[] = {
+        {hengaruto_page_meta, "<html lang=en><title> A\n b</title><meta name=x content='y z'><meta charset=gbk>",
+         "lang|en|title|A b|x|y z|charset|gbk|"},
+        {hengaruto_page_meta, "", ""},
+        {hengaruto_page_outline, "<h1>a <b>b</b></h1><p>c<h6>d", "1|a b|6|d|"},
+        {hengaruto_page_outline, "<p>", ""},
+        {hengaruto_errors, "<!DOCTYPE html>\n<p>&nosuch;\n</section>",
+         "2|11|26|unknown-named-character-reference||3|||unexpected-end-tag|</section> in insertion mode InBody|"},
+        {hengaruto_errors, "<!DOCTYPE html><title>a</title>", ""},
+    };
+    struct given given;
+
+    for (size_t i = 0; i < sizeof rows / sizeof *rows; i++) {
+        REQUIRE(rows[i].call(bytes_of(rows[i].page), strlen(rows[i].page), &given.bytes, &given.length) == HENGARUTO_OK);
+        for (size_t at = 0; at < given.length; at++) {
+            given.bytes[at] = given.bytes[at] == 0 ? '|' : given.bytes[at];
+        }
+        CHECK(gave(given, rows[i].items));
+    }
+}
+
+static uint32_t cleaned_by(const char *html, const char *policy, struct given *given)
+{
+    return hengaruto_clean_by(bytes_of(html), strlen(html), bytes_of(policy), strlen(policy), &given->bytes, &given->length);
+}
+
+/* A fragment, a policy, and what it leaves. */
+static void policies(void)
+{
+    static const struct {
+        const char *html, *policy, *cleaned;
+    } rows[] = {
+        {"<p>a<b>c</b><script>d</script>", "elements = []", "ac"},
+        {"<p class=x title=y>a", "elements = [\"p\"]\nattributes = [\"title\"]", "<p title=\"y\">a</p>"},
+        {"<a href=ftp:x>a<a href=https:y>b", "elements = ['a']\nschemes = ['https']\nattributes-of = { a = ['href'] }",
+         "<a>a</a><a href=\"https:y\">b</a>"},
+        {"<a href=x>a", "elements = ['a']\nrelative = false\nrel = 'nofollow'\n[attributes-of]\na = ['href']", "<a rel=\"nofollow\">a</a>"},
+        {"<p id=x>a<p>b", "elements = ['p']\nattributes = ['id']\nprefix = 'u-'", "<p id=\"u-x\">a</p><p>b</p>"},
+        {"<i>a</i><b>c</b>", "elements = ['b']\ndropped = ['i']", "<b>c</b>"},
+        {"<p>a", "elements = ['p']\nplace = 'line'", "a"},
+        {"", "elements = []", ""},
+    };
+    struct given given;
+
+    for (size_t i = 0; i < sizeof rows / sizeof *rows; i++) {
+        CHECK(cleaned_by(rows[i].html, rows[i].policy, &given) == HENGARUTO_OK && gave(given, rows[i].cleaned));
+    }
+}
+
+/* A policy, and the message about it. */
+static void bad_policies(void)
+{
+    static const struct {
+        const char *policy, *message;
+    } rows[] = {
+        {"", "missing key `elements`"},
+        {"elements = [\"script\"]", "line 1: element \"script\" can't be allowed"},
+        {"elements = ['p']\nattributes = ['onclick']", "line 2: attribute \"onclick\" can't be allowed"},
+        {"elements = []\n\nschemes = ['javascript']", "line 3: scheme \"javascript\" can't be allowed"},
+        {"elements = []\ncolour = 1", "line 2: unknown key `colour`"},
+    };
+    struct given given;
+
+    for (size_t i = 0; i < sizeof rows / sizeof *rows; i++) {
+        CHECK(cleaned_by("<p>a", rows[i].policy, &given) == HENGARUTO_BAD_POLICY && gave(given, rows[i].message));
+    }
+    /* Neither is TOML. */
+    given = (struct given){NULL, 0};
+    CHECK(cleaned_by("<p>a", "elements = [", &given) == HENGARUTO_BAD_POLICY && strncmp((const char *)given.bytes, "line 1: ", 8) == 0);
+    free(given.bytes);
+    given = (struct given){NULL, 0};
+    CHECK(cleaned_by("<p>a", "elements = ['\xff']", &given) == HENGARUTO_BAD_POLICY && given.length > 0);
+    free(given.bytes);
+}
+
 static uint32_t encoding_of(const char *page, const char *label, struct given *given)
 {
     return hengaruto_encoding(bytes_of(page), strlen(page), bytes_of(label), strlen(label), &given->bytes, &given->length);
@@ -370,6 +453,43 @@ static void encodings(void)
     given = (struct given){NULL, SOME};
     CHECK(decoded("a", 1, "no-such", &given) == HENGARUTO_BAD_ARGUMENT);
     CHECK(given.bytes == NULL && given.length == SOME);
+}
+
+/* A page, its label, and the text of its body. */
+static void bytes(void)
+{
+    static const struct {
+        const char *page;
+        size_t length;
+        const char *label, *text;
+    } rows[] = {
+        {"<body>\xc3\xa9\xff", 9, "", "\xc3\xa9\xef\xbf\xbd"},
+        {"<meta charset=koi8-r><body>\xf7", 28, "", "\xd0\x92"},
+        {"<meta charset=koi8-r><body>\xe9", 28, " Latin1 ", "\xc3\xa9"},
+        {"<body>\xe9", 7, "windows-1252", "\xc3\xa9"},
+        {"\xef\xbb\xbf<body>\xc3\xa9", 11, "latin1", "\xc3\xa9"},
+        {"\xff\xfe<\0b\0o\0d\0y\0>\0\xe9\0", 16, "utf-8", "\xc3\xa9"},
+        {"<body>\x82", 7, "shift_jis", "\xef\xbf\xbd"},
+        {"", 0, "gb18030", ""},
+    };
+    struct given tree = {NULL, SOME}, same;
+
+    for (size_t i = 0; i < sizeof rows / sizeof *rows; i++) {
+        REQUIRE(hengaruto_parse_bytes(bytes_of(rows[i].page), rows[i].length, bytes_of(rows[i].label), strlen(rows[i].label), 0, &tree.bytes,
+                                      &tree.length) == HENGARUTO_OK);
+        CHECK(has_text(tree, element(tree, "body"), rows[i].text));
+        free(tree.bytes);
+    }
+    REQUIRE(hengaruto_parse_bytes(bytes_of(PAGE), sizeof PAGE - 1, bytes_of(""), 0, HENGARUTO_SCRIPTING, &tree.bytes, &tree.length) ==
+            HENGARUTO_OK);
+    same = parsed(PAGE, HENGARUTO_SCRIPTING);
+    CHECK(tree.length == same.length && memcmp(tree.bytes, same.bytes, same.length) == 0);
+    free(tree.bytes);
+    free(same.bytes);
+    tree = (struct given){NULL, SOME};
+    CHECK(hengaruto_parse_bytes(bytes_of("<p>"), 3, bytes_of("no-such"), 7, 0, &tree.bytes, &tree.length) == HENGARUTO_BAD_ARGUMENT);
+    CHECK(hengaruto_parse_bytes(bytes_of("<p>"), 3, bytes_of(" "), 1, 0, &tree.bytes, &tree.length) == HENGARUTO_BAD_ARGUMENT);
+    CHECK(tree.bytes == NULL && tree.length == SOME);
 }
 
 static void places(void)
@@ -431,6 +551,38 @@ static void rows(void)
     CHECK(has_row(tree, first_of(tree, HENGARUTO_DOCTYPE), 2, NULL, "s"));
     CHECK(has_row(tree, first_of(tree, HENGARUTO_COMMENT), 0, NULL, "c"));
     CHECK(has_row(tree, element(tree, "svg"), 0, "href", "y"));
+    free(tree.bytes);
+}
+
+static int has_attribute(struct given tree, uint32_t node, const char *name, const char *value)
+{
+    size_t at, count;
+    uint32_t status = hengaruto_attribute(tree.bytes, tree.length, node, bytes_of(name), strlen(name), &at, &count);
+
+    return status == HENGARUTO_OK && count == strlen(value) && memcmp(tree.bytes + at, value, count) == 0;
+}
+
+static uint32_t next_named(struct given tree, uint32_t node, const char *name)
+{
+    return hengaruto_next_named(tree.bytes, tree.length, node, bytes_of(name), strlen(name));
+}
+
+/* An attribute in a namespace isn't found, nor is the text of a comment, which has no name. */
+static void by_name(void)
+{
+    struct given tree = parsed(PAGE, 0);
+    uint32_t p = element(tree, "p"), comment = first_of(tree, HENGARUTO_COMMENT);
+    size_t at = SOME, count = SOME;
+
+    CHECK(hengaruto_version() == HENGARUTO_VERSION_NUMBER);
+    CHECK(has_attribute(tree, p, "class", "a") && has_attribute(tree, p, "id", "b"));
+    CHECK(hengaruto_attribute(tree.bytes, tree.length, p, bytes_of("i"), 1, &at, &count) == HENGARUTO_NO_NODE && at == SOME);
+    CHECK(hengaruto_attribute(tree.bytes, tree.length, element(tree, "svg"), bytes_of("href"), 4, &at, &count) == HENGARUTO_NO_NODE);
+    CHECK(hengaruto_attribute(tree.bytes, tree.length, comment, bytes_of(""), 0, &at, &count) == HENGARUTO_NO_NODE);
+    CHECK(hengaruto_attribute(bytes_of(""), 0, p, bytes_of("id"), 2, &at, &count) == HENGARUTO_BAD_BLOCK);
+    CHECK(next_named(tree, 0, "p") == p && next_named(tree, p - 1, "p") == p && next_named(tree, p, "p") > p);
+    CHECK(next_named(tree, 0, "nothing") == HENGARUTO_NONE && next_named(tree, HENGARUTO_NONE, "p") == HENGARUTO_NONE);
+    CHECK(hengaruto_next_named(bytes_of(""), 0, 0, bytes_of("p"), 1) == HENGARUTO_NONE);
     free(tree.bytes);
 }
 
@@ -563,10 +715,15 @@ int main(void)
     numbers();
     refusals();
     pages();
+    listings();
+    policies();
+    bad_policies();
     encodings();
+    bytes();
     places();
     names();
     rows();
+    by_name();
     texts();
     wrong();
     return ended("calls");

@@ -150,6 +150,23 @@ static void clean(void)
     take(twice);
 }
 
+/* As above, by the policy that the argument has. */
+static void clean_by(void)
+{
+    struct given once, twice;
+    uint32_t status = hengaruto_clean_by(page.bytes, page.length, argument.bytes, argument.length, &once.bytes, &once.length);
+
+    REQUIRE(status == HENGARUTO_OK || status == HENGARUTO_BAD_POLICY);
+    if (status == HENGARUTO_OK) {
+        REQUIRE(hengaruto_clean_by(once.bytes, once.length, argument.bytes, argument.length, &twice.bytes, &twice.length) == HENGARUTO_OK);
+        REQUIRE(once.length == twice.length && memcmp(once.bytes, twice.bytes, once.length) == 0);
+        take(twice);
+    } else {
+        REQUIRE(once.length > 0);
+    }
+    take(once);
+}
+
 /* The name of an encoding is a label, and ASCII. */
 static void encoding(void)
 {
@@ -163,6 +180,28 @@ static void encoding(void)
         REQUIRE(hengaruto_decode(page.bytes, page.length, name.bytes, name.length, &text.bytes, &text.length) == HENGARUTO_OK);
         take(text);
     }
+    take(name);
+}
+
+/* The tree is that of the page's text. */
+static void parse_bytes(void)
+{
+    static const unsigned char utf8[] = "utf-8";
+    struct given name, text, same;
+    uint32_t status = hengaruto_parse_bytes(page.bytes, page.length, argument.bytes, argument.length, option & 3u, &tree.bytes, &tree.length);
+
+    REQUIRE(status == HENGARUTO_OK || status == HENGARUTO_BAD_ARGUMENT);
+    if (status != HENGARUTO_OK) {
+        tree.bytes = NULL;
+        return;
+    }
+    REQUIRE(hengaruto_encoding(page.bytes, page.length, argument.bytes, argument.length, &name.bytes, &name.length) == HENGARUTO_OK);
+    REQUIRE(hengaruto_decode(page.bytes, page.length, name.length > 0 ? name.bytes : utf8, name.length > 0 ? name.length : 5, &text.bytes,
+                             &text.length) == HENGARUTO_OK);
+    REQUIRE(hengaruto_parse(text.bytes, text.length, option & 3u, &same.bytes, &same.length) == HENGARUTO_OK);
+    REQUIRE(tree.length == same.length && memcmp(tree.bytes, same.bytes, same.length) == 0);
+    free(same.bytes);
+    take(text);
     take(name);
 }
 
@@ -186,6 +225,12 @@ static void write_page(void)
     take(text);
     REQUIRE(hengaruto_page_links(page.bytes, page.length, &text.bytes, &text.length) == HENGARUTO_OK);
     take(text);
+    REQUIRE(hengaruto_page_meta(page.bytes, page.length, &text.bytes, &text.length) == HENGARUTO_OK);
+    take(text);
+    REQUIRE(hengaruto_page_outline(page.bytes, page.length, &text.bytes, &text.length) == HENGARUTO_OK);
+    take(text);
+    REQUIRE(hengaruto_errors(page.bytes, page.length, &text.bytes, &text.length) == HENGARUTO_OK);
+    take(text);
 }
 
 static void *call(void *nothing)
@@ -203,11 +248,17 @@ static void *call(void *nothing)
     case 'c':
         clean();
         break;
+    case 'o':
+        clean_by();
+        break;
     case 'e':
         encoding();
         break;
     case 'd':
         decode();
+        break;
+    case 'y':
+        parse_bytes();
         break;
     case 't':
         write_page();

@@ -30,6 +30,9 @@ static void read_all_of(const unsigned char *block, size_t length, uint32_t numb
     if (hengaruto_name_text(block, length, number, &at, &count) == HENGARUTO_OK) {
         read_bytes(block, at, count);
     }
+    if (hengaruto_attribute(block, length, number, bytes_of("id"), 2, &at, &count) == HENGARUTO_OK) {
+        read_bytes(block, at, count);
+    }
     for (uint32_t row = 0; row < 4; row++) {
         if (hengaruto_attribute_at(block, length, number, row, &name, &at, &count) == HENGARUTO_OK) {
             sum += name;
@@ -43,10 +46,12 @@ static void step(const unsigned char *block, size_t length, uint32_t node)
 {
     uint32_t next = hengaruto_next_sibling(block, length, node), child = hengaruto_first_child(block, length, node);
     uint32_t end = hengaruto_subtree_end(block, length, node), parent = hengaruto_parent(block, length, node);
+    uint32_t named = hengaruto_next_named(block, length, node, bytes_of("p"), 1);
 
     CHECK(next == HENGARUTO_NONE || next > node);
     CHECK(child == HENGARUTO_NONE || child > node);
     CHECK(end == HENGARUTO_NONE || end > node);
+    CHECK(named == HENGARUTO_NONE || named > node);
     CHECK(parent == HENGARUTO_NONE || parent < node);
 }
 

@@ -49,6 +49,9 @@ static const char PAGE[] = "<!doctype html><title>t</title><p class=a id=b>one <
                            "<td>q<template><i>x&amp;<a href=q>w</a></template><ul><li>1<li>2";
 static const char SELECTOR[] = "p.a > b, li:nth-child(2)", NO_SELECTOR[] = "p > [a=";
 static const char SELECTORS[] = "p.a > b\0li:nth-child(2)", NO_SELECTORS[] = "p\0p > [a=";
+static const char POLICY[] = "elements = [\"p\", 'b']\nattributes = ['data-*']\nrel = \"a\"\n[attributes-of]\np = ['class']";
+static const char NO_POLICY[] = "elements = ['p', 'script']", NO_TOML[] = "elements = ['p'";
+static const char HEADINGS[] = "<h1>a<b>b</b></h1><h2>c</p>&x;<a =";
 static const char DECLARED[] = "<p a=b><meta http-equiv=content-type content='text/html; charset=koi8-r'>\xf7";
 /* The element b of the page. */
 #define BOLD 9u
@@ -144,6 +147,21 @@ static uint32_t clean(struct given *given)
     return hengaruto_clean(bytes_of(PAGE), sizeof PAGE - 1, &given->bytes, &given->length);
 }
 
+static uint32_t clean_by(struct given *given)
+{
+    return hengaruto_clean_by(bytes_of(PAGE), sizeof PAGE - 1, bytes_of(POLICY), sizeof POLICY - 1, &given->bytes, &given->length);
+}
+
+static uint32_t bad_policy(struct given *given)
+{
+    return hengaruto_clean_by(bytes_of(PAGE), sizeof PAGE - 1, bytes_of(NO_POLICY), sizeof NO_POLICY - 1, &given->bytes, &given->length);
+}
+
+static uint32_t no_toml(struct given *given)
+{
+    return hengaruto_clean_by(bytes_of(PAGE), sizeof PAGE - 1, bytes_of(NO_TOML), sizeof NO_TOML - 1, &given->bytes, &given->length);
+}
+
 static uint32_t encoding(struct given *given)
 {
     return hengaruto_encoding(bytes_of(DECLARED), sizeof DECLARED - 1, bytes_of(""), 0, &given->bytes, &given->length);
@@ -152,6 +170,26 @@ static uint32_t encoding(struct given *given)
 static uint32_t decode(struct given *given)
 {
     return hengaruto_decode(bytes_of(DECLARED), sizeof DECLARED - 1, bytes_of("koi8-r"), 6, &given->bytes, &given->length);
+}
+
+static uint32_t page_meta(struct given *given)
+{
+    return hengaruto_page_meta(bytes_of(PAGE), sizeof PAGE - 1, &given->bytes, &given->length);
+}
+
+static uint32_t page_outline(struct given *given)
+{
+    return hengaruto_page_outline(bytes_of(HEADINGS), sizeof HEADINGS - 1, &given->bytes, &given->length);
+}
+
+static uint32_t errors(struct given *given)
+{
+    return hengaruto_errors(bytes_of(HEADINGS), sizeof HEADINGS - 1, &given->bytes, &given->length);
+}
+
+static uint32_t parse_bytes(struct given *given)
+{
+    return hengaruto_parse_bytes(bytes_of(DECLARED), sizeof DECLARED - 1, bytes_of(""), 0, 0, &given->bytes, &given->length);
 }
 
 /* Makes the first request of a call fail, then the second, and so on until none fails. Returns the number of requests. */
@@ -190,6 +228,7 @@ int main(void)
         {"parse", parse, HENGARUTO_OK},
         {"encoding", encoding, HENGARUTO_OK},
         {"decode", decode, HENGARUTO_OK},
+        {"parse_bytes", parse_bytes, HENGARUTO_OK},
         {"parse_fragment", parse_fragment, HENGARUTO_OK},
         {"html", html, HENGARUTO_OK},
         {"select", selects, HENGARUTO_OK},
@@ -203,7 +242,13 @@ int main(void)
         {"page_text", page_text, HENGARUTO_OK},
         {"page_text, of a width", page_text_of_a_width, HENGARUTO_OK},
         {"page_links", page_links, HENGARUTO_OK},
+        {"page_meta", page_meta, HENGARUTO_OK},
+        {"page_outline", page_outline, HENGARUTO_OK},
+        {"errors", errors, HENGARUTO_OK},
         {"clean", clean, HENGARUTO_OK},
+        {"clean_by", clean_by, HENGARUTO_OK},
+        {"clean_by, of a wrong policy", bad_policy, HENGARUTO_BAD_POLICY},
+        {"clean_by, of no TOML", no_toml, HENGARUTO_BAD_POLICY},
     };
 
     REQUIRE(parse(&tree) == HENGARUTO_OK);

@@ -2,6 +2,8 @@
  * tried. A call may return any status. */
 #include "testing.h"
 
+static const char POLICY[] = "elements = ['div', 'b', 'p', 'a']\nattributes = ['title', 'data-*']";
+
 static unsigned char *contents_of(const char *name, size_t *length)
 {
     FILE *file = fopen(name, "rb");
@@ -16,7 +18,7 @@ static unsigned char *contents_of(const char *name, size_t *length)
 /* Frees the result of a call, if it has one. */
 static void drop(uint32_t status, unsigned char **bytes)
 {
-    if (status == HENGARUTO_OK || status == HENGARUTO_BAD_SELECTOR) {
+    if (status == HENGARUTO_OK || status == HENGARUTO_BAD_SELECTOR || status == HENGARUTO_BAD_POLICY) {
         free(*bytes);
     }
     *bytes = NULL;
@@ -30,9 +32,16 @@ static void whole_pages(const unsigned char *page, size_t length)
     drop(hengaruto_page_text(page, length, 0, &bytes, &count), &bytes);
     drop(hengaruto_page_text(page, length, 40, &bytes, &count), &bytes);
     drop(hengaruto_page_links(page, length, &bytes, &count), &bytes);
+    drop(hengaruto_page_meta(page, length, &bytes, &count), &bytes);
+    drop(hengaruto_page_outline(page, length, &bytes, &count), &bytes);
+    drop(hengaruto_errors(page, length, &bytes, &count), &bytes);
     drop(hengaruto_clean(page, length, &bytes, &count), &bytes);
+    drop(hengaruto_clean_by(page, length, bytes_of(POLICY), sizeof POLICY - 1, &bytes, &count), &bytes);
+    drop(hengaruto_clean_by(page, length, page, length, &bytes, &count), &bytes);
     drop(hengaruto_encoding(page, length, bytes_of("gbk"), 3, &bytes, &count), &bytes);
     drop(hengaruto_decode(page, length, bytes_of("gbk"), 3, &bytes, &count), &bytes);
+    drop(hengaruto_parse_bytes(page, length, bytes_of("gbk"), 3, 0, &bytes, &count), &bytes);
+    drop(hengaruto_parse_bytes(page, length, bytes_of(""), 0, 0, &bytes, &count), &bytes);
     drop(hengaruto_parse_fragment(page, length, bytes_of("div"), 3, HENGARUTO_NS_HTML, 0, &bytes, &count), &bytes);
 }
 
@@ -67,6 +76,7 @@ static void reads_of(struct given tree, uint32_t node)
     hengaruto_name_text(tree.bytes, tree.length, name, &at, &count);
     hengaruto_attribute_count(tree.bytes, tree.length, node);
     hengaruto_attribute_at(tree.bytes, tree.length, node, 0, &row, &at, &count);
+    hengaruto_attribute(tree.bytes, tree.length, node, bytes_of("id"), 2, &at, &count);
 }
 
 static void trees(struct given tree)

@@ -1,5 +1,5 @@
 #!/usr/bin/env python3
-"""Compares the time of selecting with that of lxml, parsel and BeautifulSoup.
+"""Compares the time of selecting with that of lxml, parsel, BeautifulSoup and cascadia.
 
     selecting.py [ROUNDS]    by default 15 rounds
 
@@ -8,10 +8,13 @@ First ten selectors on pages of 2 kB, 20 kB and 1.5 MB: each by a call, and all 
 lxml's by `CSSSelector`, soupsieve's for BeautifulSoup by `compile`; parsel keeps those that it saw. Each figure is the median of all rounds,
 in microseconds of processor time; a round that takes more than ten seconds is the last. A * follows it if the library finds another number
 of elements: lxml and parsel use libxml2, whose trees differ. The libraries are Debian's packages python3-lxml, python3-cssselect,
-python3-parsel and python3-bs4; those that are missing are left out.
+python3-parsel, python3-bs4, golang-go and golang-github-andybalholm-cascadia-dev; those that are missing are left out.
 """
+import os
 import statistics
+import subprocess
 import sys
+import tempfile
 import time
 
 from beside_lxml import made
@@ -82,6 +85,27 @@ def libraries():
             print(f"{made_by.name} is left out: {error}")
 
 
+def cascadia(room):
+    """A program that measures Go's cascadia, built in a folder; None if it can't be built."""
+    program = f"{room}/cascadia"
+    source = f"{os.path.dirname(os.path.abspath(__file__))}/cascadia.go"
+    environment = {**os.environ, "GO111MODULE": "off", "GOPATH": "/usr/share/gocode", "GOCACHE": f"{room}/cache"}
+    try:
+        subprocess.run(["go", "build", "-o", program, source], env=environment, check=True)
+    except (OSError, subprocess.CalledProcessError) as error:
+        print(f"cascadia is left out: {error}")
+        return None
+    return program
+
+
+def cells_of(program, page, *words):
+    """What that program prints of a page: pairs of a time and a count."""
+    if program is None:
+        return []
+    printed = subprocess.run([program, *words], input=page, stdout=subprocess.PIPE, check=True).stdout.decode()
+    return [(float(us), int(count)) for us, count in map(str.split, printed.splitlines())]
+
+
 def median_of(call, rounds):
     """The median time of a call in microseconds, and its result."""
     times, begun = [], time.monotonic()
@@ -100,8 +124,9 @@ def line(what, cells):
     print(f"{what:28}" + "".join(f"{'' if us is None else f'{us:,.0f}':>12}{' ' if count in (first, None) else '*'}" for us, count in cells))
 
 
-def head(what, used):
-    print(f"\n{what:28}" + "".join(f"{library.name:>12} " for library in used))
+def head(what, used, program):
+    names = [library.name for library in used] + ["cascadia"] * (program is not None)
+    print(f"\n{what:28}" + "".join(f"{name:>12} " for name in names))
 
 
 def cell(call, rounds):
@@ -116,13 +141,15 @@ def count_of(library, tree, selector):
     return lambda: len(library.select(tree, selector))
 
 
-def page_table(used, size, rounds):
+def page_table(used, program, size, rounds):
     page = made(size)
     trees = [library.parse(page) for library in used]
-    head(f"a page of {len(page):,} bytes", used)
-    sums = [0.0] * len(used)
-    for selector in SELECTORS:
+    head(f"a page of {len(page):,} bytes", used, program)
+    others = cells_of(program, page, str(rounds), *SELECTORS)
+    sums = [0.0] * (len(used) + (program is not None))
+    for number, selector in enumerate(SELECTORS):
         cells = [cell(count_of(library, tree, library.compile(selector)), rounds) for library, tree in zip(used, trees)]
+        cells += others[number : number + 1]
         sums = [total + (us or 0) for total, (us, _) in zip(sums, cells)]
         line(selector, cells)
     line("all ten", [(total, None) for total in sums])
@@ -133,19 +160,22 @@ def rows_of(library, tree, row, data):
     return lambda: sum(len(library.select(it, data)) for it in library.select(tree, row))
 
 
-def loop_table(used, rounds):
-    head("the loop", used)
+def loop_table(used, program, rounds):
+    head("the loop", used, program)
     for count in ROWS:
         page = ("<table>" + "".join(f"<tr><td>{i}<td>two<td>three<td>four" for i in range(count)) + "</table>").encode()
-        line(f"{count:,} rows", [cell(rows_of(it, it.parse(page), it.compile("tr"), it.compile("td")), rounds) for it in used])
+        cells = [cell(rows_of(it, it.parse(page), it.compile("tr"), it.compile("td")), rounds) for it in used]
+        line(f"{count:,} rows", cells + cells_of(program, page, "--loop", str(rounds)))
 
 
 def main(words):
     rounds = int(words[0]) if words else 15
     used = list(libraries())
-    for size in SIZES:
-        page_table(used, size, rounds)
-    loop_table(used, rounds)
+    with tempfile.TemporaryDirectory() as room:
+        program = cascadia(room)
+        for size in SIZES:
+            page_table(used, program, size, rounds)
+        loop_table(used, program, rounds)
 
 
 if __name__ == "__main__":

@@ -11,15 +11,19 @@
 >>> hengaruto.clean("<b onclick=x>bold</b><script>y</script>")
 '<b>bold</b>'
 
-`parse`, `parse_fragment` and `Parser` return a `Document`, whose nodes are `Node`s. `text`, `links` and `clean` process a whole page at
-once. `decode` detects the encoding of a page and decodes it. `hengaruto.trees` makes trees of lxml, ElementTree and BeautifulSoup.
+`parse`, `parse_fragment` and `Parser` return a `Document`, whose nodes are `Node`s. `text`, `links`, `errors`, `meta`, `outline` and
+`clean` process a whole page at once. `decode` detects the encoding of a page and decodes it. `hengaruto.trees` makes trees of lxml,
+ElementTree and BeautifulSoup.
 
-Scripting is off by default: the content of `noscript` is parsed into elements. Pages that are bytes are taken as UTF-8.
+Scripting is off by default: the content of `noscript` is parsed into elements. A page that is bytes is decoded from the encoding that it
+declares, or else from UTF-8; a fragment is UTF-8.
 """
+from ._clean import ALLOWED_ATTRIBUTES, ALLOWED_CLASSES, ALLOWED_TAGS, ALLOWED_URL_SCHEMES, clean
 from ._encoding import decode
-from ._input import Source
-from ._library import Error, SelectorError
-from ._pages import Parser, clean, links, text
+from ._input import Input, Source
+from ._library import Error, PolicyError, SelectorError
+from ._listings import Heading, PageError, errors, meta, outline
+from ._pages import Parser, links, text
 from ._search import NameTest, Test
 from ._selectors import Selector, SelectorText
 from ._tree import (
@@ -33,6 +37,8 @@ from ._tree import (
     TEXT,
     Document,
     Node,
+    NodeKind,
+    Quirks,
     load,
     parse,
     parse_fragment,
@@ -41,7 +47,8 @@ from ._tree import (
 __version__ = "0.3.0"
 
 __all__ = [
-    "parse", "parse_fragment", "load", "Document", "Node", "Parser", "Source", "text", "links", "clean", "decode", "Error", "SelectorError",
-    "NameTest", "Test", "Selector", "SelectorText",
+    "parse", "parse_fragment", "load", "Document", "Node", "NodeKind", "Quirks", "Parser", "Input", "Source", "text", "links", "clean", "decode", "errors",
+    "meta", "outline", "Error", "SelectorError", "PolicyError", "PageError", "Heading", "NameTest", "Test", "Selector", "SelectorText",
+    "ALLOWED_TAGS", "ALLOWED_ATTRIBUTES", "ALLOWED_CLASSES", "ALLOWED_URL_SCHEMES",
     "ELEMENT", "TEXT", "PROCESSING_INSTRUCTION", "COMMENT", "DOCUMENT", "DOCTYPE", "FRAGMENT", "NAMESPACES",
 ]

@@ -1,10 +1,10 @@
 """Detects the encoding of a page, as the HTML standard defines it, and decodes the page."""
 from __future__ import annotations
 
-from typing import Optional, Tuple
+from typing import Optional, Tuple, Union
 
-from ._input import as_text, octets
-from ._library import given
+from ._input import Input, as_text, content, octets, utf8
+from ._library import Error, given
 
 # A byte order mark in one of these isn't part of the text.
 _MARKED = ("UTF-8", "UTF-16LE", "UTF-16BE")
@@ -46,3 +46,28 @@ def said(page: bytes, encoding: Optional[str] = None) -> str:
     """
     label = b"" if encoding is None else as_text(encoding, "an encoding").encode("utf-8", "replace")
     return given("encoding", page, len(page), label, len(label)).decode("ascii")
+
+
+def declared(page: Union[str, bytes], encoding: Optional[str]) -> Optional[str]:
+    """Returns the name of the encoding in which a page is parsed: as `said`, or UTF-8 if nothing declares it. None for a str, which has no
+    encoding. An unknown `encoding` raises an `Error`.
+
+    >>> declared(b"<meta charset=latin1>", None), declared(b"<p>", None), declared("<p>", None)
+    ('windows-1252', 'UTF-8', None)
+    """
+    if isinstance(page, str):
+        if encoding is not None:
+            raise TypeError("a str has no encoding: pass the bytes of the page, or no encoding")
+        return None
+    if encoding and not said(b"", encoding):
+        raise Error(f"unknown encoding: {encoding!r}")
+    return said(page, encoding) or "UTF-8"
+
+
+def page_in_utf8(page: Input, encoding: Optional[str] = None) -> bytes:
+    """Returns the text of a page in UTF-8. Bytes are decoded from the encoding that `declared` returns; those in UTF-8 stay unchanged."""
+    source = content(page)
+    name = declared(source, encoding)
+    if isinstance(source, str) or name == "UTF-8" or name is None:
+        return utf8(source)
+    return given("decode", source, len(source), name.encode("ascii"), len(name))

@@ -56,8 +56,8 @@ def _values(control: Node) -> List[str]:
     if kind in _BUTTONS or kind == "file":
         return []
     if kind in ("checkbox", "radio"):
-        return [control.get("value", "on") or ""] if "checked" in control else []
-    return [control.get("value", "") or ""]
+        return [control.get("value", "on")] if "checked" in control else []
+    return [control.get("value", "")]
 
 
 def _chosen(select: Node) -> List[str]:

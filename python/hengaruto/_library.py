@@ -5,12 +5,13 @@ import ctypes
 import os
 from typing import Any
 
-OK, MEMORY, NO_NODE, NO_TREE, BAD_ARGUMENT, BAD_SELECTOR = range(6)
+OK, MEMORY, NO_NODE, NO_TREE, BAD_ARGUMENT, BAD_SELECTOR, BAD_POLICY = range(7)
 
 _U32, _SIZE, _BYTES = ctypes.c_uint32, ctypes.c_size_t, ctypes.c_char_p
 _OUT, _LENGTH, _NUMBER = ctypes.POINTER(ctypes.c_void_p), ctypes.POINTER(ctypes.c_size_t), ctypes.POINTER(ctypes.c_uint32)
 _SIGNATURES = {
     "parse": [_BYTES, _SIZE, _U32, _OUT, _LENGTH],
+    "parse_bytes": [_BYTES, _SIZE, _BYTES, _SIZE, _U32, _OUT, _LENGTH],
     "parse_fragment": [_BYTES, _SIZE, _BYTES, _SIZE, _U32, _U32, _OUT, _LENGTH],
     "encoding": [_BYTES, _SIZE, _BYTES, _SIZE, _OUT, _LENGTH],
     "decode": [_BYTES, _SIZE, _BYTES, _SIZE, _OUT, _LENGTH],
@@ -23,7 +24,11 @@ _SIGNATURES = {
     "check_selector": [_BYTES, _SIZE, _OUT, _LENGTH],
     "page_text": [_BYTES, _SIZE, _SIZE, _OUT, _LENGTH],
     "page_links": [_BYTES, _SIZE, _OUT, _LENGTH],
+    "page_meta": [_BYTES, _SIZE, _OUT, _LENGTH],
+    "page_outline": [_BYTES, _SIZE, _OUT, _LENGTH],
+    "errors": [_BYTES, _SIZE, _OUT, _LENGTH],
     "clean": [_BYTES, _SIZE, _OUT, _LENGTH],
+    "clean_by": [_BYTES, _SIZE, _BYTES, _SIZE, _OUT, _LENGTH],
     "check": [_BYTES, _SIZE],
 }
 
@@ -36,8 +41,15 @@ class SelectorError(Error):
     """An invalid selector. The message says what is wrong, and at which character offset."""
 
 
+class PolicyError(Error):
+    """An invalid policy. The message says what is wrong, and on which line of a policy's text if that is known."""
+
+
 # They are shown and pickled with the names that callers know.
-Error.__module__ = SelectorError.__module__ = "hengaruto"
+Error.__module__ = SelectorError.__module__ = PolicyError.__module__ = "hengaruto"
+
+# The statuses that return a message.
+_WITH_MESSAGE = {BAD_SELECTOR: SelectorError, BAD_POLICY: PolicyError}
 
 _MESSAGES = {
     NO_NODE: "no such node",
@@ -67,10 +79,7 @@ def given(name: str, *arguments: Any) -> bytes:
     """Returns the result of a call, and frees the memory of the library."""
     out, length = ctypes.c_void_p(), ctypes.c_size_t()
     status = getattr(_library, "hengaruto_" + name)(*arguments, ctypes.byref(out), ctypes.byref(length))
-    if status == BAD_SELECTOR:
-        raise SelectorError(_taken(out, length).decode("utf-8", "replace"))
-    if status != OK:
-        raise _error_of(status)
+    _raise_if_refused(status, out, length)
     return _taken(out, length)
 
 
@@ -90,8 +99,13 @@ def check_selector(selector: bytes) -> None:
     """Raises a `SelectorError` if a text in UTF-8 isn't a selector."""
     out, length = ctypes.c_void_p(), ctypes.c_size_t()
     status = _library.hengaruto_check_selector(selector, len(selector), ctypes.byref(out), ctypes.byref(length))
-    if status == BAD_SELECTOR:
-        raise SelectorError(_taken(out, length).decode("utf-8", "replace"))
+    _raise_if_refused(status, out, length)
+
+
+def _raise_if_refused(status: int, out: ctypes.c_void_p, length: ctypes.c_size_t) -> None:
+    """Raises the error of a status, with its message if the call returned one."""
+    if status in _WITH_MESSAGE:
+        raise _WITH_MESSAGE[status](_taken(out, length).decode("utf-8", "replace"))
     if status != OK:
         raise _error_of(status)
 

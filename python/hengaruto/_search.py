@@ -7,7 +7,8 @@ if TYPE_CHECKING:
     from ._tree import Node
 
 _One = Union[None, bool, str, Pattern[str]]
-Test = Union[_One, Iterable[_One], Callable[[Optional[str]], object]]
+_OneTest = Union[_One, Callable[[Optional[str]], object]]
+Test = Union[_OneTest, Iterable[_OneTest]]
 """A test of a value: a str that it is; a compiled pattern that is found in it; a list of tests, one of which it fits; a function that returns
 something true for it; True if there is a value, and False or None if there is none."""
 NameTest = Union[_One, Iterable[_One], Callable[["Node"], object]]

@@ -2,19 +2,46 @@
 from __future__ import annotations
 
 import operator
+import struct
 from bisect import bisect_left, bisect_right
+from enum import IntEnum
 from itertools import islice
-from typing import Any, Dict, Iterable, Iterator, List, Mapping, Optional, Sequence, Set, Tuple, TypeVar, Union, overload
-from urllib.parse import urljoin
+from typing import Any, Dict, Iterable, Iterator, List, Mapping, Optional, Sequence, Set, Tuple, TypeVar, Union, cast, overload
 
 from . import _library
+from ._encoding import declared
 from ._forms import fields_of
-from ._input import Source, as_text, octets, utf8
+from ._input import Input, Source, as_text, content, octets, utf8
 from ._search import NameTest, Test, Wanted
 from ._selectors import Selector, SelectorText, octets_of
 from ._tables import rows_of
 
-ELEMENT, TEXT, PROCESSING_INSTRUCTION, COMMENT, DOCUMENT, DOCTYPE, FRAGMENT = 1, 3, 7, 8, 9, 10, 11
+
+
+class NodeKind(IntEnum):
+    """The kind of a node. The numbers are those of the DOM's nodeType."""
+
+    ELEMENT = 1
+    TEXT = 3
+    PROCESSING_INSTRUCTION = 7
+    COMMENT = 8
+    DOCUMENT = 9
+    DOCTYPE = 10
+    FRAGMENT = 11
+
+
+class Quirks(IntEnum):
+    """The quirks mode of a document (DOM standard, section 4.5)."""
+
+    NO_QUIRKS = 0
+    LIMITED_QUIRKS = 1
+    QUIRKS = 2
+
+
+# They are shown and pickled with the names that callers know.
+NodeKind.__module__ = Quirks.__module__ = "hengaruto"
+ELEMENT, TEXT, PROCESSING_INSTRUCTION = NodeKind.ELEMENT, NodeKind.TEXT, NodeKind.PROCESSING_INSTRUCTION
+COMMENT, DOCUMENT, DOCTYPE, FRAGMENT = NodeKind.COMMENT, NodeKind.DOCUMENT, NodeKind.DOCTYPE, NodeKind.FRAGMENT
 NONE = 0xFFFFFFFF
 
 NAMESPACES: Tuple[Optional[str], ...] = (
@@ -36,7 +63,14 @@ _KINDS = {
     FRAGMENT: "fragment",
 }
 _CONTEXTS = {"": 1, "math": 2, "svg": 3}
-_HEAD = 9
+# The words before the columns: the mark "HGT1", the length, the mode, and six counts.
+_HEAD = struct.Struct("=4s8I")
+_MARK = b"HGT1"
+_KIND_OF = {int(kind): kind for kind in NodeKind}
+# What a document reads from its block at the first use of any of them.
+_COLUMNS = frozenset((
+    "_kinds", "_parents", "_ends", "_texts", "_rows", "_row_names", "_row_ends", "_spaces", "_locals", "_keys", "_values_at", "_texts_at",
+))
 # The number of selectors whose elements a document keeps, at most.
 _MOST_SELECTORS = 64
 _K = TypeVar("_K")
@@ -44,12 +78,15 @@ _T = TypeVar("_T")
 _D = TypeVar("_D")
 
 
-def parse(page: Source, *, scripting: bool = False, iframe_srcdoc: bool = False) -> Document:
-    """Parses a page into the tree that browsers build.
+def parse(page: Input, *, encoding: Optional[str] = None, scripting: bool = False, iframe_srcdoc: bool = False) -> Document:
+    """Parses a page into the tree that browsers build. The page is a text or bytes, the path of a file (a `pathlib.Path`), or an open file.
 
-    Bytes are taken as UTF-8. Decode bytes in another encoding first: `parse(decode(page))`. Scripting is off by default, as in html5lib and
-    lxml: the content of `noscript` is parsed into elements. With `scripting=True` it is text, as in a browser that runs scripts. With
-    `iframe_srcdoc=True` the page is the srcdoc of an iframe.
+    Bytes are decoded as the program decodes them: from the encoding of their byte order mark; or else from `encoding`, which is that of the
+    HTTP header; or else from the one that the first 1,024 bytes declare; or else from UTF-8. `Document.encoding` has its name. An unknown
+    `encoding` raises an `Error`, and one for a text a `TypeError`.
+
+    Scripting is off by default, as in html5lib and lxml: the content of `noscript` is parsed into elements. With `scripting=True` it is
+    text, as in a browser that runs scripts. With `iframe_srcdoc=True` the page is the srcdoc of an iframe.
 
     >>> parse("<title>A page</title><p>One <b>bold</b> word").to_html()
     '<html><head><title>A page</title></head><body><p>One <b>bold</b> word</p></body></html>'
@@ -57,9 +94,17 @@ def parse(page: Source, *, scripting: bool = False, iframe_srcdoc: bool = False)
     'x'
     >>> parse("<noscript><p>x</p></noscript>", scripting=True).find("p") is None
     True
+    >>> doc = parse(b"<meta charset=latin1><p>caf\\xe9")
+    >>> doc.find("p").text(), doc.encoding
+    ('café', 'windows-1252')
     """
-    page = utf8(page)
-    return Document(_library.given("parse", page, len(page), _options(scripting, iframe_srcdoc)))
+    source, options = content(page), _options(scripting, iframe_srcdoc)
+    name = declared(source, encoding)
+    if isinstance(source, str):
+        source = utf8(source)
+        return Document(_library.given("parse", source, len(source), options))
+    label = (encoding or "").encode("utf-8")
+    return Document(_library.given("parse_bytes", source, len(source), label, len(label), options), name)
 
 
 def parse_fragment(page: Source, context: str = "div", *, scripting: bool = False) -> Document:
@@ -102,6 +147,13 @@ def load(block: Union[bytes, bytearray, memoryview]) -> Document:
     return Document(block)
 
 
+def _restored(block: bytes, encoding: Optional[str]) -> Document:
+    """Returns a document that was pickled."""
+    document = load(block)
+    document.encoding = encoding
+    return document
+
+
 def _options(scripting: bool, iframe_srcdoc: bool) -> int:
     return (1 if scripting else 0) | (2 if iframe_srcdoc else 0)
 
@@ -112,51 +164,66 @@ class Document:
     >>> doc = parse("<!DOCTYPE html><title> A  page </title><p class=x>One<p>Two")
     >>> doc
     <hengaruto.Document of 11 nodes>
-    >>> doc.title, doc.quirks, len(doc)
-    ('A page', 0, 11)
+    >>> doc.title, doc.quirks.name, len(doc)
+    ('A page', 'NO_QUIRKS', 11)
     >>> [node.name for node in doc.iter()]
     ['html', 'head', 'title', 'body', 'p', 'p']
     """
 
     __slots__ = (
-        "block", "quirks", "scripting", "_count", "_kinds", "_parents", "_ends", "_texts", "_rows", "_row_names", "_row_ends", "_spaces",
-        "_locals", "_keys", "_values_at", "_texts_at", "_words", "_asked", "_known",
+        "block", "quirks", "scripting", "encoding", "_count", "_kinds", "_parents", "_ends", "_texts", "_rows", "_row_names", "_row_ends",
+        "_spaces", "_locals", "_keys", "_values_at", "_texts_at", "_words", "_asked", "_known",
     )
 
     block: bytes
     """The tree as bytes. `load` makes a Document of them again."""
-    quirks: int
-    """0 no quirks, 1 limited quirks, 2 quirks."""
+    quirks: Quirks
+    """The quirks mode of the page."""
     scripting: bool
     """True if the page was parsed with `scripting=True`. The HTML of a `noscript` depends on it."""
+    encoding: Optional[str]
+    """The name of the encoding from which `parse` decoded the page, as the Encoding Standard writes it. None if the page was a text, or if
+    the document is a fragment or comes from `load`."""
 
-    def __init__(self, block: bytes) -> None:
-        view = memoryview(block)
-        words = view[: len(block) // 4 * 4].cast("I")
-        if len(words) < _HEAD or view[:4] != b"HGT1":
+    def __init__(self, block: bytes, encoding: Optional[str] = None) -> None:
+        if len(block) < _HEAD.size or block[:4] != _MARK:
             raise _library.Error("not a tree: invalid block")
+        _, length, mode, nodes, rows, names, *pools = _HEAD.unpack_from(block)
+        if length != len(block) or _HEAD.size + 4 * (5 * nodes + 2 + 2 * rows + 2 * names) + sum(pools) != length:
+            raise _library.Error("not a tree: invalid block")
+        self.block, self.scripting, self.encoding = block, mode // 4 % 2 == 1, encoding
+        self._count: int = nodes
+        self.quirks = Quirks(mode % 4 % 3)
+        self._words: Optional[Dict[str, List[int]]] = None
+        self._asked: Set[bytes] = set()
+        self._known: Dict[bytes, Optional[memoryview]] = {}
+
+    def __getattr__(self, name: str) -> Any:
+        # Many pages are parsed and only written again, or only selected in, so the columns are read when one is first used.
+        if name not in _COLUMNS:
+            raise AttributeError(f"{type(self).__name__!r} object has no attribute {name!r}")
+        self._read_columns()
+        return getattr(self, name)
+
+    def _read_columns(self) -> None:
+        view = memoryview(self.block)
+        words = view[: len(view) // 4 * 4].cast("I")
         nodes, rows, names = words[3], words[4], words[5]
-        pools = 4 * (_HEAD + 5 * nodes + 2 + 2 * rows + 2 * names)
-        if words[1] != len(block) or pools + words[6] + words[7] + words[8] != len(block):
-            raise _library.Error("not a tree: invalid block")
-        self.block, self.quirks, self.scripting, self._count = block, words[2] % 4, words[2] // 4 % 2 == 1, nodes
-        parts, at = [], _HEAD
+        parts, at = [], _HEAD.size // 4
         for count in (nodes, nodes, nodes, nodes + 1, nodes + 1, rows, rows, names, names):
             parts.append(words[at : at + count])
             at += count
         self._kinds, self._parents, self._ends, self._texts, self._rows, self._row_names, self._row_ends, spaces, name_ends = parts
+        pools = 4 * at
         self._values_at = pools + words[6]
         self._texts_at = self._values_at + words[7]
         starts = [pools, *(pools + end for end in name_ends)]
         self._spaces = [space & 255 for space in spaces]
         self._locals = [str(view[starts[i] : starts[i + 1]], "utf-8", "replace") for i in range(names)]
         self._keys = [_item(_PREFIXES, space >> 8, "") + local for space, local in zip(spaces, self._locals)]
-        self._words: Optional[Dict[str, List[int]]] = None
-        self._asked: Set[bytes] = set()
-        self._known: Dict[bytes, Optional[memoryview]] = {}
 
     def __reduce__(self) -> Tuple[Any, ...]:
-        return load, (self.block,)
+        return _restored, (self.block, self.encoding)
 
     def _matching(self, text: bytes) -> Optional[memoryview]:
         """The numbers of all elements of the document that a selector matches, from its second use on. None at its first use, or if the
@@ -194,6 +261,10 @@ class Document:
         if not 0 <= number < self._count:
             raise IndexError(f"no node {number}")
         return Node(self, number)
+
+    def __iter__(self) -> Iterator[Node]:
+        """All nodes, of all kinds, in tree order."""
+        return (Node(self, number) for number in range(self._count))
 
     @property
     def node(self) -> Node:
@@ -382,9 +453,10 @@ class Node:
         return f"<hengaruto.Node {name} {self.index}>"
 
     @property
-    def kind(self) -> int:
-        """`ELEMENT`, `TEXT`, `COMMENT`, `DOCTYPE`, `DOCUMENT`, `FRAGMENT` or `PROCESSING_INSTRUCTION`: the nodeType of the DOM."""
-        return self.document._kinds[self.index] & 255
+    def kind(self) -> NodeKind:
+        """The kind, which is a number, too: `node.kind == hengaruto.TEXT` is the same as `node.kind == 3`."""
+        number = self.document._kinds[self.index] & 255
+        return cast(NodeKind, _KIND_OF.get(number, number))
 
     @property
     def name(self) -> Optional[str]:
@@ -414,6 +486,12 @@ class Node:
             return {}
         keys, names = document._keys, document._row_names
         return {_item(keys, names[row], ""): document._value(row) for row in self._row_range()}
+
+    @overload
+    def get(self, name: str, default: str) -> str: ...
+
+    @overload
+    def get(self, name: str, default: Optional[str] = None) -> Optional[str]: ...
 
     def get(self, name: str, default: Optional[str] = None) -> Optional[str]:
         """The value of an attribute, or `default` if the node doesn't have it."""
@@ -726,8 +804,8 @@ class Node:
         return [node.data or "" for node in self.descendants() if node.kind == COMMENT]
 
     def rows(self) -> List[List[str]]:
-        """The rows of a table, each with the texts of its cells, words separated by one space. A cell that spans rows or columns stands in each of them. Raises
-        TypeError if this isn't a table.
+        """The rows of a table, each with the texts of its cells, words separated by one space. A cell that spans rows or columns stands in
+        each of them. Raises TypeError if this isn't a table.
 
         >>> parse("<table><tr><th rowspan=2>Tea<td>4.00<tr><td>5.00").find("table").rows()
         [['Tea', '4.00'], ['Tea', '5.00']]
@@ -735,8 +813,8 @@ class Node:
         return rows_of(self._named("table", "rows"))
 
     def fields(self) -> List[Tuple[str, str]]:
-        """What a form sends if no button is pressed: the names and values of its controls, in tree order. Files aren't sent. Raises TypeError
-        if this isn't a form.
+        """What a form sends if no button is pressed: the names and values of its controls, in tree order. Files aren't sent. Raises
+        TypeError if this isn't a form.
 
         >>> parse("<form><input name=q value=tea><input type=checkbox name=all checked><button name=b></form>").find("form").fields()
         [('q', 'tea'), ('all', 'on')]
@@ -797,6 +875,9 @@ class Node:
 
 def _joined(base: str, href: str) -> str:
     """The absolute URL of a link; the link unchanged if it can't be resolved."""
+    # This module takes a sixth of the time in which the package would be imported.
+    from urllib.parse import urljoin
+
     href = href.strip(" \t\n\f\r")
     try:
         return urljoin(base, href)

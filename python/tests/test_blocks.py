@@ -1,18 +1,22 @@
 """Blocks: stored, sent, shared by threads, truncated and changed."""
+from __future__ import annotations
+
 import copy
 import multiprocessing
 import pickle
 import random
 import threading
+from typing import Callable, List, Optional, Tuple
 
 import pytest
 
 import hengaruto
+from hengaruto import Document
 
 PAGE = '<!DOCTYPE html><title>A</title><p class=a id=b>One <b>bold</b> word<!--c--><svg xlink:href=x><a/></svg><template><i>é😀'
 
 
-def test_blocks_are_documents():
+def test_blocks_are_documents() -> None:
     doc = hengaruto.parse(PAGE)
     assert isinstance(doc.block, bytes)
     for block in (doc.block, bytearray(doc.block), memoryview(doc.block)):
@@ -20,41 +24,42 @@ def test_blocks_are_documents():
 
 
 @pytest.mark.parametrize("protocol", range(pickle.HIGHEST_PROTOCOL + 1))
-def test_documents_are_pickled(protocol):
+def test_documents_are_pickled(protocol: int) -> None:
     doc = hengaruto.parse(PAGE)
     assert pickle.loads(pickle.dumps(doc, protocol)).block == doc.block
 
 
-def test_nodes_are_pickled_with_their_document():
+def test_nodes_are_pickled_with_their_document() -> None:
     first, second = pickle.loads(pickle.dumps(hengaruto.parse(PAGE).find_all("p") * 2))
     assert first == second and first.text() == "One bold word" + "é😀"
     assert copy.deepcopy(first).text() == first.text()
 
 
-def test_pickles_that_were_changed():
+def test_pickles_that_were_changed() -> None:
     doc = hengaruto.parse(PAGE)
     data = pickle.dumps(doc).replace(b"HGT1", b"HGT2")
     with pytest.raises(hengaruto.Error):
         pickle.loads(data)
 
 
-def titles_of(documents):
+def titles_of(documents: List[Document]) -> List[Optional[str]]:
     return [doc.title for doc in documents]
 
 
-def test_documents_are_sent_to_processes():
+def test_documents_are_sent_to_processes() -> None:
     with multiprocessing.get_context("spawn").Pool(1) as pool:
         assert pool.apply(titles_of, ([hengaruto.parse(PAGE)],)) == ["A"]
 
 
 @pytest.mark.parametrize("block", [b"", b"HGT1", b"HGT1" + bytes(32), b"x" * 100])
-def test_no_blocks(block):
-    for make in (hengaruto.load, hengaruto.Document):
+def test_no_blocks(block: bytes) -> None:
+    calls: Tuple[Callable[[bytes], Document], ...] = (hengaruto.load, Document)
+    for make in calls:
         with pytest.raises(hengaruto.Error):
             make(block)
 
 
-def test_cut_blocks():
+def test_cut_blocks() -> None:
     block = hengaruto.parse(PAGE).block
     for length in range(len(block)):
         with pytest.raises(hengaruto.Error):
@@ -63,7 +68,7 @@ def test_cut_blocks():
         hengaruto.load(block + b"x")
 
 
-def read_all_of(doc):
+def read_all_of(doc: Document) -> None:
     """Calls every read of every node."""
     for node in [doc.node, *doc.node.descendants()]:
         repr(node), node.kind, node.name, node.namespace, node.attrs, node.data, node.public_id, node.get("id")
@@ -72,7 +77,7 @@ def read_all_of(doc):
     doc.select_all(["p b", "[id]"]), doc.node.closest("p"), [node.matches("p, :empty") for node in doc.node.descendants()]
 
 
-def test_changed_blocks():
+def test_changed_blocks() -> None:
     """A changed block is rejected, or all its reads return, and elements are selected in it."""
     block, rand = hengaruto.parse(PAGE).block, random.Random(1)
     loaded = 0
@@ -89,11 +94,12 @@ def test_changed_blocks():
     assert loaded > 20
 
 
-def test_threads():
+def test_threads() -> None:
     page = PAGE * 20
-    wanted, came, lock = hengaruto.parse(page), [], threading.Lock()
+    wanted, lock = hengaruto.parse(page), threading.Lock()
+    came: List[bool] = []
 
-    def work():
+    def work() -> None:
         for _ in range(10):
             doc = hengaruto.parse(page)
             same = doc.block == wanted.block and wanted.select("p b") and doc.to_html() == wanted.to_html() and wanted.find("p") is not None

@@ -1,15 +1,21 @@
 """Searching, texts, siblings, tables and forms, and a comparison with BeautifulSoup's answers."""
+from __future__ import annotations
+
 import re
+from typing import Any, Dict, List, Tuple
 
 import pytest
+from optional import the
 
 import hengaruto
+import hengaruto.trees
+from hengaruto import Document
 
 PAGE = """<!DOCTYPE html><title>Shop</title><h1 id=top class="big red">Tea</h1><!-- one --><ul class=list><li class="item big" data-n=1>Green
 <b>tea</b></li><li class=item data-n=2><a href=/black title="Black tea">Black</a></li><li><a>None</a></li></ul><p>4.00<br>5.00</p>
 <p class="">empty</p><svg><a href=s><title>pic</title></a></svg><template><p>hidden</p></template>"""
 # The arguments of a call of `find_all`, and those of BeautifulSoup's if they are others.
-CALLS = [
+CALLS: List[Tuple[Tuple[Any, ...], Dict[str, Any]]] = [
     (("li",), {}),
     ((), {}),
     ((True,), {}),
@@ -39,12 +45,12 @@ CALLS = [
 
 
 @pytest.fixture
-def doc():
+def doc() -> Document:
     return hengaruto.parse(PAGE)
 
 
 @pytest.mark.parametrize("call", CALLS, ids=str)
-def test_the_same_elements_as_beautifulsoup(call):
+def test_the_same_elements_as_beautifulsoup(call: Tuple[Tuple[Any, ...], Dict[str, Any]]) -> None:
     bs4 = pytest.importorskip("bs4")
     # Without the title in SVG and the template, whose contents are on a level of their own here.
     page = PAGE[: PAGE.index("<svg>")]
@@ -54,11 +60,11 @@ def test_the_same_elements_as_beautifulsoup(call):
     assert [(it.name, it.text()) for it in found] == [(it.name, it.get_text()) for it in bs4.BeautifulSoup(page, "hengaruto").find_all(*names, **tests)]
 
 
-def test_texts_are_found(doc):
+def test_texts_are_found(doc: Document) -> None:
     assert [node.data for node in doc.find_all(string=re.compile("ack"))] == ["Black"]
-    assert doc.find(string="tea").parent.name == "b"
-    assert doc.find("ul").find_all("li", recursive=False) == doc.select("ul > li")
-    assert doc.find("ul").find_all("a", recursive=False) == []
+    assert the(the(doc.find(string="tea")).parent).name == "b"
+    assert the(doc.find("ul")).find_all("li", recursive=False) == doc.select("ul > li")
+    assert the(doc.find("ul")).find_all("a", recursive=False) == []
 
 
 @pytest.mark.parametrize(
@@ -75,31 +81,31 @@ def test_texts_are_found(doc):
         (("a", 7), {}, "the test of 'class' must be a str"),
     ],
 )
-def test_what_is_no_test_is_refused(doc, names, tests, said):
+def test_what_is_no_test_is_refused(doc: Document, names: Tuple[Any, ...], tests: Dict[str, Any], said: str) -> None:
     with pytest.raises(TypeError, match=re.escape(said)):
         doc.find_all(*names, **tests)
 
 
-def test_selectors_by_their_other_names(doc):
+def test_selectors_by_their_other_names(doc: Document) -> None:
     assert doc.select_one("li") == doc.css_first("li") == doc.select_first("li") and doc.css("li") == doc.select("li")
-    item = doc.find("b")
+    item = the(doc.find("b"))
     assert item.matches("li > b") and not item.matches("p > b")
-    assert item.closest("li").get("data-n") == "1" and item.closest("b") == item and item.closest("table") is None
+    assert the(item.closest("li")).get("data-n") == "1" and item.closest("b") == item and item.closest("table") is None
 
 
-def test_siblings(doc):
+def test_siblings(doc: Document) -> None:
     first, last = doc.find_all("p")[:2]
-    assert first.next_element == last and last.previous_element == first and last.previous.kind == hengaruto.TEXT
-    assert [child.name for child in first.elements] == ["br"] and doc.find("h1").previous is None
+    assert first.next_element == last and last.previous_element == first and the(last.previous).kind == hengaruto.TEXT
+    assert [child.name for child in first.elements] == ["br"] and the(doc.find("h1")).previous is None
     assert doc.node.previous is None and doc.node.previous_element is None and doc.node.next_element is None
 
 
-def test_texts(doc):
-    assert doc.find("p").get_text(" ") == "4.00 5.00" and list(doc.find("p").strings) == ["4.00", "5.00"]
-    assert list(doc.find("li").stripped_strings) == ["Green", "tea"] and doc.find("li").get_text("|", strip=True) == "Green|tea"
+def test_texts(doc: Document) -> None:
+    assert the(doc.find("p")).get_text(" ") == "4.00 5.00" and list(the(doc.find("p")).strings) == ["4.00", "5.00"]
+    assert list(the(doc.find("li")).stripped_strings) == ["Green", "tea"] and the(doc.find("li")).get_text("|", strip=True) == "Green|tea"
     assert doc.comments() == [" one "] and doc.get_text(strip=True).startswith("Shop") and next(doc.stripped_strings) == "Shop"
-    assert doc.find("li").string is None and doc.find("b").string == "tea" and next(doc.strings) == "Shop"
-    text = doc.find("b").children().__next__()
+    assert the(doc.find("li")).string is None and the(doc.find("b")).string == "tea" and next(doc.strings) == "Shop"
+    text = the(doc.find("b")).children().__next__()
     assert list(text.strings) == ["tea"] and text.string == "tea"
 
 
@@ -120,8 +126,8 @@ def test_texts(doc):
         ("<thead><tr><th>h<tbody><tr><td><table><tr><td>in</table>", [["h"], ["in"]]),
     ],
 )
-def test_rows(table, rows):
-    assert hengaruto.parse(f"<table>{table}</table>").find("table").rows() == rows
+def test_rows(table: str, rows: List[List[str]]) -> None:
+    assert the(hengaruto.parse(f"<table>{table}</table>").find("table")).rows() == rows
 
 
 @pytest.mark.parametrize(
@@ -142,17 +148,17 @@ def test_rows(table, rows):
         ("<input name=a disabled><datalist><input name=b></datalist></form><input name=c form=f>", [("c", "")]),
     ],
 )
-def test_fields(form, fields):
-    assert hengaruto.parse(f"<form id=f>{form}").find("form").fields() == fields
+def test_fields(form: str, fields: List[Tuple[str, str]]) -> None:
+    assert the(hengaruto.parse(f"<form id=f>{form}").find("form")).fields() == fields
 
 
-def test_calls_of_other_elements(doc):
-    for call in (doc.find("p").rows, doc.find("p").fields, doc.node.rows):
+def test_calls_of_other_elements(doc: Document) -> None:
+    for call in (the(doc.find("p")).rows, the(doc.find("p")).fields, doc.node.rows):
         with pytest.raises(TypeError, match="is a call of a"):
             call()
 
 
-def test_absolute_links():
+def test_absolute_links() -> None:
     doc = hengaruto.parse("<base href='../b/'><a href=' x?q '>a\n b</a><a>no</a><a href='//[h'>c</a>")
     assert doc.base("https://e.org/a/p") == "https://e.org/b/"
     assert doc.absolute_links("https://e.org/a/p") == [("https://e.org/b/x?q", "a b"), ("//[h", "c")]

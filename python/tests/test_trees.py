@@ -1,11 +1,16 @@
 """Trees of other libraries, and a comparison with the trees that html5lib builds."""
+from __future__ import annotations
+
 import glob
 import os
 import random
+from typing import Any, List, Tuple
 
 import pytest
+from optional import the
 
 import hengaruto
+from hengaruto import Document
 from hengaruto.trees import register_soup, to_etree, to_lxml
 
 ROOT = os.path.dirname(os.path.dirname(os.path.dirname(os.path.abspath(__file__))))
@@ -24,11 +29,11 @@ WORDS = [
 
 
 @pytest.fixture
-def doc():
+def doc() -> Document:
     return hengaruto.parse(PAGE)
 
 
-def same_in_both(root):
+def same_in_both(root: Any) -> None:
     assert root.tag == "html" and [child.tag for child in root] == ["head", "body"]
     p = root.find("body/p")
     assert p.attrib == {"class": "a"} and p.text == "One " and p.find("b").tail == " word"
@@ -36,15 +41,15 @@ def same_in_both(root):
     assert [child.tail for child in p][1] == "tail" and p.find("template/i").text == "in"
 
 
-def test_etree(doc):
+def test_etree(doc: Document) -> None:
     same_in_both(to_etree(doc))
     assert to_etree(doc, namespaces=True).tag == "{http://www.w3.org/1999/xhtml}html"
-    assert to_etree(doc.find("b")).text == "bold" and to_etree(doc.find("b")).tail is None
-    assert to_etree(next(doc.find("b").children())) is None and to_etree(hengaruto.parse_fragment("x")) is None
+    assert to_etree(the(doc.find("b"))).text == "bold" and to_etree(the(doc.find("b"))).tail is None
+    assert to_etree(next(the(doc.find("b")).children())) is None and to_etree(hengaruto.parse_fragment("x")) is None
     assert to_etree(hengaruto.parse_fragment("<p>x<b>y")).findtext("b") == "y"
 
 
-def test_lxml(doc):
+def test_lxml(doc: Document) -> None:
     html = pytest.importorskip("lxml.html")
     root = to_lxml(doc)
     same_in_both(root)
@@ -54,25 +59,25 @@ def test_lxml(doc):
     assert to_lxml(hengaruto.parse_fragment("x")) is None
 
 
-def test_lxml_takes_what_xml_does_not():
+def test_lxml_takes_what_xml_does_not() -> None:
     pytest.importorskip("lxml.html")
     root = to_lxml(hengaruto.parse('<a<b 1x=\x01 :=y a"=z>\x0c\x0b<!--a--b---><!-----><svg><:g/></svg>'))
     assert root.find("body")[0].tag == "aU0003Cb" and set(root.find("body")[0].attrib) == {"U00031x", "U0003A", "aU00022"}
     assert "\ufffd" in root.find("body")[0].attrib.values()
 
 
-def test_etree_takes_names_as_they_stand():
+def test_etree_takes_names_as_they_stand() -> None:
     root = to_etree(hengaruto.parse("<html xml:lang=en><a<b 1x=y>"))
     assert root.attrib == {"xml:lang": "en"} and root.find("body")[0].tag == "a<b" and root.find("body")[0].attrib == {"1x": "y"}
 
 
-def test_cssselect(doc):
+def test_cssselect(doc: Document) -> None:
     pytest.importorskip("lxml.html")
     pytest.importorskip("cssselect")
     assert [node.tag for node in to_lxml(doc).cssselect("p > b")] == ["b"]
 
 
-def test_soup():
+def test_soup() -> None:
     bs4 = pytest.importorskip("bs4")
     register_soup()
     soup = bs4.BeautifulSoup(PAGE, "hengaruto")
@@ -82,7 +87,7 @@ def test_soup():
     assert soup.p.text == "é" and soup.original_encoding == "windows-1252"
 
 
-def shape_of(root):
+def shape_of(root: Any) -> List[Tuple[str, List[Tuple[str, str]], str, str]]:
     """The names, attributes and texts of a tree, without attributes `xmlns`, which html5lib keeps."""
     shape = []
     for node in root.iter():
@@ -93,7 +98,7 @@ def shape_of(root):
     return shape
 
 
-def same_as_html5lib(page):
+def same_as_html5lib(page: str) -> None:
     import html5lib
 
     ours = shape_of(to_etree(hengaruto.parse(page)))
@@ -102,7 +107,7 @@ def same_as_html5lib(page):
     assert ours == theirs, next(pair for pair in zip(ours, theirs) if pair[0] != pair[1])
 
 
-def test_pages_beside_html5lib():
+def test_pages_beside_html5lib() -> None:
     pytest.importorskip("html5lib")
     paths = [path for folder in FOLDERS for path in sorted(glob.glob(f"{folder}/**/*.htm*", recursive=True))]
     paths = [path for path in paths if path.endswith((".html", ".htm")) and os.path.isfile(path) and os.path.getsize(path) < 100_000]
@@ -114,7 +119,7 @@ def test_pages_beside_html5lib():
             same_as_html5lib(page)
 
 
-def test_random_pages_beside_html5lib():
+def test_random_pages_beside_html5lib() -> None:
     pytest.importorskip("html5lib")
     rand = random.Random(1)
     for _ in range(500):
@@ -130,7 +135,7 @@ REPEATED = (
 
 @pytest.mark.parametrize("page", REPEATED)
 @pytest.mark.parametrize("selector", ("td", "p > b", ":scope > *", "\\:scope, b", "tr:first-child td", "p.x, i", "*"))
-def test_a_selector_that_is_used_again_finds_the_same(page, selector):
+def test_a_selector_that_is_used_again_finds_the_same(page: str, selector: str) -> None:
     doc = hengaruto.parse(page)
     for node in (*doc, *doc):
         alone = hengaruto.load(doc.block)[node.index]

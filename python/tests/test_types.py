@@ -1,4 +1,6 @@
 """Public functions and methods have type hints and docstrings."""
+from __future__ import annotations
+
 import inspect
 import os
 import typing
@@ -9,7 +11,7 @@ import hengaruto
 import hengaruto.trees
 
 
-def public_functions():
+def public_functions() -> typing.Iterator[typing.Tuple[str, typing.Callable[..., object]]]:
     for module in (hengaruto, hengaruto.trees):
         for name in getattr(module, "__all__", None) or [it for it in vars(module) if it.startswith(("to_", "register_"))]:
             thing = getattr(module, name)
@@ -23,11 +25,11 @@ def public_functions():
 
 
 @pytest.mark.parametrize("function", [pytest.param(function, id=name) for name, function in public_functions()])
-def test_hints(function):
+def test_hints(function: typing.Callable[..., object]) -> None:
     hints = typing.get_type_hints(function)
     assert "return" in hints and set(inspect.signature(function).parameters) - {"self"} <= set(hints)
     assert function.__doc__
 
 
-def test_the_package_says_that_it_is_typed():
+def test_the_package_says_that_it_is_typed() -> None:
     assert os.path.isfile(os.path.join(os.path.dirname(hengaruto.__file__), "py.typed"))

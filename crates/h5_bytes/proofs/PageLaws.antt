@@ -5,7 +5,8 @@ use Rattle.h5_interface.specs.Seen.{Seen}
 use Rattle.h5_interface.specs.SinkChoices.{SinkChoices}
 use Rattle.h5_encodings.specs.declared.sniffing.EncodingOpts.{EncodingOpts}
 use Rattle.h5_driver.specs.Parsing.{Parsing, Processed, joined, text_of, view_of}
-use Rattle.h5_driver.specs.Reading.{AreReadings, Parses}
+use Rattle.h5_driver.specs.inner.Readings.{AreReadings}
+use Rattle.h5_driver.specs.Reading.{Parses}
 use Rattle.h5_driver.specs.declared.reader.Reader.{Ghosts}
 use Rattle.h5_driver.proofs.ReadingLaws.{followed_by, parses_behind}
 use Rattle.h5_bytes.specs.Parsing.{IsHanded, ParsingPage, ProcessedAllBytes, ProcessedBytes}

@@ -11,7 +11,7 @@ use Rattle.html_tree_builder.specs.Fault.{Outcome, Found, Tells}
 use Rattle.h5_selectors.specs.declared.fault.SelectorError.{SelectorError}
 use Rattle.h5_selectors.specs.declared.fault.SelectorError.TheVariants.{Invalid, Memory}
 use Rattle.h5_selectors.specs.declared.formula.Formula.{Formula}
-use Rattle.h5_flat.specs.Packed.{bytes_of_words}
+use Rattle.h5_tree_block.specs.Packed.{bytes_of_words}
 use Rattle.h5_c.specs.Selecting.{AnswersNumber, AreAllAsked, IsFaultOfOne, IsPut, asked_in, counted_in}
 
 -- no texts, and one text more

@@ -4,7 +4,7 @@ use Rattle.std.specs.Prelude.{if◌then◌else◌, nat_le, nat_lt, not}
 use Rattle.std.specs.List.{filter}
 use Rattle.std.proofs.lemmas.List.Filters.{length-filter_both}
 use Rattle.std.proofs.lemmas.Bool.{and_parts, cond-true, leb-true, lt-ltb}
-use Rattle.h5_flat.specs.Block.{end_in, end_or_next, ends_at, kind_in, nodes_in, nothing, word_in}
+use Rattle.h5_tree_block.specs.Block.{end_in, end_or_next, ends_at, kind_in, nodes_in, nothing, word_in}
 use Rattle.h5_tree.specs.BlockForest.{forest_in}
 use Rattle.h5_tree.specs.ElementNumbers.{elements_between, elements_in_steps}
 use Rattle.h5_tree.specs.Elements.{below}

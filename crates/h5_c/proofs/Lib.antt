@@ -1,3 +1,4 @@
 mod AskLaws
 mod CountLaws
 mod Giving
+mod NameWalks

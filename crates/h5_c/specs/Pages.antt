@@ -8,9 +8,9 @@ use Rattle.html_tree_builder.specs.Options.{default_options}
 use Rattle.html_tree_builder.specs.StandardTexts.{ParsesDocument, ParsesFragment}
 use Rattle.html_tree_builder.specs.Types.{ChildrenOnly, ParseOpts, QualName}
 use Rattle.html_tree_builder.specs.Urls.{html_text, mathml_text, svg_text}
-use Rattle.h5_flat.specs.Columns.{document_columns, fragment_columns, held}
-use Rattle.h5_flat.specs.Packed.{block_of}
-use Rattle.h5_flat.specs.declared.columns.Columns.{Columns}
+use Rattle.h5_tree_block.specs.Columns.{document_columns, fragment_columns, held}
+use Rattle.h5_tree_block.specs.Packed.{block_of}
+use Rattle.h5_tree_block.specs.declared.columns.Columns.{Columns}
 use Rattle.h5_page.specs.Links.{LinkText, links_of}
 use Rattle.h5_page.specs.Text.{text_of}
 use Rattle.h5_page.specs.declared.text_writer.TextOpts.{TextOpts}
@@ -27,17 +27,24 @@ options_of options =
     let builder = default_options.tree_builder in
     record default_options { tree_builder = record builder { scripting_enabled = is_scripting options; iframe_srcdoc = is_srcdoc options } }
 
--- the tree of a page in UTF-8
-abbrev pub IsTree : (options : ℕ) → (page : List ℕ) → ArenaView → Type 0
-IsTree options page arena = ParsesDocument arena_choices (seen_of new_arena) (options_of options) (utf8_lossy page) (seen_of arena)
+-- the tree of the text of a page
+abbrev pub IsTreeOfText : (options : ℕ) → (text : List ℕ) → ArenaView → Type 0
+IsTreeOfText options text arena = ParsesDocument arena_choices (seen_of new_arena) (options_of options) text (seen_of arena)
 
 -- a block holds it
-pub record IsBlockOfPage (options : ℕ) (page block : List ℕ) : Type 0 where
+pub record IsBlockOfText (options : ℕ) (text block : List ℕ) : Type 0 where
   pub arena : ArenaView
-  pub is_tree : IsTree options page arena
+  pub is_tree : IsTreeOfText options text arena
   pub columns : Columns
   pub holds : held columns ≡ document_columns arena (is_scripting options)
   pub packed : block ≡ block_of columns
+
+-- the tree of a page in UTF-8, and a block that holds it
+abbrev pub IsTree : (options : ℕ) → (page : List ℕ) → ArenaView → Type 0
+IsTree options page arena = IsTreeOfText options (utf8_lossy page) arena
+
+abbrev pub IsBlockOfPage : (options : ℕ) → (page block : List ℕ) → Type 0
+IsBlockOfPage options page = IsBlockOfText options (utf8_lossy page)
 
 -- the namespaces of contexts, by their numbers
 abbrev pub context_url : ℕ → Option (List ℕ)

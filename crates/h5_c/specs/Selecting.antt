@@ -10,9 +10,9 @@ use Rattle.h5_selectors.specs.declared.fault.SelectorError.{SelectorError}
 use Rattle.h5_selectors.specs.declared.fault.SelectorError.TheVariants.{Invalid, Memory}
 use Rattle.h5_selectors.specs.declared.fault.SelectorProblem.{SelectorProblem}
 use Rattle.h5_selectors.specs.declared.formula.Formula.{Formula}
-use Rattle.h5_flat.specs.Block as b
-use Rattle.h5_flat.specs.Packed.{bytes_of_words}
-use Rattle.h5_flat.specs.Sound as s
+use Rattle.h5_tree_block.specs.Block as b
+use Rattle.h5_tree_block.specs.Packed.{bytes_of_words}
+use Rattle.h5_tree_block.specs.Sound as s
 use Rattle.h5_tree.specs.BlockForest.{forest_in, mode_in}
 use Rattle.h5_c.specs.Status.{HandsOutSuch}
 

@@ -1,5 +1,5 @@
 //! Pages in encodings other than UTF-8: their encoding and their text.
-ghost use Rattle.std.specs.Prelude.{◌≡◌, ◌≢◌, None, Some, IfOk, take};
+ghost use Rattle.std.specs.Prelude.{◌≡◌, ◌≢◌, None, Some, IfOk, string_bytes, take};
 ghost use Rattle.h5_encodings.specs.Decoding.{start, text_from};
 ghost use Rattle.h5_encodings.specs.Labels.{encoding_labelled};
 ghost use Rattle.h5_encodings.specs.Sniffing.{encoding_of};
@@ -47,12 +47,20 @@ fn name_for(alloc: Global, page: &[u8], label: &[u8]) -> Result<Vec<u8>, AllocEr
     copied(alloc, name_said(encoding, source).as_bytes())
 }
 
-fn text_in(alloc: Global, encoding: Encoding, bytes: &[u8]) -> Result<Vec<u8>, AllocError>
-    ensures { IfOk result (λ text. text.items ≡ text_from (start encoding) bytes.now) }
+/// The text of bytes in this encoding.
+pub(crate) fn decoded(alloc: Global, encoding: Encoding, bytes: &[u8]) -> Result<String, AllocError>
+    ensures { IfOk result (λ text. string_bytes text ≡ text_from (start encoding) bytes.now) }
 {
     let mut decoder = Decoder::new(alloc, encoding);
     let mut text = decoder.decode(bytes)?;
     text.push_str(decoder.finish())?;
+    Ok(text)
+}
+
+fn text_in(alloc: Global, encoding: Encoding, bytes: &[u8]) -> Result<Vec<u8>, AllocError>
+    ensures { IfOk result (λ text. text.items ≡ text_from (start encoding) bytes.now) }
+{
+    let text = decoded(alloc, encoding, bytes)?;
     Ok(text.into_bytes())
 }
 

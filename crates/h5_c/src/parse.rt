@@ -9,7 +9,7 @@ ghost use Rattle.h5_c.specs.Pages.{IsBlockOfFragment, IsBlockOfPage, IsFragmentT
 ghost use Rattle.h5_c.specs.Status.{HandsOutSuch};
 
 use super::status::{BAD_ARGUMENT, give};
-use h5_flat::{columns_of_document, columns_of_fragment};
+use h5_tree_block::{columns_of_document, columns_of_fragment};
 use html_tree_builder::token::BuildFault;
 use html_tree_builder::{
     Arena, LocalName, Namespace, ParseOpts, Parser, QualName, namespaces, parse_document,
@@ -18,7 +18,7 @@ use html_tree_builder::{
 use std::alloc::{AllocError, Global};
 
 // The first bit: scripting is on, so the content of `noscript` is one text.
-fn is_scripting(options: u32) -> bool
+pub(crate) fn is_scripting(options: u32) -> bool
     ensures { result ≡ is_scripting options }
 {
     options % 2 == 1
@@ -31,7 +31,7 @@ fn is_srcdoc(options: u32) -> bool
     options / 2 % 2 == 1
 }
 
-fn opts_of(options: u32) -> ParseOpts
+pub(crate) fn opts_of(options: u32) -> ParseOpts
     ensures { result ≡ options_of options }
 {
     let mut opts = ParseOpts::default();
@@ -41,7 +41,7 @@ fn opts_of(options: u32) -> ParseOpts
 }
 
 // A parser that hasn't failed has no other error.
-fn refused(_fault: BuildFault) -> AllocError
+pub(crate) fn refused(_fault: BuildFault) -> AllocError
     requires { _fault ≡ BuildFault.Memory }
 {
     AllocError

@@ -1,13 +1,24 @@
 //! Reads of a block. If the bytes aren't a block, or there is no such node, each returns a status, 0 or `NOTHING`.
 ghost use Rattle.std.specs.Prelude.{◌≡◌, ◌≢◌, ◌<◌, ◌≤◌, ◌==◌, ◌⊎◌, ◌&&◌, MatchOption, false, if◌then◌else◌, not, true};
 ghost use Rattle.h5_c.specs.Status.{HandsOut};
-ghost use Rattle.h5_flat.specs.Block as b;
-ghost use Rattle.h5_flat.specs.Html as h;
-ghost use Rattle.h5_flat.specs.Sound.{is_sound};
+ghost use Rattle.h5_tree_block.specs.Block as b;
+ghost use Rattle.h5_tree_block.specs.Html as h;
+ghost use Rattle.h5_tree_block.specs.Sound.{is_sound};
 
 use super::status::{BAD_BLOCK, NO_NODE, OK, give};
-use h5_flat::{NOTHING, Span, View, html_of};
+use h5_tree_block::{NOTHING, Span, View, html_of};
 use std::alloc::Global;
+
+// The version of the library: 10,000 for each major version, 100 for each minor one, and the patch.
+const VERSION: u32 = 300;
+
+/// The version of the library.
+#[unsafe(no_mangle)]
+pub extern "C" fn hengaruto_version() -> u32
+    ensures { result ≡ 300 }
+{
+    VERSION
+}
 
 /// The HTML of a node: with the node itself, or of its descendants only.
 #[unsafe(no_mangle)]
@@ -170,8 +181,8 @@ pub extern "C" fn hengaruto_prefix(block: &[u8], name: u32) -> u32
     }
 }
 
-// Stores the offset and the length of bytes, if there are any.
-fn put(span: Option<Span>, at: &mut usize, count: &mut usize) -> u32
+/// Stores the offset and the length of bytes, if there are any.
+pub(crate) fn put(span: Option<Span>, at: &mut usize, count: &mut usize) -> u32
     ensures is { MatchOption span (result ≡ 2) (λ span. (result ≡ 0) × (at.new ≡ span.at) × (count.new ≡ span.count)) }
     ensures kept { result ≢ 0 → (at.new ≡ at.old) × (count.new ≡ count.old) }
 {

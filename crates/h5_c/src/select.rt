@@ -4,16 +4,16 @@ ghost use Rattle.std.specs.Str.{IsUtf8, chars};
 ghost use Rattle.html_tree_builder.specs.Asking.{asked};
 ghost use Rattle.html_tree_builder.specs.Fault.{Found, Tells};
 ghost use Rattle.h5_c.specs.Selecting.{Answers, AnswersAll, AnswersNumber, AreAllAsked, AreAsked, AreSelected, Checks, HandsOutMessage, HasNode, IsFaultOfOne, IsPut, Refuses, all_asked_in, asked_in, counted_in, first_in, match_in, nearest_from, nearest_in, start_in};
-ghost use Rattle.h5_flat.specs.Block as b;
-ghost use Rattle.h5_flat.specs.Packed.{bytes_of_words};
-ghost use Rattle.h5_flat.specs.Sound.{is_sound};
+ghost use Rattle.h5_tree_block.specs.Block as b;
+ghost use Rattle.h5_tree_block.specs.Packed.{bytes_of_words};
+ghost use Rattle.h5_tree_block.specs.Sound.{is_sound};
 
 use super::status::{
     BAD_ARGUMENT, BAD_BLOCK, BAD_SELECTOR, NO_MEMORY, NO_NODE, OK, give, put_words,
 };
-use h5_flat::{NOTHING, TEXT, View};
 use h5_tree::SoundView;
 use h5_tree::laws::sound_blocks_are_forests;
+use h5_tree_block::{NOTHING, TEXT, View};
 use html_tree_builder::select::{Selector, SelectorError};
 use std::alloc::{AllocError, Global};
 use std::fmt::Write;

@@ -1,6 +1,6 @@
 //! The statuses of calls, and how bytes are returned to the caller.
 ghost use Rattle.std.specs.Prelude.{◌≡◌, ◌≢◌, ◌++◌, ◌∷◌, [], IfOk, MatchResult, OnOk};
-ghost use Rattle.h5_flat.specs.Packed.{bytes_of_words};
+ghost use Rattle.h5_tree_block.specs.Packed.{bytes_of_words};
 ghost use Rattle.h5_c.specs.Status.{HandsOut};
 
 use std::alloc::AllocError;
@@ -22,6 +22,9 @@ pub(crate) const BAD_ARGUMENT: u32 = 4;
 
 /// An invalid selector.
 pub(crate) const BAD_SELECTOR: u32 = 5;
+
+/// An invalid policy.
+pub(crate) const BAD_POLICY: u32 = 6;
 
 // Bytes and a NUL after them: C may read them as a string, and even an empty result has its own memory.
 fn with_nul(bytes: Vec<u8>) -> Result<Vec<u8>, AllocError>

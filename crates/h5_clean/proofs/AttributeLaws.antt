@@ -13,7 +13,7 @@ use Rattle.h5_names.specs.declared.qualified.Attribute.{Attribute}
 use Rattle.h5_names.specs.declared.qualified.QualName.{QualName}
 use Rattle.h5_interface.specs.Changes.{has_attribute}
 use Rattle.h5_tables.specs.TagSets.{is_one_of}
-use Rattle.h5_plain.specs.Plain.{ArePlain}
+use Rattle.h5_builder_laws.specs.Plain.{ArePlain}
 use Rattle.h5_clean.specs.Policies.{ArePrefixed, MayStay, Rules, RunNoScripts, acting_names, as_left, attributes_left, bare, id_list_names, id_names, is_name, is_refused, keeps, left_behind, may_act, may_stay, named_behind, prefix_of, refused_names, rel_of, sets, stays, value_left}
 use Rattle.h5_round_trip.specs.Readable.{AreNameBytes, AreReadable, IsName, IsReadable, is_name_byte}
 use Rattle.h5_clean.specs.AllowLists.{LeadWell, Table, holds_url, is_listed, has_classes, keeps_listed, leads_well, table_rules}

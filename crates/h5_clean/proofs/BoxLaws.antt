@@ -2,7 +2,7 @@
 use Rattle.std.proofs.Common.{◌≡◌, ℕ, Bool, true, false, cond, List, [], ◌++◌, codes, refl, sym, ap, ◌∙◌, append_assoc}
 use Rattle.h5_names.specs.AttributeText.{AttributeText}
 use Rattle.h5_serialize.specs.Escape.{escape}
-use Rattle.h5_plain.specs.Plain.{ElementThen, End, Nodes, TextThen, as_written, has_end_tag}
+use Rattle.h5_builder_laws.specs.Plain.{ElementThen, End, Nodes, TextThen, as_written, has_end_tag}
 use Rattle.h5_round_trip.specs.Inside.{text_before}
 use Rattle.h5_round_trip.specs.Written.{tag_written, written_before, written_fragment}
 

@@ -17,7 +17,7 @@ use Rattle.h5_serialize.specs.Standing.{Standing, Working, standing_after, text_
 use Rattle.h5_serialize.specs.Walk.{text_of_each}
 use Rattle.h5_serialize.specs.Writing.{attribute_written, end_tag, start_tag}
 use Rattle.h5_serialize.specs.declared.openers.Opener.{Opener}
-use Rattle.h5_plain.specs.Plain.{ElementThen, End, Nodes, TextThen, as_written, doubled, held_as_written, with_doubled}
+use Rattle.h5_builder_laws.specs.Plain.{ElementThen, End, Nodes, TextThen, as_written, doubled, held_as_written, with_doubled}
 use Rattle.h5_round_trip.specs.Readable.{IsReadable}
 use Rattle.h5_round_trip.proofs.DoubledLaws.{doubled_reads}
 use Rattle.h5_round_trip.specs.Written.{tag_written, written_before, written_fragment}

@@ -10,10 +10,10 @@ use Rattle.h5_serialize.specs.declared.options.TraversalScope.TheVariants.{Child
 use Rattle.h5_arena.specs.ArenaModel.{ArenaView, arena_choices, forest_seen, fragment_root, new_arena, node_of, seen_of}
 use Rattle.h5_arena.specs.NodeCalls.{calls_around, calls_of, calls_of_children, shown_children, walk_of}
 use Rattle.h5_tables.specs.TagSets.{html_namespace, is_html_named}
-use Rattle.h5_rules.specs.fitting.Roles.{role_of, role_of_local}
+use Rattle.h5_builder_spec.specs.reset.Roles.{role_of, role_of_local}
 use Rattle.h5_tree_builder.specs.Fragment.{rawtext_context_names, rcdata_context_names, state_of_local}
-use Rattle.h5_plain.specs.Plain.{Nodes}
-use Rattle.h5_plain.specs.Rebuilding.{HoldsDocument}
+use Rattle.h5_builder_laws.specs.Plain.{Nodes}
+use Rattle.h5_builder_laws.specs.Rebuilding.{HoldsDocument}
 use Rattle.h5_round_trip.specs.Written.{written_fragment}
 use Rattle.h5_driver.specs.Options.{default_options}
 use Rattle.h5_driver.specs.PlainFragments.{FragmentStands, FragmentsComeBack, IsBodyContext}
@@ -23,7 +23,7 @@ use Rattle.h5_clean.specs.Calls.{after_call, first_state, text_of}
 use Rattle.h5_clean.specs.Cleaned.{Builds, BuildsFragment, IsClean, IsCleaned, IsTreeOf, WritesCleaned, calls_below, div}
 use Rattle.h5_clean.specs.Pass.{cleaned}
 use Rattle.h5_clean.specs.Policies.{Rules}
-use Rattle.h5_clean.specs.Source.{Done, Source, calls_before, source_of}
+use Rattle.h5_clean.specs.Source.{Source, calls_before, source_of}
 use Rattle.h5_clean.proofs.CallLaws.{tree_written}
 use Rattle.h5_clean.proofs.MarkLaws.{text_unmarked}
 use Rattle.h5_clean.proofs.PassLaws.{cleaned_around, cleaned_let, cleaned_plain, cleaned_read, cleaned_same, cleaned_unmarked, cleaned_within}
@@ -38,14 +38,6 @@ writes_walk r f n before after h =
     let s = tree_of f (shown_children f n) in
     let told = tree_told f (shown_children f n) in
     record { source = s; told = told; written = subst (Appends before after) (ap (text_of_each after_call text_of (first_state r)) (sym told) ∙ tree_written r s) h }
-
--- if there is no root nothing is written
-pub writes_none : (r : Rules) (t : Option (List ℕ)) → WritesCleaned r [] t t
-writes_none r t = record { source = Done; told = refl; written = nothing t }
-  where
-    nothing : (o : Option (List ℕ)) → Appends o o []
-    nothing None = tt
-    nothing (Some xs) = sym (append-nil xs)
 
 -- and what is written of the tree of a text is what is left of the text
 pub is_cleaned : (r : Rules) (html : List ℕ) (a : ArenaView) (before after : Option (List ℕ)) → Builds html a → WritesCleaned r (calls_below (forest_seen a) (fragment_root a)) before after

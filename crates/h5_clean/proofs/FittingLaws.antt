@@ -2,9 +2,9 @@
 use Rattle.std.proofs.Common.{◌≡◌, ◌≢◌, ◌&&◌, ◌<◌, ◌-◌, ℕ, Bool, true, false, not, List, [], ◌∷◌, codes, nat_lt, refl, sym, ap, subst, ◌∙◌, arith}
 use Rattle.std.proofs.lemmas.Bool.{ltb-true, lt-ltb}
 use Rattle.h5_names.specs.AttributeText.{AttributeText}
-use Rattle.h5_rules.proofs.BoolLaws.{and_both}
-use Rattle.h5_plain.specs.Plain as plain
-use Rattle.h5_plain.specs.Plain.{ArePlain, Around, ElementThen, End, IsPlain, NoNul, Nodes, Sort, TextThen}
+use Rattle.h5_builder_spec.proofs.BoolLaws.{and_both}
+use Rattle.h5_builder_laws.specs.Plain as plain
+use Rattle.h5_builder_laws.specs.Plain.{ArePlain, Around, ElementThen, End, IsPlain, NoNul, Nodes, Sort, TextThen}
 use Rattle.h5_round_trip.specs.Readable.{AreReadable, CanBeRead, IsReadable}
 use Rattle.h5_clean.specs.Kinds.{kind_of}
 use Rattle.h5_clean.specs.Pass.{AllLet, IsWithin}

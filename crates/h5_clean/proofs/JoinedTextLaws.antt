@@ -1,5 +1,5 @@
 -- Two texts that a serializer of HTML writes one after the other are written as one.
-use Rattle.std.proofs.Common.{◌≡◌, ◌∙◌, ◌==◌, ◌++◌, ◌∷◌, Bool, true, false, List, [], ℕ, Option, Result, Ok, Err, IsAscii, IsUtf8, zero, suc, arith, ap, refl, subst, sym, if◌then◌else◌}
+use Rattle.std.proofs.Common.{◌≡◌, ◌∙◌, ◌==◌, ◌++◌, ◌∷◌, Bool, true, false, List, [], ℕ, Option, Result, Ok, IsAscii, IsUtf8, zero, suc, arith, ap, refl, subst, sym, if◌then◌else◌}
 use Rattle.std.specs.Prelude.{slice_index}
 use Rattle.std.specs.Io.KnownBytes.{Appends}
 use Rattle.std.proofs.lemmas.Str.{IsUtf8-from_ascii}
@@ -7,46 +7,9 @@ use Rattle.h5_serialize.specs.Call.{TextOf}
 use Rattle.h5_serialize.specs.Escape.{escape}
 use Rattle.h5_serialize.specs.Standing.{Broken, Standing, Working, answer_to, standing_after, text_written}
 use Rattle.h5_serialize.specs.declared.fault.SerializeFault.{SerializeFault}
-use Rattle.h5_serialize.specs.declared.fault.SerializeFault.TheVariants.{Failed, Memory, NoParent, Write}
 use Rattle.h5_serialize.proofs.Escapes.{appends_both, escape_append}
-use Rattle.h5_plain.specs.Plain.{doubled}
+use Rattle.h5_builder_laws.specs.Plain.{doubled}
 use Rattle.h5_clean.proofs.HandedLaws.{Texts, Writes, unless_map, whatever_broke}
-
--- the reply to a text, and the state after it, are the same for each text
-answer_alike : (m : Standing) (x y : List ℕ) → answer_to m (TextOf x) ≡ answer_to m (TextOf y)
-answer_alike Broken x y = refl
-answer_alike (Working s c (o ∷ os)) x y = refl
-answer_alike (Working s true []) x y = refl
-answer_alike (Working s false []) x y = refl
-
-after_alike : (m : Standing) (x y : List ℕ) → standing_after m (TextOf x) ≡ standing_after m (TextOf y)
-after_alike Broken x y = refl
-after_alike (Working s c (o ∷ os)) x y = refl
-after_alike (Working s true []) x y = refl
-after_alike (Working s false []) x y = refl
-
--- so one text is refused as the other
-none_alike : (m : Standing) (x y : List ℕ) (fault : SerializeFault) → Err fault ≡ answer_to m (TextOf x) → text_written m (TextOf x) ≡ text_written m (TextOf y)
-none_alike Broken x y fault e = refl
-none_alike (Working s c (o ∷ os)) x y fault e = absurd (cc)
-none_alike (Working s true []) x y fault e = absurd (cc)
-none_alike (Working s false []) x y fault e = refl
-
-pub refused_alike : (x y : List ℕ) (m n : Standing) (t u : Option (List ℕ)) (fault : SerializeFault) → Writes (TextOf x) m t (Err fault) n u → Texts y m t (Err fault) n u
-refused_alike x y m n t u NoParent h = record {
-  answered = h.answered ∙ answer_alike m x y;
-  meant = h.meant ∙ after_alike m x y;
-  written = subst (Appends t u) (none_alike m x y NoParent h.answered) h.written;
-  broken = tt;
-}
-refused_alike x y m n t u Memory h = record { answered = tt; meant = tt; written = tt; broken = tt }
-refused_alike x y m n t u Write h = record { answered = tt; meant = tt; written = tt; broken = tt }
-refused_alike x y m n t u Failed h = record {
-  answered = h.answered ∙ answer_alike m x y;
-  meant = h.meant ∙ after_alike m x y;
-  written = subst (Appends t u) (none_alike m x y Failed h.answered) h.written;
-  broken = tt;
-}
 
 -- after a text that was taken, another is taken as both would have been
 record Joins (m : Standing) (x y : List ℕ) : Type 0 where

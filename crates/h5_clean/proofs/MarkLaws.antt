@@ -7,8 +7,8 @@ use Rattle.std.proofs.lemmas.Bool.{eqb-true, ltb-true}
 use Rattle.h5_serialize.specs.Escape.{escape, escape_char}
 use Rattle.std.proofs.lemmas.Str.{chars-encodes}
 use Rattle.h5_markup.specs.Matching.{Found, No, Open}
-use Rattle.h5_standard.specs.Mark.{behind, behind_mark}
-use Rattle.h5_plain.specs.Plain.{ElementThen, End, Flow, IsPlain, Nodes, TextThen, Words, nothing_open}
+use Rattle.h5_standard_tokenizer.specs.Mark.{behind, behind_mark}
+use Rattle.h5_builder_laws.specs.Plain.{ElementThen, End, Flow, IsPlain, Nodes, TextThen, Words, nothing_open}
 use Rattle.h5_round_trip.specs.Readable.{CanBeRead}
 use Rattle.h5_round_trip.specs.Written.{written_fragment}
 use Rattle.h5_round_trip.proofs.ShapeLaws.{Element, None as NoNode, Shape, Title, Void, shape}

@@ -4,7 +4,7 @@ use Rattle.std.proofs.lemmas.Slice.Eq.{bytes_eq-Decides}
 use Rattle.std.proofs.lemmas.List.Folds.{list_any-append}
 use Rattle.h5_names.specs.AttributeText.{is_same_text}
 use Rattle.h5_tables.specs.TagSets.{is_one_of}
-use Rattle.h5_plain.specs.Plain.{barrier_names, phrase_names}
+use Rattle.h5_builder_laws.specs.Plain.{barrier_names, phrase_names}
 use Rattle.h5_clean.specs.Kinds.{early_barrier_names, early_phrase_names, late_barrier_names, late_phrase_names}
 
 pub phrase_parts : (name : List ℕ) → is_one_of early_phrase_names name || is_one_of late_phrase_names name ≡ is_one_of phrase_names name

@@ -3,12 +3,12 @@ use Rattle.std.proofs.Common.{◌≡◌, ◌&&◌, ℕ, Bool, true, false, nat_l
 use Rattle.std.specs.Str.{is_utf8}
 use Rattle.h5_names.specs.declared.qualified.QualName.{QualName}
 use Rattle.h5_serialize.specs.Names.{is_html}
-use Rattle.h5_rules.specs.Blanks.{all_blank}
-use Rattle.h5_rules.specs.formatting.FormattingNames.{html_name}
-use Rattle.h5_rules.proofs.BlankLaws.{all_blank-append}
-use Rattle.h5_rules.proofs.BoolLaws.{and_both}
-use Rattle.h5_plain.specs.Plain.{ElementThen, End, Flow, IsPlain, Nodes, TextThen, nothing_open}
-use Rattle.h5_plain.proofs.LessLaws.{plain_alone}
+use Rattle.h5_builder_spec.specs.Blanks.{all_blank}
+use Rattle.h5_builder_spec.specs.formatting.FormattingNames.{html_name}
+use Rattle.h5_builder_spec.proofs.BlankLaws.{all_blank-append}
+use Rattle.h5_builder_spec.proofs.BoolLaws.{and_both}
+use Rattle.h5_builder_laws.specs.Plain.{ElementThen, End, Flow, IsPlain, Nodes, TextThen, nothing_open}
+use Rattle.h5_builder_laws.proofs.LessLaws.{plain_alone}
 use Rattle.h5_round_trip.specs.Readable.{CanBeRead, IsReadable}
 use Rattle.h5_clean.specs.Kinds.{kind_of}
 use Rattle.h5_clean.specs.Pass.{AllLet, IsWithin, cleaned, first_place, is_dropped, is_let, left_before, put_text, text_then, with_first}

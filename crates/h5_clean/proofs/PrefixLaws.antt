@@ -10,7 +10,7 @@ use Rattle.std.specs.Prelude.{nat_eq, nat_le}
 use Rattle.std.specs.Str.{is_utf8}
 use Rattle.h5_names.specs.AttributeText.{is_same_text}
 use Rattle.h5_tables.specs.TagSets.{is_one_of}
-use Rattle.h5_plain.specs.Plain.{NoNul}
+use Rattle.h5_builder_laws.specs.Plain.{NoNul}
 use Rattle.h5_round_trip.specs.Readable.{IsReadable, NoCr}
 use Rattle.h5_clean.specs.Policies.{Rules, classes_left, fragment_prefixed, id_list_names, id_names, is_left_class, is_prefix_byte, link_prefixed, named_behind, parts_of, prefix_of, prefixed, value_left, with_class, with_classes, words_prefixed}
 use Rattle.h5_clean.specs.Texts.{readable}

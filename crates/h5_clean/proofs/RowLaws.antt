@@ -5,7 +5,7 @@ use Rattle.std.proofs.lemmas.Bool.{false≢true}
 use Rattle.std.proofs.lemmas.Slice.Eq.{bytes_eq-Decides}
 use Rattle.h5_names.specs.AttributeText.{is_same_text}
 use Rattle.h5_tables.specs.TagSets.{cell_names, heading_names, is_one_of, raw_names, void_names}
-use Rattle.h5_plain.specs.Plain.{barrier_names, inline_names, mark_names, open_block_names, part_names, phrase_names, ruby_text_names, term_names}
+use Rattle.h5_builder_laws.specs.Plain.{barrier_names, inline_names, mark_names, open_block_names, part_names, phrase_names, ruby_text_names, term_names}
 use Rattle.h5_clean.specs.Kinds.{Row, kind_in, kind_of, lone_rows, set_rows}
 use Rattle.h5_clean.specs.declared.kind.Kind.{Kind}
 use Rattle.h5_clean.specs.declared.kind.Kind.TheVariants as kind

@@ -175,10 +175,6 @@ script_some : (o : Option (List ℕ)) → is_some o ≡ true → is_script o ≡
 script_some None h = absurd (false≢true h)
 script_some (Some s) h = refl
 
-pub script_none : (o : Option (List ℕ)) → is_some o ≡ false → is_script o ≡ false
-script_none None h = refl
-script_none (Some s) h = absurd (false≢true (sym h))
-
 -- a URL with a scheme, and two names
 spelled_in_two : (one other url : List ℕ) → is_some (scheme_of_visible url) ≡ true → has_scheme_of (one ∷ other ∷ []) (scheme_of_visible url) ≡ (is_named one url || is_named other url)
 spelled_in_two one other url h =

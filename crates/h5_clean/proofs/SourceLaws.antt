@@ -4,12 +4,12 @@ use Rattle.std.specs.List.{flat_map}
 use Rattle.std.specs.Option.{option_map_or}
 use Rattle.h5_names.specs.AttributeText.{AttributeText}
 use Rattle.h5_interface.specs.Forest.{Child, ChildNode, ChildText, CommentNode, DoctypeNode, DocumentNode, ElementNode, Forest, FragmentNode, InstructionNode, Kind, Node, children_of}
-use Rattle.h5_rules.specs.formatting.FormattingNames.{html_name}
+use Rattle.h5_builder_spec.specs.formatting.FormattingNames.{html_name}
 use Rattle.h5_serialize.specs.Call.{Call, EndOf, StartOf, TextOf}
 use Rattle.h5_arena.specs.NodeCalls.{calls_around, calls_of, calls_of_children, calls_within, child_calls, shown_children}
-use Rattle.h5_plain.specs.Plain.{End, Nodes}
-use Rattle.h5_plain.specs.Plain as plain
-use Rattle.h5_plain.specs.Rebuilding.{Stands}
+use Rattle.h5_builder_laws.specs.Plain.{End, Nodes}
+use Rattle.h5_builder_laws.specs.Plain as plain
+use Rattle.h5_builder_laws.specs.Rebuilding.{Stands}
 use Rattle.h5_round_trip.proofs.WrittenLaws.{around_kind, none_stands}
 use Rattle.h5_clean.specs.Source.{CommentThen, DoctypeThen, Done, ElementThen, InstructionThen, Source, TextThen, calls_before, source_of}
 

@@ -5,7 +5,7 @@ use Rattle.std.proofs.lemmas.Str.{IsUtf8-append, IsUtf8-encode, IsUtf8-from_asci
 use Rattle.std.specs.Char.{IsScalar, encode_utf8}
 use Rattle.std.specs.Str.{all_scalars, encode_utf8_all, is_utf8}
 use Rattle.h5_serialize.proofs.EscapeLaws.{AreAbove, above_encode}
-use Rattle.h5_plain.specs.Plain.{NoNul}
+use Rattle.h5_builder_laws.specs.Plain.{NoNul}
 use Rattle.h5_round_trip.specs.Readable.{IsReadable, NoCr}
 use Rattle.h5_clean.specs.Calls.{is_nothing}
 use Rattle.h5_clean.specs.Texts.{readable, without_marks}

@@ -6,7 +6,7 @@ use Rattle.h5_serialize.specs.Call.{Call, EndOf, StartOf, TextOf}
 use Rattle.h5_serialize.specs.Standing.{Standing, answer_to, new_standing, standing_after, text_written}
 use Rattle.h5_serialize.specs.declared.fault.SerializeFault.{SerializeFault}
 use Rattle.h5_serialize.specs.declared.options.TraversalScope.TheVariants.{ChildrenOnly}
-use Rattle.h5_plain.specs.Plain.{doubled}
+use Rattle.h5_builder_laws.specs.Plain.{doubled}
 use Rattle.h5_clean.specs.Kinds.{kind_of}
 use Rattle.h5_clean.specs.Pass.{first_place, is_dropped, is_let}
 use Rattle.h5_clean.specs.Places.{inside, nowhere}

@@ -3,12 +3,12 @@ use Rattle.std.specs.Prelude.{◌≡◌, ℕ, true, false, List, [], Option, Som
 use Rattle.std.specs.Io.KnownBytes.{Appends}
 use Rattle.h5_names.specs.declared.qualified.QualName.{QualName}
 use Rattle.h5_interface.specs.Forest.{Forest}
-use Rattle.h5_rules.specs.formatting.FormattingNames.{html_name}
+use Rattle.h5_builder_spec.specs.formatting.FormattingNames.{html_name}
 use Rattle.h5_serialize.specs.Call.{Call}
 use Rattle.h5_serialize.specs.declared.options.TraversalScope.TheVariants.{ChildrenOnly}
 use Rattle.h5_arena.specs.ArenaModel.{ArenaView, arena_choices, forest_seen, fragment_root, seen_of, new_arena}
 use Rattle.h5_arena.specs.NodeCalls.{walk_of}
-use Rattle.h5_plain.specs.Plain.{Flow, IsPlain, Nodes}
+use Rattle.h5_builder_laws.specs.Plain.{Flow, IsPlain, Nodes}
 use Rattle.h5_round_trip.specs.Readable.{CanBeRead}
 use Rattle.h5_round_trip.specs.Written.{written_fragment}
 use Rattle.h5_driver.specs.Options.{default_options}

@@ -1,7 +1,7 @@
 -- The kind of an element's name. An element whose name has no kind is never allowed.
 use Rattle.std.specs.Prelude.{ℕ, Bool, true, false, List, [], ◌∷◌, ◌++◌, codes, if◌then◌else◌}
 use Rattle.h5_tables.specs.TagSets.{cell_names, heading_names, is_one_of}
-use Rattle.h5_plain.specs.Plain.{barrier_names, inline_names, mark_names, open_block_names, part_names, phrase_names, ruby_text_names, term_names}
+use Rattle.h5_builder_laws.specs.Plain.{barrier_names, inline_names, mark_names, open_block_names, part_names, phrase_names, ruby_text_names, term_names}
 use Rattle.h5_clean.specs.declared.kind.Kind.{Kind}
 use Rattle.h5_clean.specs.declared.kind.Kind.TheVariants as kind
 

@@ -2,7 +2,7 @@
 use Rattle.std.specs.Prelude.{◌≡◌, ℕ, ◌-◌, ◌≤◌, ◌&&◌, ◌||◌, Bool, true, false, not, List, [], ◌∷◌, ◌++◌, if◌then◌else◌}
 use Rattle.h5_names.specs.declared.qualified.QualName.{QualName}
 use Rattle.h5_serialize.specs.Names.{is_html}
-use Rattle.h5_plain.specs.Plain.{ElementThen, End, Nodes, TextThen}
+use Rattle.h5_builder_laws.specs.Plain.{ElementThen, End, Nodes, TextThen}
 use Rattle.h5_clean.specs.Kinds.{kind_of}
 use Rattle.h5_clean.specs.Places.{fits, inside, nowhere}
 use Rattle.h5_clean.specs.Policies.{Rules, attributes_left}

@@ -1,6 +1,6 @@
 -- Places for nodes: what is open there, and how much deeper elements may be nested.
 use Rattle.std.specs.Prelude.{◌-◌, ◌&&◌, Bool, true, false, not, nat_lt}
-use Rattle.h5_plain.specs.Plain.{Around, Cells, Columns, Flow, Part, Rows, Sections, Sort}
+use Rattle.h5_builder_laws.specs.Plain.{Around, Cells, Columns, Flow, Part, Rows, Sections, Sort}
 use Rattle.h5_clean.specs.declared.kind.Kind.{Kind}
 use Rattle.h5_clean.specs.declared.kind.Kind.TheVariants as kind
 use Rattle.h5_clean.specs.declared.place.Place.{Place}

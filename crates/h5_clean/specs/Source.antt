@@ -2,9 +2,9 @@
 use Rattle.std.specs.Prelude.{ℕ, List, ◌∷◌}
 use Rattle.h5_names.specs.AttributeText.{AttributeText}
 use Rattle.h5_names.specs.declared.qualified.QualName.{QualName}
-use Rattle.h5_rules.specs.formatting.FormattingNames.{html_name}
+use Rattle.h5_builder_spec.specs.formatting.FormattingNames.{html_name}
 use Rattle.h5_serialize.specs.Call.{Call, CommentOf, DoctypeOf, EndOf, InstructionOf, StartOf, TextOf}
-use Rattle.h5_plain.specs.Plain.{ElementThen as PlainElementThen, End, Nodes, TextThen as PlainTextThen}
+use Rattle.h5_builder_laws.specs.Plain.{ElementThen as PlainElementThen, End, Nodes, TextThen as PlainTextThen}
 
 -- texts, elements with their content, comments, doctypes and instructions
 pub data Source : Type 0 where

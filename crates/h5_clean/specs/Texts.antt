@@ -1,7 +1,7 @@
 -- What is left of a text, so that it is read back as it was written.
 use Rattle.std.specs.Prelude.{ℕ, ◌==◌, ◌&&◌, Bool, true, false, List, [], ◌∷◌, if◌then◌else◌}
 use Rattle.std.specs.Str.{is_utf8}
-use Rattle.h5_rules.specs.Blanks.{all_blank}
+use Rattle.h5_builder_spec.specs.Blanks.{all_blank}
 use Rattle.h5_clean.specs.declared.place.Spot.{Spot}
 use Rattle.h5_clean.specs.declared.place.Spot.TheVariants as spot
 

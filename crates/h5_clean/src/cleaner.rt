@@ -5,7 +5,7 @@ ghost use Rattle.h5_serialize.specs.Call.{TextOf};
 ghost use Rattle.h5_serialize.specs.Names.{is_html};
 ghost use Rattle.h5_serialize.specs.Standing.{answer_to, standing_after, text_written};
 ghost use Rattle.h5_serialize.specs.Walk.{Makes};
-ghost use Rattle.h5_plain.specs.Plain.{doubled};
+ghost use Rattle.h5_builder_laws.specs.Plain.{doubled};
 ghost use Rattle.h5_clean.specs.Calls.{after_call, answer_of, first_state, front_inside, place_among, text_of, without_front};
 ghost use Rattle.h5_clean.specs.Pass.{is_dropped};
 ghost use Rattle.h5_clean.specs.Places.{fits, nowhere};

@@ -4,7 +4,7 @@ ghost use Rattle.std.specs.Io.KnownBytes.{Appends};
 ghost use Rattle.h5_serialize.specs.declared.options.TraversalScope.TheVariants.{ChildrenOnly};
 ghost use Rattle.h5_arena.specs.NodeCalls.{walk_of};
 ghost use Rattle.h5_arena.specs.ArenaModel.{arena_choices, forest_seen, fragment_root, new_arena, place, seen_of};
-ghost use Rattle.h5_plain.specs.Plain.{Nodes};
+ghost use Rattle.h5_builder_laws.specs.Plain.{Nodes};
 ghost use Rattle.h5_round_trip.specs.Written.{written_fragment};
 ghost use Rattle.h5_tree_builder.specs.Held.{building};
 ghost use Rattle.h5_driver.specs.Fragments.{first_in_new, opts_in_context};

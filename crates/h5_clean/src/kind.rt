@@ -1,7 +1,7 @@
 //! The kinds of elements, by their names.
 ghost use Rattle.std.specs.Prelude.{◌≡◌};
 ghost use Rattle.h5_tables.specs.TagSets.{cell_names, heading_names, is_one_of};
-ghost use Rattle.h5_plain.specs.Plain.{barrier_names, inline_names, mark_names, open_block_names, part_names, phrase_names, ruby_text_names, term_names};
+ghost use Rattle.h5_builder_laws.specs.Plain.{barrier_names, inline_names, mark_names, open_block_names, part_names, phrase_names, ruby_text_names, term_names};
 ghost use Rattle.h5_clean.specs.Kinds.{early_barrier_names, early_phrase_names, kind_in, kind_of, late_barrier_names, late_phrase_names, lone_rows};
 
 /// What the rules of "in body" and of tables distinguish (HTML standard, section 13.2.6.4).
@@ -90,7 +90,7 @@ fn is_phrase(name: &str) -> bool
     is_early_phrase(name) || is_late_phrase(name)
 }
 
-#[tactic(auto, unfolding(h5_plain::specs::Plain::inline_names))]
+#[tactic(auto, unfolding(h5_builder_laws::specs::Plain::inline_names))]
 fn is_formatting(name: &str) -> bool
     ensures { result ≡ is_one_of inline_names name.now }
 {
@@ -110,7 +110,7 @@ fn is_formatting(name: &str) -> bool
     )
 }
 
-#[tactic(auto, unfolding(h5_plain::specs::Plain::open_block_names))]
+#[tactic(auto, unfolding(h5_builder_laws::specs::Plain::open_block_names))]
 fn is_division(name: &str) -> bool
     ensures { result ≡ is_one_of open_block_names name.now }
 {
@@ -162,7 +162,7 @@ fn is_barrier(name: &str) -> bool
     is_early_barrier(name) || is_late_barrier(name)
 }
 
-#[tactic(auto, unfolding(h5_plain::specs::Plain::mark_names))]
+#[tactic(auto, unfolding(h5_builder_laws::specs::Plain::mark_names))]
 fn is_break(name: &str) -> bool
     ensures { result ≡ is_one_of mark_names name.now }
 {
@@ -183,21 +183,21 @@ fn is_heading(name: &str) -> bool
     matches!(name, "h1" | "h2" | "h3" | "h4" | "h5" | "h6")
 }
 
-#[tactic(auto, unfolding(h5_plain::specs::Plain::term_names))]
+#[tactic(auto, unfolding(h5_builder_laws::specs::Plain::term_names))]
 fn is_term(name: &str) -> bool
     ensures { result ≡ is_one_of term_names name.now }
 {
     matches!(name, "dd" | "dt")
 }
 
-#[tactic(auto, unfolding(h5_plain::specs::Plain::part_names))]
+#[tactic(auto, unfolding(h5_builder_laws::specs::Plain::part_names))]
 fn is_part(name: &str) -> bool
     ensures { result ≡ is_one_of part_names name.now }
 {
     matches!(name, "tbody" | "tfoot" | "thead")
 }
 
-#[tactic(auto, unfolding(h5_plain::specs::Plain::ruby_text_names))]
+#[tactic(auto, unfolding(h5_builder_laws::specs::Plain::ruby_text_names))]
 fn is_ruby_text(name: &str) -> bool
     ensures { result ≡ is_one_of ruby_text_names name.now }
 {

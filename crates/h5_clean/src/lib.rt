@@ -11,7 +11,7 @@
 //! the one that writes HTML; `attributes` and `texts` have what is left of these, and `elements` the open elements.
 //!
 //! The crate depends on `h5_driver` for parsing, on `h5_arena` and `h5_serialize`, and on the plain fragments of
-//! `h5_plain` and `h5_round_trip`. Begin with `specs/Cleaned.antt`, then read `specs/Pass.antt` (what is left of a
+//! `h5_builder_laws` and `h5_round_trip`. Begin with `specs/Cleaned.antt`, then read `specs/Pass.antt` (what is left of a
 //! tree) and `specs/Places.antt`.
 #![tactic(auto)]
 

@@ -3,7 +3,7 @@ ghost use Rattle.std.specs.Prelude.{◌≡◌, true, IfOk, string_bytes};
 ghost use Rattle.h5_clean.specs.Texts.{may_stand, readable, without_marks};
 
 use super::place::Spot;
-use h5_state::is_blank_text;
+use h5_builder_state::is_blank_text;
 use std::alloc::{AllocError, Global};
 
 /// Returns true if a text has neither NUL nor CR, so that all of it is left.

@@ -2,11 +2,11 @@
 use Rattle.std.proofs.Common.{◌≡◌, ℕ, Bool, List, [], ◌∷◌, ◌++◌, refl, sym, ap, ◌∙◌, append_assoc, append-nil}
 use Rattle.h5_token.specs.Reply.{Reply}
 use Rattle.h5_token.specs.TokenText.{TokenText}
-use Rattle.h5_rules.specs.Run.{View, after_all, after_token, replies, reply_to, run}
+use Rattle.h5_builder_spec.specs.Run.{View, after_all, after_token, replies, reply_to, run}
 use Rattle.h5_arena.specs.ArenaModel.{ArenaView, arena_choices, place, seen_of}
 use Rattle.h5_arena.specs.declared.nodes.NodeId.{NodeId}
-use Rattle.h5_state.specs.View.{world}
-use Rattle.h5_state.specs.declared.state.State.{State}
+use Rattle.h5_builder_state.specs.View.{world}
+use Rattle.h5_builder_state.specs.declared.state.State.{State}
 use Rattle.h5_tree_builder.specs.Builder.{ended_view}
 use Rattle.h5_print.specs.Items.{ItemText, TheEnd, TokenAt}
 use Rattle.h5_commands.specs.Printed.{IsBuilt, after_items, replies_to_items}

@@ -7,7 +7,7 @@ use Rattle.h5_serialize.specs.declared.options.SerializeOpts.{SerializeOpts}
 use Rattle.h5_serialize.specs.declared.options.TraversalScope.TheVariants.{ChildrenOnly}
 use Rattle.h5_arena.specs.ArenaModel.{ArenaView, arena_choices, forest_seen, new_arena, seen_of}
 use Rattle.h5_arena.specs.NodeCalls.{walk_of}
-use Rattle.h5_rules.specs.Run.{View, after_token, reply_to}
+use Rattle.h5_builder_spec.specs.Run.{View, after_token, reply_to}
 use Rattle.h5_tree_builder.specs.Builder.{ended_view, first_building}
 use Rattle.h5_driver.specs.Options.{default_options}
 use Rattle.h5_driver.specs.Texts.{ParsesDocument, ParsesFragment}

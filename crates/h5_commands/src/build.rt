@@ -5,7 +5,7 @@ ghost use Rattle.h5_driver.specs.Fragments.{first_in_new, opts_in_context};
 ghost use Rattle.h5_driver.specs.Options.{default_options};
 ghost use Rattle.h5_driver.specs.PlainReader.{first};
 ghost use Rattle.h5_print.specs.Items.{item_texts};
-ghost use Rattle.h5_rules.specs.Run.{after_all, replies as replies_to};
+ghost use Rattle.h5_builder_spec.specs.Run.{after_all, replies as replies_to};
 ghost use Rattle.h5_print.specs.Replies.{reply_line};
 ghost use Rattle.h5_tree_builder.specs.Builder.{ended_view};
 ghost use Rattle.h5_tree_builder.specs.Held.{building};

@@ -4,15 +4,15 @@ use Rattle.h5_interface.specs.Seen.{Seen}
 use Rattle.h5_interface.specs.SinkChoices.{SinkChoices}
 use Rattle.h5_tables.specs.declared.modes.InsertionMode.TheVariants.{InTable, Text}
 use Rattle.h5_tables.specs.declared.options.TreeBuilderOpts.{TreeBuilderOpts}
-use Rattle.h5_rules.specs.Changes.{create_root}
-use Rattle.h5_rules.specs.fitting.Reset.{reset_mode}
-use Rattle.h5_rules.specs.Run.{View}
-use Rattle.h5_rules.specs.Sound.{Fitting}
-use Rattle.h5_rules.specs.World.{World}
-use Rattle.h5_rules.proofs.rows.RowTexts.{is_text, reset_no_text}
+use Rattle.h5_builder_spec.specs.Changes.{create_root}
+use Rattle.h5_builder_spec.specs.reset.Reset.{reset_mode}
+use Rattle.h5_builder_spec.specs.Run.{View}
+use Rattle.h5_builder_spec.specs.inner.Kept.{Fitting}
+use Rattle.h5_builder_spec.specs.World.{World}
+use Rattle.h5_builder_spec.proofs.rows.RowTexts.{is_text, reset_no_text}
 use Rattle.h5_tree_builder.specs.Builder.{first_building}
 use Rattle.h5_tree_builder.specs.Fragment.{first_fragment, rooted_world}
-use Rattle.h5_driver.specs.Working.{Begins, IsReady, IsWorking}
+use Rattle.h5_driver.specs.inner.Working.{Begins, IsReady, IsWorking}
 use Rattle.h5_driver.proofs.TakenLaws.{text_no_text}
 
 -- a new builder of a document is ready, and its mode isn't "text"

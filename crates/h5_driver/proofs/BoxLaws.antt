@@ -2,16 +2,17 @@
 use Rattle.std.proofs.Common.{◌≢◌, ◌++◌, ℕ, true, false, List, [], subst}
 use Rattle.h5_token.specs.TokenText.{TokenText}
 use Rattle.h5_interface.specs.SinkChoices.{SinkChoices}
-use Rattle.h5_plain.specs.Plain.{Around, Flow, IsPlain, Nodes}
-use Rattle.h5_plain.specs.Staying.{IsBox, tokens_of}
-use Rattle.h5_reading.specs.declared.options.TokenizerOpts.{TokenizerOpts}
+use Rattle.h5_builder_laws.specs.Plain.{Around, Flow, IsPlain, Nodes}
+use Rattle.h5_builder_laws.specs.Staying.{IsBox, tokens_of}
+use Rattle.h5_tokenizer_input.specs.declared.options.TokenizerOpts.{TokenizerOpts}
 use Rattle.h5_round_trip.specs.Inside.{TextsStayRead, text_before}
 use Rattle.h5_round_trip.specs.Readable.{CanBeRead}
-use Rattle.h5_rules.specs.Run.{View}
+use Rattle.h5_builder_spec.specs.Run.{View}
 use Rattle.h5_driver.specs.Boxes.{IsBuiltFrom, KeepsBox, PagesKeepBoxes}
 use Rattle.h5_driver.specs.Parsing.{joined, text_of, view_of}
-use Rattle.h5_driver.specs.Reading.{Advances, AreReadings}
-use Rattle.h5_driver.specs.Working.{IsReady}
+use Rattle.h5_driver.specs.Reading.{Advances}
+use Rattle.h5_driver.specs.inner.Readings.{AreReadings}
+use Rattle.h5_driver.specs.inner.Working.{IsReady}
 use Rattle.h5_driver.specs.declared.reader.Reader.{Ghosts}
 use Rattle.h5_driver.proofs.ReadingLaws.{followed_by, nothing_read, parses_behind, read_further}
 use Rattle.h5_driver.proofs.StreamLaws.{advance}

@@ -4,12 +4,13 @@ use Rattle.std.specs.Str.Lossy.{utf8_lossy}
 use Rattle.h5_token.specs.declared.fault.BuildFault.{BuildFault}
 use Rattle.h5_interface.specs.Seen.{Seen}
 use Rattle.h5_interface.specs.SinkChoices.{SinkChoices}
-use Rattle.h5_reading.specs.Decoding.{Decodes}
-use Rattle.h5_reading.proofs.DecodingLaws.{decodes_before, decodes_then}
+use Rattle.h5_tokenizer_input.specs.Decoding.{Decodes}
+use Rattle.h5_tokenizer_input.proofs.DecodingLaws.{decodes_before, decodes_then}
 use Rattle.h5_driver.specs.Bytes.{AdvancesBytes, ParsingBytes, ProcessedAllBytes, ProcessedBytes}
 use Rattle.h5_driver.specs.Parsing.{Parsing, joined, text_of, view_of}
-use Rattle.h5_driver.specs.Reading.{Advances, AreReadings, Parses}
-use Rattle.h5_driver.specs.Working.{IsReady}
+use Rattle.h5_driver.specs.Reading.{Advances, Parses}
+use Rattle.h5_driver.specs.inner.Readings.{AreReadings}
+use Rattle.h5_driver.specs.inner.Working.{IsReady}
 use Rattle.h5_driver.specs.declared.reader.Reader.{Ghosts}
 use Rattle.h5_driver.proofs.ReadingLaws.{followed_by, nothing_read, parses_behind, piece_taken}
 

@@ -1,22 +1,24 @@
 -- Errors over a builder don't depend on how a text is split.
 use Rattle.std.proofs.Common.{[], refl}
 use Rattle.h5_interface.specs.SinkChoices.{SinkChoices}
-use Rattle.h5_rules.specs.Run.{IsFitting, View}
-use Rattle.h5_plain.proofs.cuts.RunLaws.{token_cut}
-use Rattle.h5_plain.proofs.kept.FittingLaws.{token_fitting}
-use Rattle.h5_plain.proofs.StartLaws.{all_none}
-use Rattle.h5_plain.specs.Rebuilding.{with_scripting}
-use Rattle.h5_reading.specs.Options.{default_options as of_reader}
+use Rattle.h5_builder_spec.specs.inner.Kept.{IsFitting}
+use Rattle.h5_builder_spec.specs.Run.{View}
+use Rattle.h5_builder_laws.proofs.cuts.RunLaws.{token_cut}
+use Rattle.h5_builder_laws.proofs.kept.FittingLaws.{token_fitting}
+use Rattle.h5_builder_laws.proofs.StartLaws.{all_none}
+use Rattle.h5_builder_laws.specs.Rebuilding.{with_scripting}
+use Rattle.h5_tokenizer_input.specs.Options.{default_options as of_reader}
 use Rattle.h5_round_trip.proofs.standard.ReadingLaws.{document_tells_nothing}
 use Rattle.h5_round_trip.specs.Written.{written_of}
-use Rattle.h5_standard.specs.Options.{first_place}
-use Rattle.h5_states.proofs.WholeLaws.{end_ends}
-use Rattle.h5_states.specs.ReferenceTable.{references}
+use Rattle.h5_standard_tokenizer.specs.Options.{first_place}
+use Rattle.h5_tokenizer_spec.proofs.WholeLaws.{end_ends}
+use Rattle.h5_tokenizer_spec.specs.ReferenceTable.{references}
 use Rattle.h5_tree_builder.proofs.BuilderLaws.{fits_first}
 use Rattle.h5_tree_builder.specs.Builder.{first_building}
 use Rattle.h5_driver.specs.ErrorReports.{BuildsTheSame, DocumentsHaveNone, TextsHaveOneList}
 use Rattle.h5_driver.specs.KeptReadings.{readings_agree}
-use Rattle.h5_driver.specs.Working.{IsReady, after, ended, foreign, replies}
+use Rattle.h5_driver.specs.inner.Working.{IsReady}
+use Rattle.h5_driver.specs.BuilderSink.{after, ended, foreign, replies}
 use Rattle.h5_driver.proofs.KeptTellings.{tellings_agree, tellings_read}
 use Rattle.h5_driver.proofs.PlainLaws.{document_answers}
 

@@ -16,24 +16,25 @@ use Rattle.h5_interface.specs.SinkChoices.{Rearranges, SinkChoices}
 use Rattle.h5_interface.specs.declared.marks.ElementFlags.{ElementFlags}
 use Rattle.h5_interface.proofs.ForestLaws.{document_is_node}
 use Rattle.h5_interface.proofs.MakingLaws.{made_kind, make_element_rearranges}
-use Rattle.h5_reading.specs.Options as reading
-use Rattle.h5_reading.specs.declared.options.TokenizerOpts.{TokenizerOpts}
+use Rattle.h5_tokenizer_input.specs.Options as reading
+use Rattle.h5_tokenizer_input.specs.declared.options.TokenizerOpts.{TokenizerOpts}
 use Rattle.h5_tables.specs.declared.modes.InsertionMode.TheVariants.{InBody}
-use Rattle.h5_rules.specs.Changes.{create_root, pop}
-use Rattle.h5_rules.specs.Run.{IsFitting, View, after_all, refusal, step, taken, tell_or_refuse, without_lf}
-use Rattle.h5_rules.specs.Sound.{Fitting, Sound}
-use Rattle.h5_rules.specs.World.{World, current, name_in, name_of_found}
-use Rattle.h5_rules.specs.fitting.Reset.{reset_mode}
-use Rattle.h5_rules.specs.fitting.ResetByRoles.{reset}
-use Rattle.h5_rules.specs.fitting.Roles.{role_of, roles}
-use Rattle.h5_rules.specs.fitting.SituationChanges.{start_of}
-use Rattle.h5_plain.proofs.cuts.RunLaws.{step_reply, takes_text}
-use Rattle.h5_standard.specs.Mark.{behind_mark}
-use Rattle.h5_plain.specs.Plain.{Nodes, fragment_tokens}
-use Rattle.h5_plain.specs.Rebuilding.{HoldsDocument, IsFragmentStart, Looks, Stands, with_scripting}
-use Rattle.h5_plain.proofs.FragmentLaws.{rebuilds_fragments}
-use Rattle.h5_plain.proofs.GrowthLaws.{Below, element_below, html, kinds_apart}
-use Rattle.h5_plain.proofs.LooksLaws.{apart_from, looks_marked, looks_node, unlike}
+use Rattle.h5_builder_spec.specs.Changes.{create_root, pop}
+use Rattle.h5_builder_spec.specs.inner.Kept.{IsFitting, Fitting}
+use Rattle.h5_builder_spec.specs.Run.{View, after_all, refusal, step, taken, tell_or_refuse, without_lf}
+use Rattle.h5_builder_spec.specs.Sound.{Sound}
+use Rattle.h5_builder_spec.specs.World.{World, current, name_in, name_of_found}
+use Rattle.h5_builder_spec.specs.reset.Reset.{reset_mode}
+use Rattle.h5_builder_spec.specs.reset.ResetByRoles.{reset}
+use Rattle.h5_builder_spec.specs.reset.Roles.{role_of, roles}
+use Rattle.h5_builder_spec.specs.reset.SituationChanges.{start_of}
+use Rattle.h5_builder_laws.proofs.cuts.RunLaws.{step_reply, takes_text}
+use Rattle.h5_standard_tokenizer.specs.Mark.{behind_mark}
+use Rattle.h5_builder_laws.specs.Plain.{Nodes, fragment_tokens}
+use Rattle.h5_builder_laws.specs.Rebuilding.{HoldsDocument, IsFragmentStart, Looks, Stands, with_scripting}
+use Rattle.h5_builder_laws.proofs.FragmentLaws.{rebuilds_fragments}
+use Rattle.h5_builder_laws.proofs.GrowthLaws.{Below, element_below, html, kinds_apart}
+use Rattle.h5_builder_laws.proofs.LooksLaws.{apart_from, looks_marked, looks_node, unlike}
 use Rattle.h5_round_trip.specs.Fragment.{AnswersCuts}
 use Rattle.h5_round_trip.proofs.JoinedLaws.{fragment_joined}
 use Rattle.h5_round_trip.proofs.ShapeLaws.{shape}
@@ -43,9 +44,10 @@ use Rattle.h5_tree_builder.specs.Fragment.{context_modes, fragment_world, rooted
 use Rattle.h5_tree_builder.proofs.FragmentLaws.{fragment_fits, rooted_names, rooted_situation, rooted_steady}
 use Rattle.h5_driver.specs.Fragments.{first_in_new, opts_in_context}
 use Rattle.h5_driver.specs.PlainFragments.{FragmentStands, FragmentsComeBackBy, IsBodyContext, IsFragmentText}
-use Rattle.h5_driver.specs.Reading.{AreReadings, Parses}
+use Rattle.h5_driver.specs.inner.Readings.{AreReadings}
+use Rattle.h5_driver.specs.Reading.{Parses}
 use Rattle.h5_driver.specs.WholeTexts.{ParsesFragmentBy}
-use Rattle.h5_driver.specs.Working.{replies}
+use Rattle.h5_driver.specs.BuilderSink.{replies}
 use Rattle.h5_driver.proofs.PlainLaws.{answers_by, same_children, sound_after, sound_popped, stand_marked}
 
 -- ---- if a text is taken, so are its parts

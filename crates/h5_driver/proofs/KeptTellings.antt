@@ -2,16 +2,16 @@
 use Rattle.std.proofs.Common.{◌≡◌, ℕ, Bool, List, [], ◌∷◌, ◌++◌, inl, inr, refl, subst, sym}
 use Rattle.h5_token.specs.TokenText.{Characters, TokenText}
 use Rattle.h5_token.specs.Reply.{Reply}
-use Rattle.h5_states.specs.declared.position.LocatedError.{LocatedError}
-use Rattle.h5_states.specs.declared.position.Spot.{Spot}
-use Rattle.h5_states.specs.References.{Reference}
-use Rattle.h5_states.specs.Reading.{Passes, Read, ReaderPlace, quiet_step, read_on}
-use Rattle.h5_states.specs.Telling.{MeetsByte, Reached, Reaches, again, asks, at_first, begins, drops, goes, hands_nothing, hands_text, hands_token}
-use Rattle.h5_states.specs.Turn.{Outcome}
-use Rattle.h5_states.specs.Whole.{Readings, more_reading, no_reading}
-use Rattle.h5_states.specs.WholeTelling.{Tellings, TellsToEnd, more_telling, no_telling}
-use Rattle.h5_states.proofs.TellingLaws.{reaches_read}
-use Rattle.h5_states.proofs.ToldCutLaws.{told_agree}
+use Rattle.h5_tokenizer_spec.specs.declared.position.LocatedError.{LocatedError}
+use Rattle.h5_tokenizer_spec.specs.declared.position.Spot.{Spot}
+use Rattle.h5_tokenizer_spec.specs.References.{Reference}
+use Rattle.h5_tokenizer_spec.specs.Reading.{Passes, Read, ReaderPlace, quiet_step, read_on}
+use Rattle.h5_tokenizer_spec.specs.Telling.{MeetsByte, Reached, Reaches, again, asks, at_first, begins, drops, goes, hands_nothing, hands_text, hands_token}
+use Rattle.h5_tokenizer_spec.specs.Turn.{Outcome}
+use Rattle.h5_tokenizer_spec.specs.Whole.{Readings, more_reading, no_reading}
+use Rattle.h5_tokenizer_spec.specs.WholeTelling.{Tellings, TellsToEnd, more_telling, no_telling}
+use Rattle.h5_tokenizer_spec.proofs.TellingLaws.{reaches_read}
+use Rattle.h5_tokenizer_spec.proofs.ToldCutLaws.{told_agree}
 use Rattle.h5_driver.specs.KeptReadings.{Kept, blind, kept, kept_after, kept_foreign, kept_reply, same_meaning}
 
 module _ (table : List Reference) {M : Type 0} (reply_to : M → TokenText → Reply) (after : M → TokenText → ℕ → M) (foreign : M → Bool) (Holds : M → Type 0) (keeps : (m : M) (t : TokenText) (line : ℕ) → Holds m → Holds (after m t line)) where

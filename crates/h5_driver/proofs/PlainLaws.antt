@@ -7,27 +7,29 @@ use Rattle.h5_interface.specs.Forest.{Child, ChildNode, ChildText, DoctypeNode, 
 use Rattle.h5_interface.specs.Seen.{Seen}
 use Rattle.h5_interface.specs.SinkChoices.{SinkChoices}
 use Rattle.h5_interface.specs.declared.marks.QuirksMode.TheVariants.{NoQuirks}
-use Rattle.h5_rules.specs.Changes.{pop}
-use Rattle.h5_rules.specs.Run as r
-use Rattle.h5_rules.specs.Run.{IsFitting, View, after_all, after_token, refusal, run, take_or_refuse}
-use Rattle.h5_rules.specs.Sound.{Sound}
-use Rattle.h5_rules.specs.formatting.FormattingNames.{html_name}
-use Rattle.h5_rules.specs.World.{World}
-use Rattle.h5_plain.specs.Plain.{ElementThen, End, Nodes, PlainDocument, TextThen, document_tokens, plain_reply, root_of}
-use Rattle.h5_plain.specs.Rebuilding.{DocumentStands, HoldsDocument, IsStart, Looks, Stands, with_scripting}
+use Rattle.h5_builder_spec.specs.Changes.{pop}
+use Rattle.h5_builder_spec.specs.Run as r
+use Rattle.h5_builder_spec.specs.inner.Kept.{IsFitting}
+use Rattle.h5_builder_spec.specs.Run.{View, after_all, after_token, refusal, run, take_or_refuse}
+use Rattle.h5_builder_spec.specs.Sound.{Sound}
+use Rattle.h5_builder_spec.specs.formatting.FormattingNames.{html_name}
+use Rattle.h5_builder_spec.specs.World.{World}
+use Rattle.h5_builder_laws.specs.Plain.{ElementThen, End, Nodes, PlainDocument, TextThen, document_tokens, plain_reply, root_of}
+use Rattle.h5_builder_laws.specs.Rebuilding.{DocumentStands, HoldsDocument, IsStart, Looks, Stands, with_scripting}
 use Rattle.h5_tree_builder.specs.Builder.{first_building, pop_each}
-use Rattle.h5_driver.specs.Reading.{AreReadings, Parses}
-use Rattle.h5_driver.specs.Working.{after, ended, replies}
+use Rattle.h5_driver.specs.inner.Readings.{AreReadings}
+use Rattle.h5_driver.specs.Reading.{Parses}
+use Rattle.h5_driver.specs.BuilderSink.{after, ended, replies}
 use Rattle.h5_round_trip.specs.Readable.{IsReadableDocument}
 use Rattle.h5_driver.specs.PlainDocuments.{BringsBack, ComesBack}
 use Rattle.h5_round_trip.specs.Written.{written_of}
-use Rattle.h5_reading.specs.Options as reading
-use Rattle.h5_reading.specs.declared.options.TokenizerOpts.{TokenizerOpts}
-use Rattle.h5_rules.proofs.changes.ClosingLaws.{pop_sound}
-use Rattle.h5_plain.proofs.kept.FittingLaws.{token_fitting}
-use Rattle.h5_plain.proofs.LooksLaws.{looks_marked}
-use Rattle.h5_plain.proofs.StartLaws.{all_none}
-use Rattle.h5_plain.proofs.WholeLaws.{rebuilds_all}
+use Rattle.h5_tokenizer_input.specs.Options as reading
+use Rattle.h5_tokenizer_input.specs.declared.options.TokenizerOpts.{TokenizerOpts}
+use Rattle.h5_builder_spec.proofs.changes.ClosingLaws.{pop_sound}
+use Rattle.h5_builder_laws.proofs.kept.FittingLaws.{token_fitting}
+use Rattle.h5_builder_laws.proofs.LooksLaws.{looks_marked}
+use Rattle.h5_builder_laws.proofs.StartLaws.{all_none}
+use Rattle.h5_builder_laws.proofs.WholeLaws.{rebuilds_all}
 use Rattle.h5_tree_builder.proofs.BuilderLaws.{fits_first}
 use Rattle.h5_round_trip.proofs.JoinedLaws.{document_joined}
 use Rattle.h5_round_trip.specs.Answers.{Answers}

@@ -4,10 +4,12 @@ use Rattle.h5_token.specs.TokenText.{TokenText}
 use Rattle.h5_token.specs.declared.fault.BuildFault.{BuildFault}
 use Rattle.h5_interface.specs.Seen.{Seen}
 use Rattle.h5_interface.specs.SinkChoices.{SinkChoices}
-use Rattle.h5_rules.specs.Run.{View, after_all}
-use Rattle.h5_reading.specs.declared.options.TokenizerOpts.{TokenizerOpts}
-use Rattle.h5_driver.specs.Reading.{Advances, AreReadings, IsReadToEnd, Parses}
-use Rattle.h5_driver.specs.Working.{IsReady, ended}
+use Rattle.h5_builder_spec.specs.Run.{View, after_all}
+use Rattle.h5_tokenizer_input.specs.declared.options.TokenizerOpts.{TokenizerOpts}
+use Rattle.h5_driver.specs.Reading.{Advances, IsReadToEnd, Parses}
+use Rattle.h5_driver.specs.inner.Readings.{AreReadings}
+use Rattle.h5_driver.specs.inner.Working.{IsReady}
+use Rattle.h5_driver.specs.BuilderSink.{ended}
 
 module _ {T : Type 0} {choices : SinkChoices} {first : TokenizerOpts → T} {Readings : T → View → List ℕ → List TokenText → T → View → List ℕ → Type 0} {Reads : T → View → List ℕ → List TokenText → View → Type 0}
     (law : AreReadings choices first Readings Reads) where

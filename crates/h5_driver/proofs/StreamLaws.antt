@@ -2,9 +2,10 @@
 use Rattle.std.proofs.Common.{◌++◌, ℕ, List, [], ◌∷◌, sym, subst, append_assoc, append-nil}
 use Rattle.h5_interface.specs.Seen.{Seen}
 use Rattle.h5_interface.specs.SinkChoices.{SinkChoices}
-use Rattle.h5_rules.specs.Run.{View}
+use Rattle.h5_builder_spec.specs.Run.{View}
 use Rattle.h5_driver.specs.Parsing.{Parsing, ProcessedAll, joined, text_of, view_of}
-use Rattle.h5_driver.specs.Reading.{Advances, AreReadings, Parses}
+use Rattle.h5_driver.specs.Reading.{Advances, Parses}
+use Rattle.h5_driver.specs.inner.Readings.{AreReadings}
 use Rattle.h5_driver.specs.declared.reader.Reader.{Ghosts}
 use Rattle.h5_driver.proofs.ReadingLaws.{nothing_read, parses_behind, piece_taken}
 

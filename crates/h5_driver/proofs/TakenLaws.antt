@@ -9,15 +9,16 @@ use Rattle.h5_token.specs.declared.tag.TagKind.TheVariants.{EndTag, StartTag}
 use Rattle.h5_interface.specs.SinkChoices.{SinkChoices}
 use Rattle.h5_tables.specs.declared.modes.InsertionMode.{InsertionMode}
 use Rattle.h5_tables.specs.declared.modes.InsertionMode.TheVariants.{Text}
-use Rattle.h5_rules.specs.modes.InTableText.{saved_mode}
-use Rattle.h5_rules.specs.Run.{View, after_token, is_refused_in_text, refuses_in, reply_to, step, take_or_refuse, tell_or_refuse}
-use Rattle.h5_plain.proofs.kept.FittingLaws.{step_fitting}
-use Rattle.h5_plain.proofs.cuts.RunLaws.{is_taken}
-use Rattle.h5_plain.proofs.replies.TextReadLaws.{IsCalm, Leads, TagLeads, TokenLeads, mode_is_text, step_leads}
-use Rattle.h5_rules.proofs.rows.RowTexts.{NoTextBehind, is_text}
-use Rattle.h5_reading.specs.Answers.{refuses}
-use Rattle.h5_reading.specs.Taking.{Finishes, Takes}
-use Rattle.h5_driver.specs.Working.{IsReady, after, ended, replies}
+use Rattle.h5_builder_spec.specs.modes.InTableText.{saved_mode}
+use Rattle.h5_builder_spec.specs.Run.{View, after_token, is_refused_in_text, refuses_in, reply_to, step, take_or_refuse, tell_or_refuse}
+use Rattle.h5_builder_laws.proofs.kept.FittingLaws.{step_fitting}
+use Rattle.h5_builder_laws.proofs.cuts.RunLaws.{is_taken}
+use Rattle.h5_builder_laws.proofs.replies.TextReadLaws.{IsCalm, Leads, TagLeads, TokenLeads, mode_is_text, step_leads}
+use Rattle.h5_builder_spec.proofs.rows.RowTexts.{NoTextBehind, is_text}
+use Rattle.h5_tokenizer_input.specs.Answers.{refuses}
+use Rattle.h5_tokenizer_input.specs.Taking.{Finishes, Takes}
+use Rattle.h5_driver.specs.inner.Working.{IsReady}
+use Rattle.h5_driver.specs.BuilderSink.{after, ended, replies}
 
 -- a token that the mode "text" doesn't refuse, or that comes in another mode, isn't refused
 pub comes : (m : InsertionMode) (t : TokenText) → (m ≡ Text → is_refused_in_text t ≡ false) → refuses_in m t ≡ false

@@ -3,9 +3,9 @@ use Rattle.std.specs.Prelude.{◌≡◌, ◌≢◌, ℕ, true, false, List, [], 
 use Rattle.h5_token.specs.TokenText.{TokenText}
 use Rattle.h5_interface.specs.Seen.{Seen}
 use Rattle.h5_interface.specs.SinkChoices.{SinkChoices}
-use Rattle.h5_rules.specs.Run.{View}
-use Rattle.h5_plain.specs.Plain.{Around, Flow, IsPlain, Nodes}
-use Rattle.h5_plain.specs.Staying.{IsBox, standing}
+use Rattle.h5_builder_spec.specs.Run.{View}
+use Rattle.h5_builder_laws.specs.Plain.{Around, Flow, IsPlain, Nodes}
+use Rattle.h5_builder_laws.specs.Staying.{IsBox, standing}
 use Rattle.h5_round_trip.specs.Inside.{StaysRead, text_before}
 use Rattle.h5_round_trip.specs.Readable.{CanBeRead}
 use Rattle.h5_driver.specs.Parsing.{IsParsing, Parsing, ProcessedAll, joined, text_of, view_of}

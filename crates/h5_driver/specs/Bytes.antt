@@ -1,6 +1,6 @@
 -- A parser of bytes, and its calls.
 use Rattle.std.specs.Prelude.{◌≡◌, ℕ, List, [], ◌∷◌, ◌++◌}
-use Rattle.h5_reading.specs.Decoding.{IsDecoded, Decodes}
+use Rattle.h5_tokenizer_input.specs.Decoding.{IsDecoded, Decodes}
 use Rattle.h5_driver.specs.Parsing.{Parsing, Processed, text_of, view_of}
 use Rattle.h5_driver.specs.Reading.{Advances}
 use Rattle.h5_driver.specs.declared.reader.Reader.{Ghosts}

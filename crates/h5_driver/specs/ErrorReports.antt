@@ -3,23 +3,24 @@ use Rattle.std.specs.Prelude.{◌≡◌, ℕ, Bool, List, [], Ok}
 use Rattle.h5_token.specs.TokenText.{TokenText}
 use Rattle.h5_interface.specs.Seen.{Seen}
 use Rattle.h5_interface.specs.SinkChoices.{SinkChoices}
-use Rattle.h5_rules.specs.Run.{View}
-use Rattle.h5_reading.specs.Options.{default_options as of_reader}
-use Rattle.h5_states.specs.declared.position.LocatedError.{LocatedError}
-use Rattle.h5_states.specs.declared.position.Spot.{Spot}
-use Rattle.h5_states.specs.End.{Closes}
-use Rattle.h5_states.specs.Reading.{ReaderPlace}
-use Rattle.h5_states.specs.ReferenceTable.{references}
-use Rattle.h5_states.specs.Whole.{ReadsToEnd}
-use Rattle.h5_states.specs.WholeTelling.{Tellings, TellsToEnd}
-use Rattle.h5_states.specs.WithoutErrors.{HasNoInputErrors}
-use Rattle.h5_standard.specs.Options.{first_place}
-use Rattle.h5_plain.specs.Plain.{PlainDocument}
-use Rattle.h5_plain.specs.Rebuilding.{HoldsDocument, with_scripting}
+use Rattle.h5_builder_spec.specs.Run.{View}
+use Rattle.h5_tokenizer_input.specs.Options.{default_options as of_reader}
+use Rattle.h5_tokenizer_spec.specs.declared.position.LocatedError.{LocatedError}
+use Rattle.h5_tokenizer_spec.specs.declared.position.Spot.{Spot}
+use Rattle.h5_tokenizer_spec.specs.End.{Closes}
+use Rattle.h5_tokenizer_spec.specs.Reading.{ReaderPlace}
+use Rattle.h5_tokenizer_spec.specs.ReferenceTable.{references}
+use Rattle.h5_tokenizer_spec.specs.Whole.{ReadsToEnd}
+use Rattle.h5_tokenizer_spec.specs.WholeTelling.{Tellings, TellsToEnd}
+use Rattle.h5_tokenizer_spec.specs.WithoutErrors.{HasNoInputErrors}
+use Rattle.h5_standard_tokenizer.specs.Options.{first_place}
+use Rattle.h5_builder_laws.specs.Plain.{PlainDocument}
+use Rattle.h5_builder_laws.specs.Rebuilding.{HoldsDocument, with_scripting}
 use Rattle.h5_round_trip.specs.Readable.{IsReadableDocument}
 use Rattle.h5_round_trip.specs.Written.{written_of}
 use Rattle.h5_tree_builder.specs.Builder.{first_building}
-use Rattle.h5_driver.specs.Working.{IsReady, after, ended, foreign, replies}
+use Rattle.h5_driver.specs.inner.Working.{IsReady}
+use Rattle.h5_driver.specs.BuilderSink.{after, ended, foreign, replies}
 
 module _ (choices : SinkChoices) where
   -- a text is read to its end in some chunks, and these errors are reported

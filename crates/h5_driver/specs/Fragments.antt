@@ -6,9 +6,9 @@ use Rattle.h5_interface.specs.NewElement.{flags_of}
 use Rattle.h5_interface.specs.Seen.{Seen, after_create_element}
 use Rattle.h5_interface.specs.SinkChoices.{SinkChoices}
 use Rattle.h5_tables.specs.declared.options.TreeBuilderOpts.{TreeBuilderOpts}
-use Rattle.h5_rules.specs.World.{World}
-use Rattle.h5_reading.specs.Options.{beginning_in}
-use Rattle.h5_reading.specs.declared.options.TokenizerOpts.{TokenizerOpts}
+use Rattle.h5_builder_spec.specs.World.{World}
+use Rattle.h5_tokenizer_input.specs.Options.{beginning_in}
+use Rattle.h5_tokenizer_input.specs.declared.options.TokenizerOpts.{TokenizerOpts}
 use Rattle.h5_tree_builder.specs.Builder.{Building}
 use Rattle.h5_tree_builder.specs.Fragment.{first_fragment, state_by_context}
 

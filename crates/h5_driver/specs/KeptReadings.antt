@@ -2,13 +2,13 @@
 use Rattle.std.proofs.Common.{◌≡◌, ℕ, Bool, List, [], ◌∷◌, ◌++◌, refl, ap, sym, ◌∙◌}
 use Rattle.h5_token.specs.TokenText.{Characters, EndOfFile, TokenText}
 use Rattle.h5_token.specs.Reply.{Reply}
-use Rattle.h5_reading.specs.Blindness.{IsBlindToCuts}
-use Rattle.h5_reading.specs.Told.{after_all}
-use Rattle.h5_states.specs.References.{Reference}
-use Rattle.h5_states.specs.Reading.{ReaderPlace, Step, quiet_step, text_step, token_step, ask_step, Read, nothing_read, read_on}
-use Rattle.h5_states.specs.End.{last_tokens}
-use Rattle.h5_states.specs.Whole.{Readings, ReadsToEnd, more_reading, no_reading}
-use Rattle.h5_states.proofs.CutLaws.{cuts_agree}
+use Rattle.h5_tokenizer_input.specs.Blindness.{IsBlindToCuts}
+use Rattle.h5_tokenizer_input.specs.Told.{after_all}
+use Rattle.h5_tokenizer_spec.specs.References.{Reference}
+use Rattle.h5_tokenizer_spec.specs.Reading.{ReaderPlace, Step, quiet_step, text_step, token_step, ask_step, Read, nothing_read, read_on}
+use Rattle.h5_tokenizer_spec.specs.End.{last_tokens}
+use Rattle.h5_tokenizer_spec.specs.Whole.{Readings, ReadsToEnd, more_reading, no_reading}
+use Rattle.h5_tokenizer_spec.proofs.CutLaws.{cuts_agree}
 
 -- a meaning with the property
 pub record Kept (M : Type 0) (Holds : M → Type 0) : Type 0 where

@@ -1,4 +1,5 @@
 pub mod Boxes
+pub mod BuilderSink
 pub mod Bytes
 pub mod ErrorReports
 pub mod Fragments
@@ -15,4 +16,4 @@ pub mod StandardReaderLaws
 pub mod StandardTexts
 pub mod Texts
 pub mod WholeTexts
-pub mod Working
+pub mod inner

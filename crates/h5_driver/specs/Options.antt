@@ -1,8 +1,8 @@
 -- The default options.
 use Rattle.std.specs.Prelude.{Bool}
 use Rattle.h5_tables.specs.Options.{default_options as of_builder}
-use Rattle.h5_reading.specs.Options.{default_options as of_reader}
-use Rattle.h5_plain.specs.Rebuilding.{with_scripting}
+use Rattle.h5_tokenizer_input.specs.Options.{default_options as of_reader}
+use Rattle.h5_builder_laws.specs.Rebuilding.{with_scripting}
 use Rattle.h5_driver.specs.declared.options.ParseOpts.{ParseOpts}
 
 abbrev pub default_options : ParseOpts

@@ -1,9 +1,9 @@
 -- A parser, and its calls.
 use Rattle.std.specs.Prelude.{◌≡◌, ℕ, Bool, false, List, [], ◌∷◌, ◌++◌}
-use Rattle.h5_rules.specs.Run.{View}
-use Rattle.h5_reading.specs.declared.stage.Stage.TheVariants.{Reading}
+use Rattle.h5_builder_spec.specs.Run.{View}
+use Rattle.h5_tokenizer_input.specs.declared.stage.Stage.TheVariants.{Reading}
 use Rattle.h5_driver.specs.Reading.{Advances}
-use Rattle.h5_driver.specs.Working.{IsWorking}
+use Rattle.h5_driver.specs.inner.Working.{IsWorking}
 use Rattle.h5_driver.specs.declared.reader.Reader.{Ghosts}
 
 -- its tokenizer, the waiting text, and whether it has failed

@@ -3,11 +3,11 @@ use Rattle.std.specs.Prelude.{◌≡◌, ℕ, Bool, List, []}
 use Rattle.h5_interface.specs.Forest.{IsForest}
 use Rattle.h5_interface.specs.Seen.{Seen}
 use Rattle.h5_interface.specs.declared.marks.QuirksMode.TheVariants.{NoQuirks}
-use Rattle.h5_rules.specs.Run.{View}
-use Rattle.h5_reading.specs.Options.{default_options as of_reader}
-use Rattle.h5_reading.specs.declared.options.TokenizerOpts.{TokenizerOpts}
-use Rattle.h5_plain.specs.Plain.{PlainDocument}
-use Rattle.h5_plain.specs.Rebuilding.{DocumentStands, HoldsDocument, with_scripting}
+use Rattle.h5_builder_spec.specs.Run.{View}
+use Rattle.h5_tokenizer_input.specs.Options.{default_options as of_reader}
+use Rattle.h5_tokenizer_input.specs.declared.options.TokenizerOpts.{TokenizerOpts}
+use Rattle.h5_builder_laws.specs.Plain.{PlainDocument}
+use Rattle.h5_builder_laws.specs.Rebuilding.{DocumentStands, HoldsDocument, with_scripting}
 use Rattle.h5_tree_builder.specs.Builder.{first_building}
 use Rattle.h5_round_trip.specs.Readable.{IsReadableDocument}
 use Rattle.h5_round_trip.specs.Written.{written_of}

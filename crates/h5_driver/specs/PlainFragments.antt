@@ -9,17 +9,16 @@ use Rattle.h5_interface.specs.NewElement.{is_html_template}
 use Rattle.h5_interface.specs.Seen.{Seen}
 use Rattle.h5_interface.specs.SinkChoices.{SinkChoices}
 use Rattle.h5_tables.specs.declared.modes.InsertionMode.TheVariants.{InBody}
-use Rattle.h5_reading.specs.declared.options.TokenizerOpts.{TokenizerOpts}
-use Rattle.h5_rules.specs.Run.{View}
-use Rattle.h5_rules.specs.fitting.Fits.{Situation}
-use Rattle.h5_rules.specs.fitting.NamesFit.{is_html_element}
-use Rattle.h5_rules.specs.fitting.ResetByRoles.{decide_root}
-use Rattle.h5_rules.specs.fitting.Roles.{role_of}
-use Rattle.h5_rules.specs.formatting.FormattingNames.{html_name}
-use Rattle.h5_standard.specs.Mark.{behind_mark}
+use Rattle.h5_tokenizer_input.specs.declared.options.TokenizerOpts.{TokenizerOpts}
+use Rattle.h5_builder_spec.specs.Run.{View}
+use Rattle.h5_builder_spec.specs.reset.Situation.{Situation}
+use Rattle.h5_builder_spec.specs.reset.Roles.{is_html_element, role_of}
+use Rattle.h5_builder_spec.specs.reset.ResetByRoles.{decide_root}
+use Rattle.h5_builder_spec.specs.formatting.FormattingNames.{html_name}
+use Rattle.h5_standard_tokenizer.specs.Mark.{behind_mark}
 use Rattle.h5_tree_builder.specs.Fragment.{context_modes, state_in_context}
-use Rattle.h5_plain.specs.Plain.{Flow, IsPlain, Nodes, nothing_open}
-use Rattle.h5_plain.specs.Rebuilding.{HoldsDocument, Looks, Stands}
+use Rattle.h5_builder_laws.specs.Plain.{Flow, IsPlain, Nodes, nothing_open}
+use Rattle.h5_builder_laws.specs.Rebuilding.{HoldsDocument, Looks, Stands}
 use Rattle.h5_round_trip.specs.Readable.{CanBeRead}
 use Rattle.h5_round_trip.specs.Written.{written_fragment}
 use Rattle.h5_driver.specs.Options.{options_with}

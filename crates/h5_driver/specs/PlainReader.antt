@@ -2,17 +2,17 @@
 use Rattle.std.specs.Prelude.{◌≡◌, ℕ, List, [], ◌++◌, length}
 use Rattle.h5_token.specs.TokenText.{TokenText}
 use Rattle.h5_interface.specs.SinkChoices.{SinkChoices}
-use Rattle.h5_rules.specs.Run.{View}
-use Rattle.h5_reading.specs.declared.options.TokenizerOpts.{TokenizerOpts}
-use Rattle.h5_reading.specs.declared.stage.Stage.TheVariants.{Reading}
-use Rattle.h5_tokenizer.specs.Options.{first_place}
-use Rattle.h5_tokenizer.specs.Read as reader
-use Rattle.h5_tokenizer.specs.ReaderText.{ReaderText}
-use Rattle.h5_tokenizer.specs.Whole as whole
-use Rattle.h5_tokenizer.specs.declared.front.Mode.{Mode}
-use Rattle.h5_tokenizer.specs.declared.front.Mode.TheVariants.{RawData}
+use Rattle.h5_builder_spec.specs.Run.{View}
+use Rattle.h5_tokenizer_input.specs.declared.options.TokenizerOpts.{TokenizerOpts}
+use Rattle.h5_tokenizer_input.specs.declared.stage.Stage.TheVariants.{Reading}
+use Rattle.h5_plain_tokenizer.specs.Options.{first_place}
+use Rattle.h5_plain_tokenizer.specs.Read as reader
+use Rattle.h5_plain_tokenizer.specs.ReaderText.{ReaderText}
+use Rattle.h5_plain_tokenizer.specs.Whole as whole
+use Rattle.h5_plain_tokenizer.specs.declared.front.Mode.{Mode}
+use Rattle.h5_plain_tokenizer.specs.declared.front.Mode.TheVariants.{RawData}
 use Rattle.h5_round_trip.specs.Inside.{IsInPlainData}
-use Rattle.h5_driver.specs.Working.{after, ended, foreign, replies}
+use Rattle.h5_driver.specs.BuilderSink.{after, ended, foreign, replies}
 
 -- before it has read anything
 abbrev pub first : TokenizerOpts → ReaderText

@@ -4,27 +4,28 @@ use Rattle.std.proofs.Common.{refl, ap, sym, subst, ◌∙◌, append_assoc}
 use Rattle.std.proofs.lemmas.List.{append-nil}
 use Rattle.h5_token.specs.TokenText.{TokenText}
 use Rattle.h5_interface.specs.SinkChoices.{SinkChoices}
-use Rattle.h5_rules.specs.Run.{IsFitting, View, after_all, run}
-use Rattle.h5_plain.proofs.cuts.JoinLaws.{view_joins}
-use Rattle.h5_plain.proofs.cuts.RunLaws.{token_cut}
-use Rattle.h5_plain.proofs.kept.FittingLaws.{token_fitting}
-use Rattle.h5_reading.specs.Lines.{line_behind}
-use Rattle.h5_tokenizer.specs.End.{settle}
-use Rattle.h5_tokenizer.specs.Front.{ReaderPlace}
-use Rattle.h5_tokenizer.specs.Whole.{Readings, ReadsToEnd, after_closing, closing, more_reading, no_reading}
-use Rattle.h5_tokenizer.proofs.KeptLaws.{readings_agree}
-use Rattle.h5_tokenizer.proofs.WholeLaws.{readings_go_on}
-use Rattle.h5_tokenizer.specs.ReaderText.{ReaderText}
-use Rattle.h5_reading.proofs.AnswerLaws.{unrefused}
+use Rattle.h5_builder_spec.specs.inner.Kept.{IsFitting}
+use Rattle.h5_builder_spec.specs.Run.{View, after_all, run}
+use Rattle.h5_builder_laws.proofs.cuts.JoinLaws.{view_joins}
+use Rattle.h5_builder_laws.proofs.cuts.RunLaws.{token_cut}
+use Rattle.h5_builder_laws.proofs.kept.FittingLaws.{token_fitting}
+use Rattle.h5_tokenizer_input.specs.Lines.{line_behind}
+use Rattle.h5_plain_tokenizer.specs.End.{settle}
+use Rattle.h5_plain_tokenizer.specs.Front.{ReaderPlace}
+use Rattle.h5_plain_tokenizer.specs.Whole.{Readings, ReadsToEnd, after_closing, closing, more_reading, no_reading}
+use Rattle.h5_plain_tokenizer.proofs.KeptLaws.{readings_agree}
+use Rattle.h5_plain_tokenizer.proofs.WholeLaws.{readings_go_on}
+use Rattle.h5_plain_tokenizer.specs.ReaderText.{ReaderText}
+use Rattle.h5_tokenizer_input.proofs.AnswerLaws.{unrefused}
 use Rattle.h5_round_trip.proofs.InsideLaws.{read_runs, texts_stay}
 use Rattle.h5_round_trip.proofs.ReadingLaws.{document_read, fragment_read}
 use Rattle.h5_round_trip.proofs.ShapeLaws.{shape}
-use Rattle.h5_plain.specs.Plain.{fragment_tokens}
-use Rattle.h5_plain.specs.Staying.{standing, tokens_of}
+use Rattle.h5_builder_laws.specs.Plain.{fragment_tokens}
+use Rattle.h5_builder_laws.specs.Staying.{standing, tokens_of}
 use Rattle.h5_round_trip.specs.Inside.{TextsStayRead, text_before}
 use Rattle.h5_driver.specs.PlainReader as reader
-use Rattle.h5_driver.specs.Reading.{AreReadings}
-use Rattle.h5_driver.specs.Working.{after, ended, foreign, replies}
+use Rattle.h5_driver.specs.inner.Readings.{AreReadings}
+use Rattle.h5_driver.specs.BuilderSink.{after, ended, foreign, replies}
 
 -- a text is read to its end, from a place
 abbrev ReadsAt : SinkChoices → ReaderPlace → View → List ℕ → List TokenText → View → Type 0

@@ -1,20 +1,17 @@
 -- Readings of any tokenizer, up to some remaining input and to the end.
-use Rattle.std.specs.Prelude.{◌≡◌, ℕ, true, false, List, [], ◌++◌}
-use Rattle.h5_token.specs.Joins.{join}
+use Rattle.std.specs.Prelude.{◌≡◌, ℕ, List}
 use Rattle.h5_token.specs.TokenText.{TokenText}
-use Rattle.h5_token.specs.declared.states.State.TheVariants.{Data}
 use Rattle.h5_interface.specs.Seen.{Seen}
 use Rattle.h5_interface.specs.SinkChoices.{SinkChoices}
-use Rattle.h5_rules.specs.Run.{View, after_all}
-use Rattle.h5_reading.specs.Options.{beginning_in, default_options}
-use Rattle.h5_reading.specs.declared.options.TokenizerOpts.{TokenizerOpts}
-use Rattle.h5_standard.specs.Mark.{behind_mark}
-use Rattle.h5_plain.specs.Plain.{Flow, IsPlain, Nodes, PlainDocument, document_tokens, fragment_tokens, nothing_open}
-use Rattle.h5_round_trip.specs.Answers.{Answers}
-use Rattle.h5_round_trip.specs.Fragment.{AnswersCuts}
-use Rattle.h5_round_trip.specs.Readable.{CanBeRead, IsReadableDocument}
-use Rattle.h5_round_trip.specs.Written.{written_fragment, written_of}
-use Rattle.h5_driver.specs.Working.{IsReady, after, ended, replies}
+use Rattle.h5_builder_spec.specs.Run.{View, after_all}
+use Rattle.h5_driver.specs.BuilderSink.{ended}
+
+-- WHAT A PARSER BUILT from a text: the forest and the quirks mode of the run of a list of tokens that reads it, and of any such
+-- list
+pub record Parses {T : Type 0} (Reads : T → View → List ℕ → List TokenText → View → Type 0) (choices : SinkChoices) (r : T) (v : View) (xs : List ℕ) (told : Seen) : Type 0 where
+  pub tokens : List TokenText
+  pub reads : Reads r v xs tokens (ended choices (after_all choices tokens v))
+  pub any : (ts : List TokenText) (n : View) → Reads r v xs ts n → (n ≡ ended choices (after_all choices ts v)) × ((told.forest ≡ n.world.forest) × (told.quirks ≡ n.world.seen_quirks))
 
 -- from a tokenizer, a view and an input, some tokens are read, up to a tokenizer, a view and the remaining input
 pub record Advances {T : Type 0} (Readings : T → View → List ℕ → List TokenText → T → View → List ℕ → Type 0) (r : T) (v : View) (xs : List ℕ) (s : T) (w : View) (ys : List ℕ) : Type 0 where
@@ -25,26 +22,3 @@ pub record Advances {T : Type 0} (Readings : T → View → List ℕ → List To
 pub record IsReadToEnd {T : Type 0} (Reads : T → View → List ℕ → List TokenText → View → Type 0) (r : T) (v : View) (xs : List ℕ) (n : View) : Type 0 where
   pub tokens : List TokenText
   pub reads : Reads r v xs tokens n
-
--- what a parser built from a text: the forest and the quirks mode of the run of a list of tokens that reads it, and of any such
--- list
-pub record Parses {T : Type 0} (Reads : T → View → List ℕ → List TokenText → View → Type 0) (choices : SinkChoices) (r : T) (v : View) (xs : List ℕ) (told : Seen) : Type 0 where
-  pub tokens : List TokenText
-  pub reads : Reads r v xs tokens (ended choices (after_all choices tokens v))
-  pub any : (ts : List TokenText) (n : View) → Reads r v xs ts n → (n ≡ ended choices (after_all choices ts v)) × ((told.forest ≡ n.world.forest) × (told.quirks ≡ n.world.seen_quirks))
-
--- Properties of readings over a builder. They include the empty one; whatever follows an input, it is read in the same way; and
--- a reading goes on where another stopped, also to the end. The meaning at the end is what the run of the tokens leaves, and it
--- is equal for all lists of tokens that read a text. The text of a plain document is read by its tokens, and so is that of a
--- fragment, from the data state, except that a text may be split in two.
-pub record AreReadings {T : Type 0} (choices : SinkChoices) (first : TokenizerOpts → T) (Readings : T → View → List ℕ → List TokenText → T → View → List ℕ → Type 0) (Reads : T → View → List ℕ → List TokenText → View → Type 0) : Type 0 where
-  pub nothing : (r : T) (v : View) (xs : List ℕ) → Readings r v xs [] r v xs
-  pub followed : (r s : T) (v w : View) (xs ys : List ℕ) (ts : List TokenText) (more : List ℕ) → Readings r v xs ts s w ys → Readings r v (xs ++ more) ts s w (ys ++ more)
-  pub chained : (r s t : T) (v w x : View) (xs ys zs : List ℕ) (ts us : List TokenText) → Readings r v xs ts s w ys → Readings s w ys us t x zs → Readings r v xs (ts ++ us) t x zs
-  pub to_end : (r s : T) (v w n : View) (xs ys : List ℕ) (ts us : List TokenText) → Readings r v xs ts s w ys → Reads s w ys us n → Reads r v xs (ts ++ us) n
-  pub runs : (r : T) (v n : View) (xs : List ℕ) (ts : List TokenText) → Reads r v xs ts n → n ≡ ended choices (after_all choices ts v)
-  pub agree : (r : T) (v n o : View) (xs : List ℕ) (ts us : List TokenText) → IsReady v → Reads r v xs ts n → Reads r v xs us o → n ≡ o
-  pub documents : (d : PlainDocument) (v : View) → IsReadableDocument d → Answers (replies choices) (after choices) v (document_tokens d) → (n : View) × Reads (first default_options) v (written_of d) (document_tokens d) n
-  pub fragments : (nodes : Nodes) (v : View) → IsPlain true (Flow false nothing_open) nodes → CanBeRead nodes → behind_mark true (written_fragment nodes) ≡ written_fragment nodes
-      → AnswersCuts (replies choices) → Answers (replies choices) (after choices) v (fragment_tokens nodes)
-      → (tokens : List TokenText) × ((join tokens ≡ join (fragment_tokens nodes)) × ((n : View) × Reads (first (beginning_in Data default_options)) v (written_fragment nodes) tokens n))

@@ -2,18 +2,18 @@
 use Rattle.std.specs.Prelude.{◌≡◌, ℕ, false, List, ◌++◌}
 use Rattle.h5_token.specs.TokenText.{TokenText}
 use Rattle.h5_interface.specs.SinkChoices.{SinkChoices}
-use Rattle.h5_rules.specs.Run.{View}
-use Rattle.h5_reading.specs.declared.options.TokenizerOpts.{TokenizerOpts}
-use Rattle.h5_reading.specs.declared.stage.Stage.TheVariants.{Reading}
-use Rattle.h5_states.specs.RawTexts as states
-use Rattle.h5_states.specs.ReferenceTable.{references}
-use Rattle.h5_states.specs.Whole as whole
-use Rattle.h5_standard.specs.Mark.{behind_mark}
-use Rattle.h5_standard.specs.Options.{first_place}
-use Rattle.h5_standard.specs.ReaderText.{ReaderText}
-use Rattle.h5_standard.specs.Weight.{weight}
+use Rattle.h5_builder_spec.specs.Run.{View}
+use Rattle.h5_tokenizer_input.specs.declared.options.TokenizerOpts.{TokenizerOpts}
+use Rattle.h5_tokenizer_input.specs.declared.stage.Stage.TheVariants.{Reading}
+use Rattle.h5_tokenizer_spec.specs.RawTexts as states
+use Rattle.h5_tokenizer_spec.specs.ReferenceTable.{references}
+use Rattle.h5_tokenizer_spec.specs.Whole as whole
+use Rattle.h5_standard_tokenizer.specs.Mark.{behind_mark}
+use Rattle.h5_standard_tokenizer.specs.Options.{first_place}
+use Rattle.h5_standard_tokenizer.specs.ReaderText.{ReaderText}
+use Rattle.h5_standard_tokenizer.specs.Weight.{weight}
 use Rattle.h5_round_trip.specs.Inside as inside
-use Rattle.h5_driver.specs.Working.{after, ended, foreign, replies}
+use Rattle.h5_driver.specs.BuilderSink.{after, ended, foreign, replies}
 
 -- before it has read anything
 abbrev pub first : TokenizerOpts → ReaderText

@@ -3,31 +3,32 @@ use Rattle.std.specs.Prelude.{◌≡◌, ◌++◌, ℕ, false, List, [], ◌∷�
 use Rattle.std.proofs.Common.{refl, ap, sym, subst, ◌∙◌, append_assoc, append-nil}
 use Rattle.h5_token.specs.TokenText.{TokenText, EndOfFile}
 use Rattle.h5_interface.specs.SinkChoices.{SinkChoices}
-use Rattle.h5_rules.specs.Run.{IsFitting, View, after_all, after_token, run}
-use Rattle.h5_plain.proofs.cuts.JoinLaws.{view_joins}
-use Rattle.h5_plain.proofs.cuts.RunLaws.{token_cut}
-use Rattle.h5_plain.proofs.kept.FittingLaws.{token_fitting}
-use Rattle.h5_plain.specs.Staying.{standing, tokens_of}
-use Rattle.h5_reading.proofs.AnswerLaws.{unrefused}
-use Rattle.h5_reading.specs.Told as told
-use Rattle.h5_states.specs.End.{last_tokens}
-use Rattle.h5_states.specs.ReferenceTable.{references}
-use Rattle.h5_states.specs.Reading.{ReaderPlace}
-use Rattle.h5_states.specs.Whole.{Readings, ReadsToEnd, more_reading, no_reading}
+use Rattle.h5_builder_spec.specs.inner.Kept.{IsFitting}
+use Rattle.h5_builder_spec.specs.Run.{View, after_all, after_token, run}
+use Rattle.h5_builder_laws.proofs.cuts.JoinLaws.{view_joins}
+use Rattle.h5_builder_laws.proofs.cuts.RunLaws.{token_cut}
+use Rattle.h5_builder_laws.proofs.kept.FittingLaws.{token_fitting}
+use Rattle.h5_builder_laws.specs.Staying.{standing, tokens_of}
+use Rattle.h5_tokenizer_input.proofs.AnswerLaws.{unrefused}
+use Rattle.h5_tokenizer_input.specs.Told as told
+use Rattle.h5_tokenizer_spec.specs.End.{last_tokens}
+use Rattle.h5_tokenizer_spec.specs.ReferenceTable.{references}
+use Rattle.h5_tokenizer_spec.specs.Reading.{ReaderPlace}
+use Rattle.h5_tokenizer_spec.specs.Whole.{Readings, ReadsToEnd, more_reading, no_reading}
 use Rattle.h5_round_trip.proofs.standard.InsideLaws.{read_runs, texts_stay}
 use Rattle.h5_round_trip.proofs.standard.ReadingLaws.{document_read, fragment_read}
 use Rattle.h5_round_trip.proofs.ShapeLaws.{shape}
 use Rattle.h5_round_trip.specs.Inside.{TextsStayRead, text_before}
-use Rattle.h5_standard.specs.Mark.{behind_mark}
-use Rattle.h5_standard.specs.Options.{first_place}
-use Rattle.h5_standard.specs.ReaderText.{ReaderText}
-use Rattle.h5_states.proofs.ReadLaws.{read_goes_on}
-use Rattle.h5_reading.specs.Options.{default_options}
+use Rattle.h5_standard_tokenizer.specs.Mark.{behind_mark}
+use Rattle.h5_standard_tokenizer.specs.Options.{first_place}
+use Rattle.h5_standard_tokenizer.specs.ReaderText.{ReaderText}
+use Rattle.h5_tokenizer_spec.proofs.ReadLaws.{read_goes_on}
+use Rattle.h5_tokenizer_input.specs.Options.{default_options}
 use Rattle.h5_driver.specs.KeptReadings.{readings_agree}
-use Rattle.h5_driver.specs.Reading.{AreReadings}
+use Rattle.h5_driver.specs.inner.Readings.{AreReadings}
 use Rattle.h5_driver.specs.StandardReader as reader
 use Rattle.h5_driver.specs.StandardReader.{ahead}
-use Rattle.h5_driver.specs.Working.{after, ended, foreign, replies}
+use Rattle.h5_driver.specs.BuilderSink.{after, ended, foreign, replies}
 
 -- readings from a place, and a text that is read to its end
 abbrev ReadingsAt : SinkChoices → ReaderPlace → View → List ℕ → List TokenText → ReaderPlace → View → List ℕ → Type 0

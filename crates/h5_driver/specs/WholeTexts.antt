@@ -5,8 +5,8 @@ use Rattle.h5_names.specs.declared.qualified.QualName.{QualName}
 use Rattle.h5_token.specs.TokenText.{TokenText}
 use Rattle.h5_interface.specs.Seen.{Seen}
 use Rattle.h5_interface.specs.SinkChoices.{SinkChoices}
-use Rattle.h5_rules.specs.Run.{View}
-use Rattle.h5_reading.specs.declared.options.TokenizerOpts.{TokenizerOpts}
+use Rattle.h5_builder_spec.specs.Run.{View}
+use Rattle.h5_tokenizer_input.specs.declared.options.TokenizerOpts.{TokenizerOpts}
 use Rattle.h5_tree_builder.specs.Builder.{first_building}
 use Rattle.h5_driver.specs.Fragments.{first_in_new, opts_in_context}
 use Rattle.h5_driver.specs.Reading.{Parses}

@@ -6,14 +6,14 @@ ghost use Rattle.h5_tree_builder.specs.Builder.{first_building};
 ghost use Rattle.h5_tree_builder.specs.Fragment.{first_fragment};
 ghost use Rattle.h5_tree_builder.specs.Held.{building};
 ghost use Rattle.h5_driver.specs.Fragments.{first_in_new, opts_in_context};
-ghost use Rattle.h5_driver.specs.Working.{Begins};
+ghost use Rattle.h5_driver.specs.inner.Working.{Begins};
 
 use super::options::ParseOpts;
 use h5_interface::{TreeSink, create_element};
 use h5_names::{Attribute, QualName};
-use h5_reading::TokenizerOpts;
 use h5_tables::TreeBuilderOpts;
 use h5_token::BuildFault;
+use h5_tokenizer_input::TokenizerOpts;
 use h5_tree_builder::TreeBuilder;
 use std::alloc::Global;
 

@@ -9,8 +9,8 @@ ghost use Rattle.h5_driver.specs.Reading.{Parses};
 use super::parser::Parser;
 use super::reader::Reader;
 use h5_interface::TreeSink;
-use h5_reading::{Utf8LossyDecoder, part_size};
 use h5_token::BuildFault;
+use h5_tokenizer_input::{Utf8LossyDecoder, part_size};
 use std::alloc::Global;
 use std::marker::Model;
 

@@ -3,7 +3,7 @@ ghost use Rattle.std.specs.Prelude.{◌≡◌, ℕ, List, ◌++◌};
 ghost use Rattle.std.specs.Str.Lossy.{utf8_lossy};
 ghost use Rattle.h5_interface.specs.Seen.{Seen};
 ghost use Rattle.h5_interface.specs.SinkChoices.{SinkChoices};
-ghost use Rattle.h5_rules.specs.Run.{View};
+ghost use Rattle.h5_builder_spec.specs.Run.{View};
 ghost use Rattle.h5_driver.specs.Boxes.{PagesKeepBoxes};
 ghost use Rattle.h5_driver.specs.Bytes.{ParsingBytes, ProcessedAllBytes};
 ghost use Rattle.h5_driver.specs.ErrorReports.{BuildsTheSame, DocumentsHaveNone, TextsHaveOneList};

@@ -8,7 +8,7 @@
 //! The parser over the plain tokenizer is at the root of the crate (`plain`), and the one over the standard tokenizer is in
 //! `standard`. Each has the sink as its one parameter.
 //!
-//! This crate depends on `h5_tokenizer`, `h5_standard` and `h5_tree_builder`, on `h5_reading` for bytes, and on `h5_round_trip`
+//! This crate depends on `h5_plain_tokenizer`, `h5_standard_tokenizer` and `h5_tree_builder`, on `h5_tokenizer_input` for bytes, and on `h5_round_trip`
 //! for plain documents. Begin with `src/reader.rt` (what a parser requires of a tokenizer), `specs/Reading.antt` and
 //! `specs/Parsing.antt` (parsers and their calls), and `src/parser.rt`.
 #![tactic(auto)]

@@ -1,9 +1,9 @@
 //! Options of a parser.
 ghost use Rattle.std.specs.Prelude.{◌≡◌, IfOk};
-ghost use Rattle.h5_reading.specs.Options.{options_text};
+ghost use Rattle.h5_tokenizer_input.specs.Options.{options_text};
 
+use h5_plain_tokenizer::TokenizerOpts;
 use h5_tables::TreeBuilderOpts;
-use h5_tokenizer::TokenizerOpts;
 use std::alloc::AllocError;
 
 /// Options of a parser: those of its tokenizer, and those of its tree builder.

@@ -1,16 +1,16 @@
 //! The parser.
 ghost use Rattle.std.specs.Prelude.{◌≡◌, ◌++◌, ◌<◌, [], map, string_bytes, true, false, Ok, Err, IfOk, OnErr, OnOk};
-ghost use Rattle.h5_reading.specs.declared.stage.Stage.TheVariants.{Reading};
+ghost use Rattle.h5_tokenizer_input.specs.declared.stage.Stage.TheVariants.{Reading};
 ghost use Rattle.h5_driver.specs.Parsing.{IsParsing, Processed, joined, text_of, view_of};
 ghost use Rattle.h5_driver.specs.PlainDocuments.{BringsBack};
 ghost use Rattle.h5_driver.specs.Reading.{Advances, IsReadToEnd, Parses};
-ghost use Rattle.h5_driver.specs.Working.{IsWorking};
+ghost use Rattle.h5_driver.specs.inner.Working.{IsWorking};
 
 use super::bytes::{Utf8Parser, bytes_over};
 use super::reader::Reader;
 use h5_interface::TreeSink;
-use h5_reading::{BufferQueue, TokenizerResult, part_size};
 use h5_token::BuildFault;
+use h5_tokenizer_input::{BufferQueue, TokenizerResult, part_size};
 use std::alloc::Global;
 use std::marker::Model;
 

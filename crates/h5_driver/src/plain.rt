@@ -15,8 +15,8 @@ use super::reader::Reader;
 use super::{bytes, parser};
 use h5_interface::TreeSink;
 use h5_names::{Attribute, QualName};
+use h5_plain_tokenizer::{BufferQueue, Tokenizer, TokenizerOpts, TokenizerResult};
 use h5_token::BuildFault;
-use h5_tokenizer::{BufferQueue, Tokenizer, TokenizerOpts, TokenizerResult};
 use h5_tree_builder::TreeBuilder;
 use std::alloc::Global;
 
@@ -32,7 +32,7 @@ pub type Utf8Parser<Sink> = bytes::Utf8Parser<PlainReader<Sink>>;
 impl<Handle: Drop, Sink: TreeSink<Handle = Handle> + Drop> Reader
     for Tokenizer<TreeBuilder<Handle, Sink>> {
     ghost use Rattle.h5_tree_builder.specs.Held as held;
-    ghost use Rattle.h5_tokenizer.specs.ReaderText.{ReaderText};
+    ghost use Rattle.h5_plain_tokenizer.specs.ReaderText.{ReaderText};
     ghost use Rattle.h5_driver.specs.PlainReader as reader;
     ghost use Rattle.h5_driver.specs.PlainReaderLaws.{are_readings, texts_stay_here};
 
@@ -72,7 +72,7 @@ impl<Handle: Drop, Sink: TreeSink<Handle = Handle> + Drop> Reader
         Tokenizer::end(self)
     }
 
-    #[tactic(auto, unfolding(h5_state::specs::View::world))]
+    #[tactic(auto, unfolding(h5_builder_state::specs::View::world))]
     fn into_sink(self) -> Sink {
         self.sink.into_sink()
     }

@@ -1,18 +1,19 @@
 //! What a parser requires of a tokenizer.
 ghost use Rattle.std.specs.Prelude.{◌≡◌, ◌≢◌, ◌<◌, ℕ, List, [], Ok, Err, OnErr, OnOk};
 ghost use Rattle.h5_token.specs.TokenText.{TokenText};
-ghost use Rattle.h5_reading.specs.declared.options.TokenizerOpts.{TokenizerOpts};
-ghost use Rattle.h5_reading.specs.declared.stage.Stage.{Stage};
-ghost use Rattle.h5_reading.specs.declared.stage.Stage.TheVariants.{Reading};
-ghost use Rattle.h5_rules.specs.Run.{View};
+ghost use Rattle.h5_tokenizer_input.specs.declared.options.TokenizerOpts.{TokenizerOpts};
+ghost use Rattle.h5_tokenizer_input.specs.declared.stage.Stage.{Stage};
+ghost use Rattle.h5_tokenizer_input.specs.declared.stage.Stage.TheVariants.{Reading};
+ghost use Rattle.h5_builder_spec.specs.Run.{View};
 ghost use Rattle.h5_tree_builder.specs.Builder.{Building};
 ghost use Rattle.h5_round_trip.specs.Inside.{TextsStayRead};
-ghost use Rattle.h5_driver.specs.Reading.{Advances, AreReadings, IsReadToEnd};
-ghost use Rattle.h5_driver.specs.Working.{IsWorking};
+ghost use Rattle.h5_driver.specs.Reading.{Advances, IsReadToEnd};
+ghost use Rattle.h5_driver.specs.inner.Readings.{AreReadings};
+ghost use Rattle.h5_driver.specs.inner.Working.{IsWorking};
 
 use h5_interface::TreeSink;
-use h5_reading::{BufferQueue, TokenizerResult};
 use h5_token::BuildFault;
+use h5_tokenizer_input::{BufferQueue, TokenizerResult};
 
 /// A tokenizer over a tree builder over a sink, as a parser needs it.
 ///

@@ -16,7 +16,7 @@ use super::reader::Reader;
 use super::{bytes, parser};
 use h5_interface::TreeSink;
 use h5_names::{Attribute, QualName};
-use h5_standard::{BufferQueue, Tokenizer, TokenizerOpts, TokenizerResult};
+use h5_standard_tokenizer::{BufferQueue, Tokenizer, TokenizerOpts, TokenizerResult};
 use h5_token::BuildFault;
 use h5_tree_builder::TreeBuilder;
 use std::alloc::Global;
@@ -40,7 +40,7 @@ fn is_whole(queue: &BufferQueue)
 impl<Handle: Drop, Sink: TreeSink<Handle = Handle> + Drop> Reader
     for Tokenizer<TreeBuilder<Handle, Sink>> {
     ghost use Rattle.h5_tree_builder.specs.Held as held;
-    ghost use Rattle.h5_standard.specs.ReaderText.{ReaderText};
+    ghost use Rattle.h5_standard_tokenizer.specs.ReaderText.{ReaderText};
     ghost use Rattle.h5_driver.specs.StandardReader as reader;
     ghost use Rattle.h5_driver.specs.StandardReaderLaws.{are_readings, texts_stay_here};
 
@@ -81,7 +81,7 @@ impl<Handle: Drop, Sink: TreeSink<Handle = Handle> + Drop> Reader
         Tokenizer::end(self)
     }
 
-    #[tactic(auto, unfolding(h5_state::specs::View::world))]
+    #[tactic(auto, unfolding(h5_builder_state::specs::View::world))]
     fn into_sink(self) -> Sink {
         self.sink.into_sink()
     }

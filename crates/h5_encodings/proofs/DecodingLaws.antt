@@ -1,7 +1,7 @@
 -- How bytes are split doesn't matter.
 use Rattle.std.proofs.Common.{◌≡◌, ◌∙◌, ℕ, true, false, List, [], ◌∷◌, ◌++◌, cond, refl, sym, ap, append_assoc, append-nil}
 use Rattle.std.specs.Str.Lossy.{utf8_lossy}
-use Rattle.h5_reading.specs.Decoding as utf8
+use Rattle.h5_tokenizer_input.specs.Decoding as utf8
 use Rattle.h5_encodings.specs.Steps.{CutsDontMatter, kept_after, text_of, text_of_step, text_shown, text_so_far}
 use Rattle.h5_encodings.specs.Decoding.{Decodes, State, is_utf8, reading_of, text_from}
 

@@ -7,7 +7,7 @@ ghost use Rattle.h5_encodings.specs.Steps.{errors_so_far};
 use super::encoding::Encoding;
 use super::reading::{push_steps, text_at_end};
 use super::steps::Kept;
-use h5_reading::Utf8LossyDecoder;
+use h5_tokenizer_input::Utf8LossyDecoder;
 use std::alloc::{AllocError, Global};
 use std::marker::Model;
 

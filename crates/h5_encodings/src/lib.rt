@@ -1,7 +1,7 @@
 //! Decoders for encodings other than UTF-8, and the encoding of a page (Encoding Standard; HTML standard, section 13.2.3.2).
 //!
 //! `encoding` has the encodings, `labels` and `label` their labels. `decoder` decodes bytes that come in chunks: UTF-8 by
-//! `h5_reading`, the others byte by byte in `reading`; `steps` has the output of a byte and what is stored after it. `laws` has
+//! `h5_tokenizer_input`, the others byte by byte in `reading`; `steps` has the output of a byte and what is stored after it. `laws` has
 //! the law that splits don't matter. Each decoder has a module: `single_byte` (tables in `upper_halves`), `utf16`,
 //! `user_defined`, `replacement`, `gb18030`, `big5`, `euc_jp`, `iso_2022_jp`, `shift_jis` and `euc_kr`. The last six share
 //! `multi_byte`, and have their tables in the modules whose names end in `_index` or `_ranges`.

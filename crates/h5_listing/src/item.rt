@@ -31,6 +31,14 @@ impl Content {
         }
     }
 
+    // Prints it unchanged.
+    fn print_plain(&self, out: &mut String) -> Result<(), AllocError> {
+        match self {
+            Content::Text(text) => out.push_str(text.as_str()),
+            Content::Number(number) => write!(out, "{number}"),
+        }
+    }
+
     // Prints it as JSON.
     fn print_json(&self, alloc: Global, out: &mut String) -> Result<(), AllocError> {
         match self {
@@ -82,6 +90,15 @@ impl Item {
     pub fn add_number(&mut self, name: &'static str, number: u64) -> Result<(), AllocError> {
         let value = Content::Number(number);
         self.fields.push(Field { name, value })?;
+        Ok(())
+    }
+
+    /// Prints the values unchanged, each followed by a NUL. Fails with `AllocError` if an allocation fails.
+    pub fn print_plain(&self, out: &mut String) -> Result<(), AllocError> {
+        for field in self.fields.as_slice() {
+            field.value.print_plain(out)?;
+            out.push('\0')?;
+        }
         Ok(())
     }
 

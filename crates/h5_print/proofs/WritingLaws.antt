@@ -2,7 +2,7 @@
 use Rattle.std.proofs.Common.{◌≡◌, ◌≤◌, ℕ, List, [], ◌++◌, length, OnOk, Option, Result, Ok, Err, sym, ap, ◌∙◌, subst, append_assoc, append-nil, arith}
 use Rattle.std.proofs.lemmas.List.{nil_from_length}
 use Rattle.std.specs.Io.KnownBytes.{Appends}
-use Rattle.std.proofs.KnownBytes.{Appends-nil, Appends-trans}
+use Rattle.std.proofs.KnownBytes.{Appends-trans}
 use Rattle.h5_arena.specs.ArenaModel.{ArenaView}
 use Rattle.h5_print.specs.Frames.{GoesOn}
 use Rattle.h5_print.specs.Printed.{IsTreeText}
@@ -14,13 +14,6 @@ pub record Sent (a : ArenaView) (first frames : List Frame) (old now : Option (L
   pub text : List ℕ
   pub appends : Appends old now text
   pub goes_on : GoesOn a first [] frames (text ++ part)
-
-pub sent_nothing : (a : ArenaView) (first : List Frame) (old : Option (List ℕ)) (part : List ℕ) → part ≡ [] → Sent a first first old old part
-sent_nothing a first old part e = record {
-  text = [];
-  appends = Appends-nil old;
-  goes_on = λ t l. (t, l, ap (λ p. p ++ t) (sym e));
-}
 
 -- more is printed
 pub sent_more : (a : ArenaView) (first mid frames : List Frame) (old now : Option (List ℕ)) (part later : List ℕ) → Sent a first mid old now part → GoesOn a mid part frames later → Sent a first frames old now later

@@ -11,7 +11,7 @@ use Rattle.h5_markup.proofs.AttributeLaws.{attributes_none}
 use Rattle.h5_markup.proofs.AttributeLaws as lower
 use Rattle.h5_serialize.specs.Escape.{escape}
 use Rattle.h5_serialize.specs.Writing.{attribute_written}
-use Rattle.h5_plain.specs.Plain.{ArePlain}
+use Rattle.h5_builder_laws.specs.Plain.{ArePlain}
 use Rattle.h5_round_trip.specs.Readable.{AreNameBytes, AreReadable, IsName, IsReadable}
 use Rattle.h5_round_trip.proofs.CharLaws.{None, no_quote, value_read}
 use Rattle.h5_round_trip.proofs.NameLaws.{NameByte, before_stop, from_stop, in_attribute, name_byte, name_read}

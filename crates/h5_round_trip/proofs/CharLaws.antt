@@ -13,11 +13,11 @@ use Rattle.h5_markup.specs.Text.{text_of, ReadsBit}
 use Rattle.h5_markup.specs.Text as t
 use Rattle.h5_markup.proofs.TextLaws.{one_byte, reads_found, text_nil}
 use Rattle.h5_serialize.proofs.EscapeLaws.{AreAbove, above_encode, by_cases, has, has_no_quote, or_first, or_second}
-use Rattle.h5_tokenizer.specs.declared.front.Mode.{Mode}
-use Rattle.h5_tokenizer.specs.declared.front.Mode.TheVariants.{Data, RawData}
-use Rattle.h5_tokenizer.specs.Front.{Bit, in_data, raw_end_tag, opening, finished, other, front}
-use Rattle.h5_tokenizer.specs.Read.{Bits, no_bit, more_bits}
-use Rattle.h5_plain.specs.Plain.{NoNul}
+use Rattle.h5_plain_tokenizer.specs.declared.front.Mode.{Mode}
+use Rattle.h5_plain_tokenizer.specs.declared.front.Mode.TheVariants.{Data, RawData}
+use Rattle.h5_plain_tokenizer.specs.Front.{Bit, in_data, raw_end_tag, opening, finished, other, front}
+use Rattle.h5_plain_tokenizer.specs.Read.{Bits, no_bit, more_bits}
+use Rattle.h5_builder_laws.specs.Plain.{NoNul}
 use Rattle.h5_round_trip.specs.Readable.{IsReadable, NoCr}
 
 -- ---- bytes that begin nothing but text

@@ -3,7 +3,7 @@
 use Rattle.std.proofs.Common.{◌≡◌, ◌==◌, ◌∙◌, ℕ, Bool, true, false, cond, List, [], ◌∷◌, codes, IsAscii, zero, suc, refl, sym, ap, subst, arith}
 use Rattle.std.proofs.lemmas.Str.{IsUtf8-append, IsUtf8-from_ascii}
 use Rattle.h5_names.specs.AttributeText.{is_same_text}
-use Rattle.h5_plain.specs.Plain.{ElementThen, End, Nodes, TextThen, as_written, doubled, held_as_written, with_doubled}
+use Rattle.h5_builder_laws.specs.Plain.{ElementThen, End, Nodes, TextThen, as_written, doubled, held_as_written, with_doubled}
 use Rattle.h5_round_trip.specs.Readable.{CanBeRead, IsReadable}
 use Rattle.h5_round_trip.proofs.ShapeLaws.{Element, None, Shape, Text, Title, Void}
 

@@ -3,13 +3,13 @@ use Rattle.std.proofs.Common.{◌≡◌, ◌∙◌, ℕ, Bool, List, [], ◌∷�
 use Rattle.h5_token.specs.Reply.{Reply}
 use Rattle.h5_token.specs.TokenText.{TokenText}
 use Rattle.h5_interface.specs.SinkChoices.{SinkChoices}
-use Rattle.h5_tokenizer.specs.Front.{ReaderPlace}
-use Rattle.h5_tokenizer.specs.Read.{Read, Step, marked, nothing_read, read_on, switch_step, text_step, token_step, unmarked}
-use Rattle.h5_rules.specs.Run.{View, after_all, after_token, replies, reply_to, run}
-use Rattle.h5_plain.specs.Plain.{Around, Nodes, as_written, plain_reply}
-use Rattle.h5_plain.specs.Staying.{IsBox, Stays, tokens_of}
-use Rattle.h5_plain.proofs.StayingLaws.{stay_in_box}
-use Rattle.h5_plain.proofs.cuts.JoinLaws.{view_joins}
+use Rattle.h5_plain_tokenizer.specs.Front.{ReaderPlace}
+use Rattle.h5_plain_tokenizer.specs.Read.{Read, Step, marked, nothing_read, read_on, switch_step, text_step, token_step, unmarked}
+use Rattle.h5_builder_spec.specs.Run.{View, after_all, after_token, replies, reply_to, run}
+use Rattle.h5_builder_laws.specs.Plain.{Around, Nodes, as_written, plain_reply}
+use Rattle.h5_builder_laws.specs.Staying.{IsBox, Stays, tokens_of}
+use Rattle.h5_builder_laws.proofs.StayingLaws.{stay_in_box}
+use Rattle.h5_builder_laws.proofs.cuts.JoinLaws.{view_joins}
 use Rattle.h5_round_trip.specs.Answers.{Answers}
 use Rattle.h5_round_trip.specs.Inside.{IsInPlainData, PlainReadsOn, PlainTextsStay, ReadsInside, StaysRead, text_before}
 use Rattle.h5_round_trip.specs.Readable.{CanBeRead}

@@ -3,7 +3,7 @@ use Rattle.std.proofs.Common.{◌≡◌, ℕ, Bool, true, false, List, [], ◌�
 use Rattle.h5_names.specs.AttributeText.{AttributeText}
 use Rattle.h5_token.specs.Joins.{glue, join}
 use Rattle.h5_token.specs.TokenText.{TokenText, TagIs, Characters, EndOfFile}
-use Rattle.h5_plain.specs.Plain.{ElementThen, End, Nodes, PlainDocument, TextThen, as_written, document_tokens, end_tag, fragment_tokens, has_end_tag, plain_doctype, start_tag, tokens_before}
+use Rattle.h5_builder_laws.specs.Plain.{ElementThen, End, Nodes, PlainDocument, TextThen, as_written, document_tokens, end_tag, fragment_tokens, has_end_tag, plain_doctype, start_tag, tokens_before}
 use Rattle.h5_round_trip.proofs.DoubledLaws.{shape_written}
 use Rattle.h5_round_trip.proofs.ShapeLaws.{Element, None, Shape, Text, Title, Void, below_root, below_shape, is_html, is_title}
 

@@ -3,7 +3,7 @@ use Rattle.std.proofs.Common.{◌≡◌, ◌∙◌, ℕ, Bool, true, false, List
 use Rattle.std.specs.Prelude.{◌&&◌, ◌==◌, if◌then◌else◌, not}
 use Rattle.std.proofs.lemmas.Bool.{and_parts}
 use Rattle.h5_names.specs.AttributeText.{is_same_text}
-use Rattle.h5_plain.specs.Plain.{ElementThen, End, Nodes, TextThen, as_written, held_as_written, with_doubled}
+use Rattle.h5_builder_laws.specs.Plain.{ElementThen, End, Nodes, TextThen, as_written, held_as_written, with_doubled}
 use Rattle.h5_round_trip.specs.Written.{begins_with_newline, keeps_newlines}
 
 -- a first text that doesn't begin with a newline

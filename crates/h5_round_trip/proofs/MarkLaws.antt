@@ -8,8 +8,8 @@ use Rattle.std.proofs.lemmas.Str.{encodes-chars}
 use Rattle.h5_markup.specs.Matching.{Found, No}
 use Rattle.h5_serialize.specs.Escape.{escape, escape_char}
 use Rattle.h5_serialize.proofs.EscapeLaws.{by_cases}
-use Rattle.h5_standard.specs.Mark.{is_open, mark}
-use Rattle.h5_plain.specs.Plain.{End, Nodes}
+use Rattle.h5_standard_tokenizer.specs.Mark.{is_open, mark}
+use Rattle.h5_builder_laws.specs.Plain.{End, Nodes}
 use Rattle.h5_round_trip.specs.Readable.{CanBeRead, IsReadable}
 use Rattle.h5_round_trip.specs.Written.{written_before}
 use Rattle.h5_round_trip.proofs.ShapeLaws.{Element, None, Shape, Text, Title, Void}

@@ -9,20 +9,20 @@ use Rattle.h5_markup.specs.Matching.{Found, Match, No, Open}
 use Rattle.h5_markup.proofs.Finds.{literal_gives}
 use Rattle.h5_serialize.specs.Escape.{escape}
 use Rattle.h5_markup.specs.Text.{text_of}
-use Rattle.h5_tokenizer.specs.declared.front.Mode.{Mode}
-use Rattle.h5_tokenizer.specs.declared.front.Mode.TheVariants.{Data, RawData}
-use Rattle.h5_reading.specs.Answers.{goes_on}
-use Rattle.h5_reading.proofs.AnswerLaws.{unrefused}
-use Rattle.h5_tokenizer.specs.End.{settle}
-use Rattle.h5_standard.specs.Mark.{behind_mark, is_open}
-use Rattle.h5_standard.specs.Mark as standard
-use Rattle.h5_tokenizer.specs.Front.{Piece, ReaderPlace, Whole, front, mark}
-use Rattle.h5_reading.specs.Options.{default_options}
-use Rattle.h5_tokenizer.specs.Options.{first_place}
-use Rattle.h5_tokenizer.specs.Read.{Bits, Read, behind, chosen_mode, next_place, nothing_read, read_on, started, text_step, token_step, unmarked}
-use Rattle.h5_reading.specs.Lines.{line_behind}
-use Rattle.h5_tokenizer.specs.Whole.{Readings, ReadsToEnd, after_closing, closing, more_reading, no_reading}
-use Rattle.h5_plain.specs.Plain.{ArePlain, ElementThen, End, Nodes, PlainDocument, TextThen, as_written, document_tokens, end_tag, fragment_tokens, has_end_tag, is_start_of_title, plain_doctype, plain_reply, root_of, start_tag, tokens_before}
+use Rattle.h5_plain_tokenizer.specs.declared.front.Mode.{Mode}
+use Rattle.h5_plain_tokenizer.specs.declared.front.Mode.TheVariants.{Data, RawData}
+use Rattle.h5_tokenizer_input.specs.Answers.{goes_on}
+use Rattle.h5_tokenizer_input.proofs.AnswerLaws.{unrefused}
+use Rattle.h5_plain_tokenizer.specs.End.{settle}
+use Rattle.h5_standard_tokenizer.specs.Mark.{behind_mark, is_open}
+use Rattle.h5_standard_tokenizer.specs.Mark as standard
+use Rattle.h5_plain_tokenizer.specs.Front.{Piece, ReaderPlace, Whole, front, mark}
+use Rattle.h5_tokenizer_input.specs.Options.{default_options}
+use Rattle.h5_plain_tokenizer.specs.Options.{first_place}
+use Rattle.h5_plain_tokenizer.specs.Read.{Bits, Read, behind, chosen_mode, next_place, nothing_read, read_on, started, text_step, token_step, unmarked}
+use Rattle.h5_tokenizer_input.specs.Lines.{line_behind}
+use Rattle.h5_plain_tokenizer.specs.Whole.{Readings, ReadsToEnd, after_closing, closing, more_reading, no_reading}
+use Rattle.h5_builder_laws.specs.Plain.{ArePlain, ElementThen, End, Nodes, PlainDocument, TextThen, as_written, document_tokens, end_tag, fragment_tokens, has_end_tag, is_start_of_title, plain_doctype, plain_reply, root_of, start_tag, tokens_before}
 use Rattle.h5_round_trip.specs.Answers.{Answers}
 use Rattle.h5_round_trip.specs.Readable.{AreReadable, CanBeRead, IsReadable, IsReadableDocument}
 use Rattle.h5_round_trip.specs.Written.{tag_written, written_before, written_fragment, written_of}

@@ -4,8 +4,8 @@ use Rattle.std.proofs.lemmas.Bool.{false≢true}
 use Rattle.std.specs.Cmp.Lexicographic.{same_text}
 use Rattle.h5_names.specs.AttributeText.{AttributeText, is_same_text}
 use Rattle.h5_tables.specs.TagSets.{cell_names, heading_names, is_one_of, raw_names, void_names}
-use Rattle.h5_plain.specs.Plain.{ArePlain, ElementThen, End, Flow, IsHead, IsPlain, Nodes, Part, PlainDocument, Sort, Columns, TextThen, barrier_names, has_end_tag, inline_names, mark_names, open_block_names, part_names, phrase_names, root_of, ruby_text_names, term_names}
-use Rattle.h5_plain.specs.Plain.{Barrier, Blank, Break, Caption, Cell, Column, ColumnBlank, ColumnGroup, Describing, Division, Formatted, Heading, Item, Link, Paragraph, Phrase, Preformatted, Ruby, RubyText, Ruled, Section, Table, TableRow, Words, Titled, Untitled}
+use Rattle.h5_builder_laws.specs.Plain.{ArePlain, ElementThen, End, Flow, IsHead, IsPlain, Nodes, Part, PlainDocument, Sort, Columns, TextThen, barrier_names, has_end_tag, inline_names, mark_names, open_block_names, part_names, phrase_names, root_of, ruby_text_names, term_names}
+use Rattle.h5_builder_laws.specs.Plain.{Barrier, Blank, Break, Caption, Cell, Column, ColumnBlank, ColumnGroup, Describing, Division, Formatted, Heading, Item, Link, Paragraph, Phrase, Preformatted, Ruby, RubyText, Ruled, Section, Table, TableRow, Words, Titled, Untitled}
 use Rattle.h5_round_trip.proofs.TagLaws.{IsTagName}
 
 -- an element that is written with an end tag, and isn't a title

@@ -19,13 +19,13 @@ use Rattle.h5_markup.specs.Text.{name_of, text_of}
 use Rattle.h5_markup.specs.Attributes.{attributes_of, distinct, has_duplicates}
 use Rattle.h5_serialize.specs.Escape.{escape}
 use Rattle.h5_serialize.specs.Writing.{attribute_written}
-use Rattle.h5_tokenizer.specs.declared.front.Mode.TheVariants.{Data, RawData}
-use Rattle.h5_tokenizer.specs.declared.front.Construct.TheVariants.{StartTag, EndTag}
-use Rattle.h5_tokenizer.specs.Front.{Whole, front}
-use Rattle.h5_tokenizer.specs.Tokens.{is_between, is_self_closing, last_is, token_of}
-use Rattle.h5_tokenizer.proofs.BareLaws.{end_begins, start_begins}
-use Rattle.h5_tokenizer.proofs.StepLaws.{front_concluded}
-use Rattle.h5_plain.specs.Plain.{ArePlain, end_tag, plain_doctype, start_tag}
+use Rattle.h5_plain_tokenizer.specs.declared.front.Mode.TheVariants.{Data, RawData}
+use Rattle.h5_plain_tokenizer.specs.declared.front.Construct.TheVariants.{StartTag, EndTag}
+use Rattle.h5_plain_tokenizer.specs.Front.{Whole, front}
+use Rattle.h5_plain_tokenizer.specs.Tokens.{is_between, is_self_closing, last_is, token_of}
+use Rattle.h5_plain_tokenizer.proofs.BareLaws.{end_begins, start_begins}
+use Rattle.h5_plain_tokenizer.proofs.StepLaws.{front_concluded}
+use Rattle.h5_builder_laws.specs.Plain.{ArePlain, end_tag, plain_doctype, start_tag}
 use Rattle.h5_round_trip.specs.Readable.{AreNameBytes, AreReadable, IsName}
 use Rattle.h5_round_trip.specs.Written.{tag_written}
 use Rattle.h5_round_trip.proofs.CharLaws.{None, no_quote}

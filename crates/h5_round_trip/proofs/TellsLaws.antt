@@ -4,12 +4,12 @@ use Rattle.h5_names.specs.AttributeText.{AttributeText}
 use Rattle.h5_token.specs.Reply.{Reply}
 use Rattle.h5_token.specs.TokenText.{TokenText, TagIs, Characters, EndOfFile}
 use Rattle.h5_token.specs.declared.tag.TagKind.TheVariants.{EndTag}
-use Rattle.h5_reading.specs.Options.{default_options}
-use Rattle.h5_tokenizer.specs.Options.{first_place}
-use Rattle.h5_reading.specs.Blindness.{IsBlindToCuts}
-use Rattle.h5_tokenizer.specs.Whole.{ReadsToEnd}
-use Rattle.h5_tokenizer.proofs.CutLaws.{cuts_agree}
-use Rattle.h5_plain.specs.Plain.{ElementThen, End, Nodes, PlainDocument, TextThen, document_tokens, end_tag, has_end_tag, plain_reply, root_of, start_tag, tokens_before}
+use Rattle.h5_tokenizer_input.specs.Options.{default_options}
+use Rattle.h5_plain_tokenizer.specs.Options.{first_place}
+use Rattle.h5_tokenizer_input.specs.Blindness.{IsBlindToCuts}
+use Rattle.h5_plain_tokenizer.specs.Whole.{ReadsToEnd}
+use Rattle.h5_plain_tokenizer.proofs.CutLaws.{cuts_agree}
+use Rattle.h5_builder_laws.specs.Plain.{ElementThen, End, Nodes, PlainDocument, TextThen, document_tokens, end_tag, has_end_tag, plain_reply, root_of, start_tag, tokens_before}
 use Rattle.h5_round_trip.specs.Answers.{Answers}
 use Rattle.h5_round_trip.specs.Readable.{IsReadableDocument}
 use Rattle.h5_round_trip.specs.Written.{written_of}

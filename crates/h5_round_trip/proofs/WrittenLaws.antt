@@ -6,7 +6,7 @@ use Rattle.std.specs.List.{flat_map}
 use Rattle.h5_names.specs.AttributeText.{AttributeText, is_same_text}
 use Rattle.h5_tables.specs.TagSets.{is_one_of, raw_names, void_names}
 use Rattle.h5_interface.specs.Forest.{Child, ChildNode, ChildText, DoctypeNode, ElementNode, Forest, Kind, Node, children_of}
-use Rattle.h5_rules.specs.formatting.FormattingNames.{html_name}
+use Rattle.h5_builder_spec.specs.formatting.FormattingNames.{html_name}
 use Rattle.h5_serialize.specs.Call.{Call, EndOf, StartOf, TextOf}
 use Rattle.h5_serialize.specs.Escape.{escape}
 use Rattle.h5_serialize.specs.Names.{is_raw_name, is_void}
@@ -18,8 +18,8 @@ use Rattle.h5_serialize.specs.declared.openers.Opener.{Opener}
 use Rattle.h5_serialize.specs.declared.options.SerializeOpts.{SerializeOpts}
 use Rattle.h5_serialize.specs.declared.options.TraversalScope.TheVariants.{ChildrenOnly}
 use Rattle.h5_arena.specs.NodeCalls.{calls_around, calls_of, calls_of_children, shown_children, walk_of}
-use Rattle.h5_plain.specs.Plain.{ElementThen, End, Nodes, PlainDocument, TextThen, has_end_tag, root_of}
-use Rattle.h5_plain.specs.Rebuilding.{DocumentStands, Looks, Stands}
+use Rattle.h5_builder_laws.specs.Plain.{ElementThen, End, Nodes, PlainDocument, TextThen, has_end_tag, root_of}
+use Rattle.h5_builder_laws.specs.Rebuilding.{DocumentStands, Looks, Stands}
 use Rattle.h5_round_trip.specs.Written.{serialized_of, tag_written, written_before}
 use Rattle.h5_round_trip.proofs.ShapeLaws.{Element, None, Shape, Text, Title, Void, document_shape, is_title}
 

@@ -4,7 +4,7 @@ use Rattle.std.specs.Char.{is_ascii_alphabetic}
 use Rattle.h5_names.specs.AttributeText.{AttributeText, is_same_text}
 use Rattle.h5_token.specs.TokenText.{TokenText, Characters, CommentIs, EndOfFile}
 use Rattle.h5_serialize.specs.Escape.{escape}
-use Rattle.h5_plain.specs.Plain.{ArePlain, end_tag, plain_doctype, start_tag}
+use Rattle.h5_builder_laws.specs.Plain.{ArePlain, end_tag, plain_doctype, start_tag}
 use Rattle.h5_round_trip.specs.Readable.{AreNameBytes, AreReadable, IsReadable}
 use Rattle.h5_round_trip.specs.Written.{tag_written}
 

@@ -4,7 +4,7 @@ use Rattle.std.specs.Prelude.{Err, IfOk, IfSome, Ok, Result, not, slice_get}
 use Rattle.std.specs.List.{filter}
 use Rattle.std.specs.Option.{option_map}
 use Rattle.std.proofs.lemmas.List.{drop-map, drop_more, get_or-map, length-map, map-append}
-use Rattle.std.proofs.lemmas.List.Elements.{All-filter, filter-append, filter_passes}
+use Rattle.std.proofs.lemmas.List.Elements.{All-filter, filter_passes}
 use Rattle.h5_interface.specs.Forest.{Forest}
 use Rattle.h5_interface.specs.declared.marks.QuirksMode.{QuirksMode}
 use Rattle.h5_tree.specs.Elements.{elements, is_element}
@@ -102,6 +102,3 @@ module _ (f : Forest) (k : IsShaped f) (test : ℕ → Bool) where
 
   pub first_held : {N : Type 0} (place : N → ℕ) (o : Option N) (ns : List ℕ) → option_map place o ≡ slice_get (filter test (elements f ns)) 0 → IfSome o (λ x. place x < f.bound)
   first_held place o ns e = first_of place o (filter test (elements f ns)) (some_held ns) e
-
-pub upwards_are : (f : Forest) (n : ℕ) (above : List ℕ) → elements f (n ∷ []) ++ elements f above ≡ elements f (n ∷ above)
-upwards_are f n above = sym (filter-append (is_element f) (n ∷ []) above)

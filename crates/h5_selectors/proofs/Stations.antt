@@ -45,12 +45,6 @@ popped stations left station done split is =
     let now = λ (f : Bor Formula). f.now in
     sym is ∙ ap (λ list. map now list ++ done) split ∙ ap (λ list. list ++ done) (map-append now left (station ∷ [])) ∙ append_assoc (map now left) (station.now ∷ []) done
 
--- a part of a set, and then a part of that
-pub both_parts : (set one other part : Bool) → part ≡ (set && one) → (part && other) ≡ (set && (one && other))
-both_parts true true other part e = ap (λ b. b && other) e
-both_parts true false other part e = ap (λ b. b && other) e
-both_parts false one other part e = ap (λ b. b && other) e
-
 -- what is left of a set after one test, and after another
 pub left_parts : (set one other left : Bool) → left ≡ (set && not one) → (left && not other) ≡ (set && not (one || other))
 left_parts true true other left e = ap (λ b. b && not other) e

@@ -93,9 +93,6 @@ added_larger inner formula le added = record {
   steps = λ most under all. added.steps most (omega (arith, le, under)) all;
 }
 
-pub added_none : (query : Context) (formula : Formula) (before : List Waits) → AreAdded query false 0 formula before before
-added_none query formula before = record { same = refl; count = omega arith; steps = λ most le all. all }
-
 -- the answer is known at once
 pub settled : (query : Context) (formula : Formula) (n : ℕ) (answer : Bool) (before : List Waits) → answer ≡ holds_by query formula n → AreTested query formula n answer before before
 settled query formula n answer before is = record {
@@ -153,10 +150,6 @@ fewer_left query steps rest step after split fewer =
     let e = ap (tests_left query) split in
     let s = sum_append (λ (it : Waits). tests_by query it.formula it.node) rest (step ∷ []) in
     omega (arith, e, s, fewer)
-
--- none waited before
-pub first_tested : (query : Context) (formula : Formula) (n : ℕ) {answer : Bool} (after : List Waits) → AreTested query formula n answer [] after → (answer || list_any (step_holds query) after) ≡ holds_by query formula n
-first_tested query formula n after h = h.same ∙ or_false (holds_by query formula n)
 
 -- one waits for the answer of a condition, two do, or one for each element of a list
 pub one_waits : (query : Context) (formula : Formula) (n : ℕ) (step : Waits) (before after : List Waits) → after ≡ before ++ step ∷ [] → step_holds query step ≡ holds_by query formula n

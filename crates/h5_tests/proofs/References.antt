@@ -1,7 +1,7 @@
 -- Named character references: the longest name, and how far a name may continue.
 use Rattle.std.proofs.Common.{◌≡◌, ℕ, Bool, true, false, List, [], ◌∷◌, ◌++◌, map, take, refl, codes, Option, Some, None}
-use Rattle.h5_states.specs.ReferenceTable.{references}
-use Rattle.h5_states.specs.References.{Longest, is_beginning, longest}
+use Rattle.h5_tokenizer_spec.specs.ReferenceTable.{references}
+use Rattle.h5_tokenizer_spec.specs.References.{Longest, is_beginning, longest}
 
 -- a name was found, and this text follows
 abbrev found : (name text rest : List ℕ) → Option Longest

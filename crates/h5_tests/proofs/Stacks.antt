@@ -1,6 +1,6 @@
 -- The index of the newest value of a number in a stack of numbered values.
 use Rattle.std.proofs.Common.{◌≡◌, ℕ, List, [], ◌∷◌, map, refl}
-use Rattle.h5_state.specs.Numbered.{Numbered, newest_under, one_of}
+use Rattle.h5_builder_state.specs.Numbered.{Numbered, newest_under, one_of}
 
 -- the letters a to d
 abbrev four : List (Numbered ℕ)

@@ -2,11 +2,11 @@
 use h5_driver::ParseOpts;
 use h5_interface::QuirksMode;
 use h5_names::{Attribute, LocalName, Namespace, Prefix, QualName, namespaces};
-use h5_reading::TokenizerOpts;
 use h5_serialize::{SerializeOpts, TraversalScope};
 use h5_tables::TreeBuilderOpts;
 use h5_token::states::{RawKind, State};
 use h5_token::{Doctype, Tag, TagKind};
+use h5_tokenizer_input::TokenizerOpts;
 use std::alloc::{AllocError, Global};
 use std::cmp::Ordering;
 use std::hash::{DefaultHasher, Hash, Hasher};

@@ -1,6 +1,6 @@
 //! Texts, and their parse errors.
 use super::recording::{Telling, feed, new_tokenizer};
-use h5_standard::Errors;
+use h5_standard_tokenizer::Errors;
 use h5_tests_sinks::Answer;
 use std::alloc::{AllocError, Global};
 use std::fmt::Write;

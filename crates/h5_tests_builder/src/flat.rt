@@ -1,7 +1,7 @@
 //! A tree as a block, and reads of it.
 use super::arena::small_tree;
 use h5_arena::Arena;
-use h5_flat::{
+use h5_tree_block::{
     COMMENT, DOCUMENT, ELEMENT, NOTHING, TEXT, Unpacked, View, arena_of, columns_of_document,
     html_of,
 };

@@ -5,7 +5,7 @@
 //! tokenizer of any kind; `plain` and `standard` have texts and their tokens, `errors` texts and their parse errors, and `reading` results
 //! of a tokenizer's calls. `parser` has parsers of texts and bytes, `decoding` bytes in any encoding, and `encoded_pages` a page of them.
 //! `feeding` passes lines of tokens to a tree builder, `attaching` runs tree builders over sinks that attach shadow roots, `calls` has the
-//! calls of a tree builder that no text causes, and `selecting` selectors. Begin with `src/arena.rt`.
+//! calls of a tree builder that no text causes, `selecting` selectors, and `editing` edits at a node. Begin with `src/arena.rt`.
 #![tactic(auto)]
 
 #[cfg(test)]
@@ -16,6 +16,8 @@ mod attaching;
 mod calls;
 #[cfg(test)]
 mod decoding;
+#[cfg(test)]
+mod editing;
 #[cfg(test)]
 mod encoded_pages;
 #[cfg(test)]

@@ -1,9 +1,9 @@
 //! Texts, and the tokens that the plain tokenizer emits for them.
 use super::recording::Setting::{Foreign, Html, Raw};
 use super::recording::{Plain, Row, check_all};
+use h5_plain_tokenizer::laws;
 use h5_tests_sinks::Recorder;
 use h5_token::states::RawKind;
-use h5_tokenizer::laws;
 use std::test::Fail;
 
 #[rattlefmt::skip]

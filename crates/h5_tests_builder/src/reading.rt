@@ -1,10 +1,10 @@
 //! Results of a tokenizer's calls: where a token stops it, where it begins in a raw text, after the end, and out of memory. Each is tried
 //! with both tokenizers.
 use super::recording::{Plain, Recording, Standard, new_tokenizer, queued};
-use h5_reading::{BufferQueue, TokenizerOpts, TokenizerResult};
 use h5_tests_sinks::{Answer, Recorder};
 use h5_token::BuildFault;
 use h5_token::states::{RawKind, State};
+use h5_tokenizer_input::{BufferQueue, TokenizerOpts, TokenizerResult};
 use std::alloc::Global;
 use std::process::Abort;
 use std::test::Fail;

@@ -1,9 +1,9 @@
 //! A tokenizer of any kind over a sink that writes its tokens down.
-use h5_reading::{BufferQueue, TokenizerOpts, TokenizerResult};
-use h5_standard::{Errors, ReportingTokenizer};
+use h5_standard_tokenizer::{Errors, ReportingTokenizer};
 use h5_tests_sinks::{Answer, Recorder};
 use h5_token::BuildFault;
 use h5_token::states::RawKind;
+use h5_tokenizer_input::{BufferQueue, TokenizerOpts, TokenizerResult};
 use std::alloc::{AllocError, Global};
 use std::process::Abort;
 
@@ -19,25 +19,25 @@ pub trait Recording: Drop {
 }
 
 /// The plain tokenizer.
-pub type Plain = h5_tokenizer::Tokenizer<Recorder>;
+pub type Plain = h5_plain_tokenizer::Tokenizer<Recorder>;
 
 /// The standard tokenizer.
-pub type Standard = h5_standard::Tokenizer<Recorder>;
+pub type Standard = h5_standard_tokenizer::Tokenizer<Recorder>;
 
 /// The standard tokenizer that reports errors, of which it stores three.
 pub type Telling = ReportingTokenizer<Recorder, Errors>;
 
-impl Recording for h5_tokenizer::Tokenizer<Recorder> {
+impl Recording for h5_plain_tokenizer::Tokenizer<Recorder> {
     fn over(alloc: Global, sink: Recorder, opts: TokenizerOpts) -> Self {
-        h5_tokenizer::Tokenizer::new(alloc, sink, opts)
+        h5_plain_tokenizer::Tokenizer::new(alloc, sink, opts)
     }
 
     fn feed(&mut self, input: &mut BufferQueue) -> Result<TokenizerResult<u8>, BuildFault> {
-        h5_tokenizer::Tokenizer::feed(self, input)
+        h5_plain_tokenizer::Tokenizer::feed(self, input)
     }
 
     fn end(&mut self) -> Result<(), BuildFault> {
-        h5_tokenizer::Tokenizer::end(self)
+        h5_plain_tokenizer::Tokenizer::end(self)
     }
 
     fn sink(&self) -> &Recorder {
@@ -45,17 +45,17 @@ impl Recording for h5_tokenizer::Tokenizer<Recorder> {
     }
 }
 
-impl Recording for h5_standard::Tokenizer<Recorder> {
+impl Recording for h5_standard_tokenizer::Tokenizer<Recorder> {
     fn over(alloc: Global, sink: Recorder, opts: TokenizerOpts) -> Self {
-        h5_standard::Tokenizer::new(alloc, sink, opts)
+        h5_standard_tokenizer::Tokenizer::new(alloc, sink, opts)
     }
 
     fn feed(&mut self, input: &mut BufferQueue) -> Result<TokenizerResult<u8>, BuildFault> {
-        h5_standard::Tokenizer::feed(self, input)
+        h5_standard_tokenizer::Tokenizer::feed(self, input)
     }
 
     fn end(&mut self) -> Result<(), BuildFault> {
-        h5_standard::Tokenizer::end(self)
+        h5_standard_tokenizer::Tokenizer::end(self)
     }
 
     fn sink(&self) -> &Recorder {

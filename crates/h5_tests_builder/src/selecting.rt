@@ -2,9 +2,9 @@
 use h5_arena::Arena;
 use h5_driver::ParseOpts;
 use h5_driver::standard::parse_document;
-use h5_flat::{View, columns_of_document};
 use h5_selectors::{Selector, SelectorError, SelectorProblem};
 use h5_tree::{SoundView, Tree};
+use h5_tree_block::{View, columns_of_document};
 use std::alloc::Global;
 use std::process::Abort;
 use std::test::Fail;

@@ -7,10 +7,10 @@ use Rattle.std.proofs.Math.Nat.{eq-or-lt_of_le}
 use Rattle.std.proofs.lemmas.Bool.{cases_Bool, cond-false, cond-true, eq-eqb, ne_eqb}
 use Rattle.h5_names.specs.AttributeText.{AttributeText, is_same_text}
 use Rattle.h5_interface.specs.Forest.{Kind, Node, attrs_of}
-use Rattle.h5_flat.specs.Block.{kind_in, namespace_in, row_count_in}
+use Rattle.h5_tree_block.specs.Block.{kind_in, namespace_in, row_count_in}
 use Rattle.h5_tree.specs.BlockForest.{forest_in, kind_at, node_of_some}
 use Rattle.h5_tree.specs.Elements.{value_in}
-use Rattle.h5_flat.specs.Read.{attribute_of, attributes_below, attributes_of, local_of, name_of, namespace_named, row_name_of, value_of}
+use Rattle.h5_tree_block.specs.Read.{attribute_of, attributes_below, attributes_of, local_of, name_of, namespace_named, row_name_of, value_of}
 use Rattle.h5_tree.proofs.NodeLaws.{kind_1}
 
 find_later : (p : AttributeText → Bool) (xs ys : List AttributeText) → find p xs ≡ None → find p (xs ++ ys) ≡ find p ys

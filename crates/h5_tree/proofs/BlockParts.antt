@@ -8,15 +8,15 @@ use Rattle.std.proofs.lemmas.List.{append_assoc, length-append}
 use Rattle.std.proofs.lemmas.List.Elements.{All-cons, All-contains, All-nil}
 use Rattle.h5_names.specs.Urls.{html_text, mathml_text, svg_text, xlink_text, xml_text, xmlns_text}
 use Rattle.h5_names.specs.declared.qualified.QualName.{QualName}
-use Rattle.h5_flat.specs.Block.{between, end_before, end_in, end_or_next, ends_at, first_row_in, kind_word_in, name_ends_at, name_text_in, names_begin, names_in, namespace_in, nodes_in, nothing, prefix_in, row_count_in, row_ends_at, row_in, row_names_at, rows_in, space_word_in, text_in, texts_at, texts_begin, value_in, values_begin, with_name, word_in}
-use Rattle.h5_flat.specs.Columns.{Texts, name_word, namespace_number, prefix_number}
-use Rattle.h5_flat.specs.Packed.{AreWordsOf, IsReadAs, block_of, bytes_of_words, length_of, words_of}
-use Rattle.h5_flat.specs.Read.{local_of, name_of, namespace_named, prefix_named, row_name_of, str_in, text_of, value_of}
-use Rattle.h5_flat.specs.declared.columns.Columns.{Columns}
-use Rattle.h5_flat.specs.declared.columns.Ended.{Ended}
-use Rattle.h5_flat.specs.declared.columns.FlatNode.{FlatNode}
-use Rattle.h5_flat.specs.declared.view.Row.{Row}
-use Rattle.h5_flat.specs.declared.view.Span.{Span}
+use Rattle.h5_tree_block.specs.Block.{between, end_before, end_in, end_or_next, ends_at, first_row_in, kind_word_in, name_ends_at, name_text_in, names_begin, names_in, namespace_in, nodes_in, nothing, prefix_in, row_count_in, row_ends_at, row_in, row_names_at, rows_in, space_word_in, text_in, texts_at, texts_begin, value_in, values_begin, with_name, word_in}
+use Rattle.h5_tree_block.specs.Columns.{Texts, name_word, namespace_number, prefix_number}
+use Rattle.h5_tree_block.specs.Packed.{AreWordsOf, IsReadAs, block_of, bytes_of_words, length_of, words_of}
+use Rattle.h5_tree_block.specs.Read.{local_of, name_of, namespace_named, prefix_named, row_name_of, str_in, text_of, value_of}
+use Rattle.h5_tree_block.specs.declared.columns.Columns.{Columns}
+use Rattle.h5_tree_block.specs.declared.columns.Ended.{Ended}
+use Rattle.h5_tree_block.specs.declared.columns.FlatNode.{FlatNode}
+use Rattle.h5_tree_block.specs.declared.view.Row.{Row}
+use Rattle.h5_tree_block.specs.declared.view.Span.{Span}
 use Rattle.h5_tree.specs.KnownCalls.{IsKnownName, IsKnownNamespace, IsKnownPrefix}
 use Rattle.h5_tree.proofs.TextParts.{HasText, IsReadFrom, between_read, str_read, text_read}
 

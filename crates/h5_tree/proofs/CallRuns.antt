@@ -3,8 +3,8 @@ use Rattle.std.proofs.Common.{◌≡◌, ◌∙◌, ℕ, zero, suc, ◌+◌, ◌
 use Rattle.std.proofs.lemmas.Bool.{le-leb, lt-leb}
 use Rattle.std.proofs.lemmas.List.{append-nil, append_assoc}
 use Rattle.h5_serialize.specs.Call.{Call}
-use Rattle.h5_flat.specs.Block.{end_in}
-use Rattle.h5_flat.specs.Html.{begin_calls, calls_from, end_calls, ends_before, open_at}
+use Rattle.h5_tree_block.specs.Block.{end_in}
+use Rattle.h5_tree_block.specs.Html.{begin_calls, calls_from, end_calls, ends_before, open_at}
 
 module _ (b : List ℕ) where
   ends_nothing : (n : ℕ) → ends_before b n [] ≡ []

@@ -7,9 +7,9 @@ use Rattle.std.proofs.lemmas.Bool.{cases_eq, cases_lt, cond-false, cond-true, eq
 use Rattle.h5_interface.specs.Forest.{Child, ChildNode, ChildText, FragmentNode, Kind, Node, children_of}
 use Rattle.h5_tree.specs.Elements as w
 use Rattle.h5_tree.specs.Elements.{elements_among, is_bare}
-use Rattle.h5_flat.specs.Block.{end_in, first_child_in, kind_in, next_in, nodes_in, nothing, parent_in}
+use Rattle.h5_tree_block.specs.Block.{end_in, first_child_in, kind_in, next_in, nodes_in, nothing, parent_in}
 use Rattle.h5_tree.specs.BlockForest.{child_at, child_numbers, forest_in, is_child_of, kind_at, node_of_some}
-use Rattle.h5_flat.specs.Read.{text_of}
+use Rattle.h5_tree_block.specs.Read.{text_of}
 use Rattle.h5_tree.specs.ElementNumbers.{IsChildOrNone, is_bare_in, elements_in, children_from, elements_from, is_bare_from}
 use Rattle.h5_tree.proofs.OrderLaws.{ends_in, children_end, children_step, children_within, none_below, passing, within, within_its_end}
 use Rattle.h5_tree.proofs.SoundOrder.{IsInOrder}

@@ -10,9 +10,9 @@ use Rattle.h5_interface.proofs.ChildLaws.{nodes-append}
 use Rattle.h5_arena.specs.Kin.{with_below}
 use Rattle.h5_tree.specs.Elements as w
 use Rattle.h5_tree.specs.Elements.{elements, is_element}
-use Rattle.h5_flat.specs.Block.{end_in, kind_in, nodes_in, parent_in}
+use Rattle.h5_tree_block.specs.Block.{end_in, kind_in, nodes_in, parent_in}
 use Rattle.h5_tree.specs.BlockForest.{child_at, child_numbers, forest_in, is_child_of}
-use Rattle.h5_flat.specs.Read.{text_of}
+use Rattle.h5_tree_block.specs.Read.{text_of}
 use Rattle.h5_tree.proofs.OrderLaws.{ends_in, children_end, children_step, children_within, none_below, passing, within}
 use Rattle.h5_tree.proofs.SoundOrder.{IsInOrder}
 use Rattle.h5_tree.proofs.NodeLaws.{Fragment, IsAny, Past, Plain, Text, any_is, children_past, children_text, element_is, end_of_text, kind_11}

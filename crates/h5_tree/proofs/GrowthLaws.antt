@@ -1,8 +1,8 @@
 -- Columns that grow.
 use Rattle.std.proofs.Common.{◌≡◌, ◌∙◌, ℕ, zero, suc, ◌+◌, ◌<◌, ◌≤◌, List, [], ◌∷◌, ◌++◌, ap, arith, get_or, length, refl, sym}
 use Rattle.std.specs.Prelude.{◌%◌, ◌/◌}
-use Rattle.h5_flat.specs.declared.columns.Ended.{Ended}
-use Rattle.h5_flat.specs.declared.columns.FlatNode.{FlatNode}
+use Rattle.h5_tree_block.specs.declared.columns.Ended.{Ended}
+use Rattle.h5_tree_block.specs.declared.columns.FlatNode.{FlatNode}
 
 -- a word of nodes that doesn't decrease, from a first number to a last one
 abbrev pub AreGrowing : (word : FlatNode → ℕ) → (from : ℕ) → List FlatNode → (to : ℕ) → Type 0

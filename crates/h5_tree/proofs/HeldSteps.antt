@@ -10,9 +10,9 @@ use Rattle.h5_names.specs.AttributeText.{AttributeText, is_same_name}
 use Rattle.h5_names.specs.declared.qualified.QualName.{QualName}
 use Rattle.h5_serialize.specs.Call.{Call, CommentOf, DoctypeOf, EndOf, InstructionOf, StartOf, TextOf}
 use Rattle.h5_serialize.specs.Walk.{after_each}
-use Rattle.h5_flat.specs.Block.{nothing}
-use Rattle.h5_flat.specs.Columns.{DoctypeIds, Held, HeldNames, after_call, closed, columns_of, contents_opened, element_closed, element_opened, is_template, named, no_ids, nothing_held, number_of, opened, with_attribute, with_attributes, with_bytes, with_ids, with_name, with_node, with_row, with_text}
-use Rattle.h5_flat.specs.declared.columns.FlatNode.{FlatNode}
+use Rattle.h5_tree_block.specs.Block.{nothing}
+use Rattle.h5_tree_block.specs.Columns.{DoctypeIds, Held, HeldNames, after_call, closed, columns_of, contents_opened, element_closed, element_opened, is_template, named, no_ids, nothing_held, number_of, opened, with_attribute, with_attributes, with_bytes, with_ids, with_name, with_node, with_row, with_text}
+use Rattle.h5_tree_block.specs.declared.columns.FlatNode.{FlatNode}
 use Rattle.h5_tree.proofs.BalancedCalls.{AreBalanced, ElementCalls, IsLeafCall, Joined, LeafCall, NoCalls}
 use Rattle.h5_tree.proofs.GrowthLaws.{AreGrowing, AreNamed, EndInTurn, grow_append, grow_from, named_append, named_more, one_more_ends}
 use Rattle.h5_tree.proofs.NodeRuns.{BothRuns, ContentsRun, ElementRun, IsLeafKind, IsRun, LeafNode, NoNodes}

@@ -9,15 +9,15 @@ use Rattle.h5_names.specs.AttributeText.{AttributeText}
 use Rattle.h5_names.specs.declared.qualified.QualName.{QualName}
 use Rattle.h5_serialize.specs.Call.{Call, CommentOf, DoctypeOf, EndOf, InstructionOf, StartOf, TextOf}
 use Rattle.h5_serialize.specs.Walk.{after_each}
-use Rattle.h5_flat.specs.Block.{end_in, first_row_in, kind_in, kind_word_in, name_in, nodes_in, nothing, row_count_in, rows_in, texts_at, word_in}
-use Rattle.h5_flat.specs.Columns.{Held, HeldNames, after_call, closed, contents_opened, element_closed, element_opened, is_template, named, names_held, number_of, name_word, opened, with_attribute, with_attributes, with_bytes, with_ids, with_node, with_row, with_text}
-use Rattle.h5_flat.specs.Html.{begin_calls, end_calls}
-use Rattle.h5_flat.specs.Packed.{IsReadAs}
-use Rattle.h5_flat.specs.Read.{attribute_of, attributes_below, attributes_of, name_of, value_of}
-use Rattle.h5_flat.proofs.HtmlLaws.{comment_begins, doctype_begins, element_begins, element_ends, instruction_begins, nothing_begins, nothing_ends, text_begins}
-use Rattle.h5_flat.specs.declared.columns.Columns.{Columns}
-use Rattle.h5_flat.specs.declared.columns.Ended.{Ended}
-use Rattle.h5_flat.specs.declared.columns.FlatNode.{FlatNode}
+use Rattle.h5_tree_block.specs.Block.{end_in, first_row_in, kind_in, kind_word_in, name_in, nodes_in, nothing, row_count_in, rows_in, texts_at, word_in}
+use Rattle.h5_tree_block.specs.Columns.{Held, HeldNames, after_call, closed, contents_opened, element_closed, element_opened, is_template, named, names_held, number_of, name_word, opened, with_attribute, with_attributes, with_bytes, with_ids, with_node, with_row, with_text}
+use Rattle.h5_tree_block.specs.Html.{begin_calls, end_calls}
+use Rattle.h5_tree_block.specs.Packed.{IsReadAs}
+use Rattle.h5_tree_block.specs.Read.{attribute_of, attributes_below, attributes_of, name_of, value_of}
+use Rattle.h5_tree_block.proofs.HtmlLaws.{comment_begins, doctype_begins, element_begins, element_ends, instruction_begins, nothing_begins, nothing_ends, text_begins}
+use Rattle.h5_tree_block.specs.declared.columns.Columns.{Columns}
+use Rattle.h5_tree_block.specs.declared.columns.Ended.{Ended}
+use Rattle.h5_tree_block.specs.declared.columns.FlatNode.{FlatNode}
 use Rattle.h5_tree.specs.KnownCalls.{AreKnownCalls, IsKnownAttribute, IsKnownCall, IsKnownName}
 use Rattle.h5_tree.proofs.BalancedCalls.{AreBalanced, ElementCalls, IsLeafCall, Joined, LeafCall, NoCalls}
 use Rattle.h5_tree.proofs.BlockParts.{HasBytes, IsNodeAt, name_read, name_texts_of, node_end, node_kind, node_row, node_text, node_within, row_read, rows_of, text_known}

@@ -14,13 +14,13 @@ use Rattle.h5_serialize.specs.declared.options.TraversalScope.TheVariants.{Child
 use Rattle.h5_arena.specs.ArenaModel.{ArenaView, forest_seen, fragment_root}
 use Rattle.h5_arena.specs.Html.{opts_for}
 use Rattle.h5_arena.specs.NodeCalls.{walk_of}
-use Rattle.h5_flat.specs.Block.{end_in, has_scripting, is_scripting_in, kind_in, mode_in, name_in, nodes_in}
-use Rattle.h5_flat.specs.Columns.{DoctypeIds, Held, after_call, closed, columns_of, document_columns, fragment_columns, held, ids_among, mode_number, names_held, no_ids, nothing_held, opened}
-use Rattle.h5_flat.specs.Html.{calls_from, calls_in, html_of, scope_in}
-use Rattle.h5_flat.specs.Packed.{AreWordsOf, IsReadAs, block_of, words_of}
-use Rattle.h5_flat.specs.Read.{name_of}
-use Rattle.h5_flat.specs.declared.columns.Columns.{Columns}
-use Rattle.h5_flat.specs.declared.columns.Ended.{Ended}
+use Rattle.h5_tree_block.specs.Block.{end_in, has_scripting, is_scripting_in, kind_in, mode_in, name_in, nodes_in}
+use Rattle.h5_tree_block.specs.Columns.{DoctypeIds, Held, after_call, closed, columns_of, document_columns, fragment_columns, held, ids_among, mode_number, names_held, no_ids, nothing_held, opened}
+use Rattle.h5_tree_block.specs.Html.{calls_from, calls_in, html_of, scope_in}
+use Rattle.h5_tree_block.specs.Packed.{AreWordsOf, IsReadAs, block_of, words_of}
+use Rattle.h5_tree_block.specs.Read.{name_of}
+use Rattle.h5_tree_block.specs.declared.columns.Columns.{Columns}
+use Rattle.h5_tree_block.specs.declared.columns.Ended.{Ended}
 use Rattle.h5_tree.specs.KnownCalls.{AreKnownCalls, fragment_walk}
 use Rattle.h5_tree.proofs.BalancedCalls.{AreBalanced, walk_balanced}
 use Rattle.h5_tree.proofs.BlockParts.{HasBytes, has_bytes, node_end, node_kind, node_within}

@@ -9,10 +9,10 @@ use Rattle.h5_names.specs.AttributeText.{AttributeText, is_same_name}
 use Rattle.h5_names.specs.declared.qualified.QualName.{QualName}
 use Rattle.h5_serialize.specs.Call.{Call, CommentOf, DoctypeOf, EndOf, InstructionOf, StartOf, TextOf}
 use Rattle.h5_serialize.specs.Walk.{after_each}
-use Rattle.h5_flat.specs.Block.{nothing}
-use Rattle.h5_flat.specs.Columns.{Held, HeldNames, after_call, closed, contents_opened, element_closed, element_opened, is_template, name_word, named, no_ids, number_of, opened, with_attribute, with_attributes, with_bytes, with_ids, with_name, with_node, with_row, with_text}
-use Rattle.h5_flat.specs.declared.columns.Ended.{Ended}
-use Rattle.h5_flat.specs.declared.columns.FlatNode.{FlatNode}
+use Rattle.h5_tree_block.specs.Block.{nothing}
+use Rattle.h5_tree_block.specs.Columns.{Held, HeldNames, after_call, closed, contents_opened, element_closed, element_opened, is_template, name_word, named, no_ids, number_of, opened, with_attribute, with_attributes, with_bytes, with_ids, with_name, with_node, with_row, with_text}
+use Rattle.h5_tree_block.specs.declared.columns.Ended.{Ended}
+use Rattle.h5_tree_block.specs.declared.columns.FlatNode.{FlatNode}
 use Rattle.h5_tree.proofs.GrowthLaws.{EndInTurn, one_more_ends}
 use Rattle.h5_tree.proofs.HeldSteps.{number_within}
 use Rattle.h5_tree.proofs.TextParts.{HasText, IsStart, start_at, start_both, start_more, start_same, text_added, text_stays}

@@ -3,9 +3,9 @@ use Rattle.std.proofs.Common.{◌≡◌, ◌≢◌, ◌∙◌, ℕ, zero, suc, �
 use Rattle.std.specs.Prelude.{◌==◌, not}
 use Rattle.std.proofs.lemmas.Bool.{and_parts, cases_Bool, cases_eq, cases_lt, cond-false, cond-true, eq-eqb, eqb-true, ne_eqb}
 use Rattle.h5_interface.specs.Forest.{ChildNode, ChildText, FragmentNode, children_of}
-use Rattle.h5_flat.specs.Block.{end_in, kind_in, nodes_in, parent_in}
+use Rattle.h5_tree_block.specs.Block.{end_in, kind_in, nodes_in, parent_in}
 use Rattle.h5_tree.specs.BlockForest.{child_at, forest_in, is_child_of}
-use Rattle.h5_flat.specs.Read.{text_of}
+use Rattle.h5_tree_block.specs.Read.{text_of}
 use Rattle.h5_tree.specs.Elements.{AreElementsOrLeaves, IsElementOrLeaf}
 use Rattle.h5_tree.proofs.OrderLaws.{passing}
 use Rattle.h5_tree.proofs.SoundOrder.{IsInOrder, top_up}

@@ -3,8 +3,8 @@ use Rattle.std.proofs.Common.{◌≡◌, ◌≢◌, ◌∙◌, ◌⊎◌, ℕ, �
 use Rattle.std.specs.Prelude.{◌==◌, nat_lt}
 use Rattle.std.proofs.lemmas.Bool.{cases_cond, cases_eq, cases_lt, cond-false, cond-true, eq-eqb, le-ltb, ne_eqb}
 use Rattle.std.proofs.lemmas.List.{append-nil}
-use Rattle.h5_flat.specs.Block.{end_in, kind_in, next_in, nodes_in, nothing, parent_in}
-use Rattle.h5_flat.specs.Sound.{is_sound}
+use Rattle.h5_tree_block.specs.Block.{end_in, kind_in, next_in, nodes_in, nothing, parent_in}
+use Rattle.h5_tree_block.specs.Sound.{is_sound}
 use Rattle.h5_tree.specs.ElementNumbers.{IsBefore, IsChildOrNone, elements_up_to, elements_from, is_bare_from, elements_between}
 use Rattle.h5_tree.proofs.SoundOrder.{IsInOrder, sound_in_order}
 use Rattle.h5_tree.proofs.ChildLaws.{next_is_child, bare_from_nothing, bare_from_step, elements_from_nothing, elements_from_step}

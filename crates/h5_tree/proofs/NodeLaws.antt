@@ -8,9 +8,9 @@ use Rattle.h5_interface.specs.Forest.{Child, CommentNode, DoctypeNode, DocumentN
 use Rattle.h5_arena.specs.ArenaModel.{child_parent, name_of_kind}
 use Rattle.h5_arena.specs.Kin.{tree_parent}
 use Rattle.h5_tree.specs.Elements.{is_element, name_of as element_name}
-use Rattle.h5_flat.specs.Block.{end_in, kind_in, name_in, nodes_in, parent_in}
+use Rattle.h5_tree_block.specs.Block.{end_in, kind_in, name_in, nodes_in, parent_in}
 use Rattle.h5_tree.specs.BlockForest.{forest_in, kind_at, node_of_some, other_kind_at, some_number}
-use Rattle.h5_flat.specs.Read.{name_of, value_of}
+use Rattle.h5_tree_block.specs.Read.{name_of, value_of}
 use Rattle.h5_tree.proofs.SoundOrder.{IsInOrder, kind_past}
 
 -- the other kinds aren't elements

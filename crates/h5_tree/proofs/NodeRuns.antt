@@ -3,7 +3,7 @@ use Rattle.std.proofs.Common.{◌≡◌, ◌∙◌, ◌⊎◌, ℕ, ◌+◌, ◌
 use Rattle.std.specs.Prelude.{◌%◌}
 use Rattle.std.proofs.lemmas.Bool.{cases_lt, false≢true}
 use Rattle.std.proofs.lemmas.List.{append_assoc, get_or_at, length-append}
-use Rattle.h5_flat.specs.declared.columns.FlatNode.{FlatNode}
+use Rattle.h5_tree_block.specs.declared.columns.FlatNode.{FlatNode}
 
 -- a text, a processing instruction, a comment or a doctype
 abbrev pub IsLeafKind : ℕ → Type 0

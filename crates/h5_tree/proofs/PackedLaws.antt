@@ -3,13 +3,13 @@ use Rattle.std.proofs.Common.{◌≡◌, ◌∙◌, ◌⊎◌, ℕ, zero, suc, �
 use Rattle.std.specs.Prelude.{◌%◌, ◌/◌, ◌==◌, nat_le, nat_lt}
 use Rattle.std.proofs.lemmas.Bool.{and_from, cases_eq, cond-false, cond-true, eq-eqb, false≢true, le-leb, lt-ltb, ne_eqb, or_left, or_right}
 use Rattle.std.proofs.lemmas.List.{append-nil}
-use Rattle.h5_flat.specs.Block.{end_before, first_row_in, kind_in, kind_word_in, name_ends_at, name_in, names_in, nodes_in, nothing, row_ends_at, rows_in, word_in}
-use Rattle.h5_flat.specs.Columns.{held}
-use Rattle.h5_flat.specs.Packed.{AreWordsOf, IsReadAs, words_of}
-use Rattle.h5_flat.specs.Sound.{all_below, do_ends_fit, does_grow, end_word, has_kind, has_root, is_in_order, is_node_sound, is_sound, parent_word, stands, text_word}
-use Rattle.h5_flat.specs.declared.columns.Columns.{Columns}
-use Rattle.h5_flat.specs.declared.columns.Ended.{Ended}
-use Rattle.h5_flat.specs.declared.columns.FlatNode.{FlatNode}
+use Rattle.h5_tree_block.specs.Block.{end_before, first_row_in, kind_in, kind_word_in, name_ends_at, name_in, names_in, nodes_in, nothing, row_ends_at, rows_in, word_in}
+use Rattle.h5_tree_block.specs.Columns.{held}
+use Rattle.h5_tree_block.specs.Packed.{AreWordsOf, IsReadAs, words_of}
+use Rattle.h5_tree_block.specs.Sound.{all_below, do_ends_fit, does_grow, end_word, has_kind, has_root, is_in_order, is_node_sound, is_sound, parent_word, stands, text_word}
+use Rattle.h5_tree_block.specs.declared.columns.Columns.{Columns}
+use Rattle.h5_tree_block.specs.declared.columns.Ended.{Ended}
+use Rattle.h5_tree_block.specs.declared.columns.FlatNode.{FlatNode}
 use Rattle.h5_tree.proofs.GrowthLaws.{AreGrowing, AreNamed, EndInTurn, grows_at, last_end, named_at, next_end}
 use Rattle.h5_tree.proofs.HeldSteps.{IsWhole}
 use Rattle.h5_tree.proofs.NodeRuns.{IsLeafKind, IsPlaced, IsRun, IsSegment, run_segment}

@@ -7,10 +7,10 @@ use Rattle.h5_serialize.specs.Call.{Call}
 use Rattle.h5_serialize.specs.declared.options.TraversalScope.TheVariants.{ChildrenOnly}
 use Rattle.h5_arena.specs.ArenaModel.{ArenaView, forest_seen, fragment_root}
 use Rattle.h5_arena.specs.NodeCalls.{walk_of}
-use Rattle.h5_flat.specs.Columns.{document_columns, fragment_columns, held, ids_among, mode_number, no_ids}
-use Rattle.h5_flat.specs.Packed.{AreWordsOf, IsReadAs, words_of}
-use Rattle.h5_flat.specs.Sound.{is_sound}
-use Rattle.h5_flat.specs.declared.columns.Columns.{Columns}
+use Rattle.h5_tree_block.specs.Columns.{document_columns, fragment_columns, held, ids_among, mode_number, no_ids}
+use Rattle.h5_tree_block.specs.Packed.{AreWordsOf, IsReadAs, words_of}
+use Rattle.h5_tree_block.specs.Sound.{is_sound}
+use Rattle.h5_tree_block.specs.declared.columns.Columns.{Columns}
 use Rattle.h5_tree.proofs.BalancedCalls.{AreBalanced, NoCalls, walk_balanced}
 use Rattle.h5_tree.proofs.HeldSteps.{IsWhole, whole_columns}
 use Rattle.h5_tree.proofs.PackedLaws.{whole_sound}

@@ -9,10 +9,10 @@ use Rattle.h5_names.specs.declared.qualified.QualName.{QualName}
 use Rattle.h5_interface.specs.Forest.{CommentNode, DoctypeNode, DocumentNode, ElementNode, FragmentNode, InstructionNode, Kind, Node, kind_of}
 use Rattle.h5_arena.specs.Kin.{tree_parent}
 use Rattle.h5_tree.specs.Elements as w
-use Rattle.h5_flat.specs.Block.{end_in, first_child_in, kind_in, name_in, namespace_in, next_in, nodes_in, parent_in}
+use Rattle.h5_tree_block.specs.Block.{end_in, first_child_in, kind_in, name_in, namespace_in, next_in, nodes_in, parent_in}
 use Rattle.h5_tree.specs.BlockForest.{forest_in, kind_at, node_of_some, other_kind_at, some_number}
-use Rattle.h5_flat.specs.Read.{local_of, name_of, namespace_named, value_of}
-use Rattle.h5_flat.specs.Sound.{is_sound}
+use Rattle.h5_tree_block.specs.Read.{local_of, name_of, namespace_named, value_of}
+use Rattle.h5_tree_block.specs.Sound.{is_sound}
 use Rattle.h5_tree.specs.ElementNumbers.{IsBefore, IsChildOrNone, elements_up_to, elements_from, is_bare_from, elements_between}
 use Rattle.h5_tree.proofs.OrderLaws.{within}
 use Rattle.h5_tree.proofs.SoundOrder.{IsInOrder, kind_past, sound_in_order}

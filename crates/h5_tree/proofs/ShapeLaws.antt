@@ -7,9 +7,9 @@ use Rattle.std.proofs.lemmas.Bool.{and_parts, and_right, cases_Bool, cases_eq, c
 use Rattle.h5_interface.specs.Ancestors.{Further, IsAncestor, Parent}
 use Rattle.h5_interface.specs.Forest.{AreParted, ChildNode, ChildText, FragmentNode, IsForest, IsNode, Kind, Node, below, below_of, children_of, contents_of, count, is_at, kind_of, nodes, parent_of}
 use Rattle.h5_interface.proofs.ChildLaws.{count-append}
-use Rattle.h5_flat.specs.Block.{contents_in, end_in, first_child_in, kind_in, nodes_in, nothing, parent_in}
+use Rattle.h5_tree_block.specs.Block.{contents_in, end_in, first_child_in, kind_in, nodes_in, nothing, parent_in}
 use Rattle.h5_tree.specs.BlockForest.{child_at, child_numbers, forest_in, is_child_of, kind_at, node_of_some, some_number}
-use Rattle.h5_flat.specs.Read.{text_of}
+use Rattle.h5_tree_block.specs.Read.{text_of}
 use Rattle.h5_tree.specs.Shape.{IsShaped}
 use Rattle.h5_tree.proofs.OrderLaws.{passing, within, within_its_end}
 use Rattle.h5_tree.proofs.SoundOrder.{IsInOrder, kind_past, top_up}

@@ -10,9 +10,9 @@ use Rattle.h5_arena.specs.ChildTests.{is_child_node}
 use Rattle.h5_arena.specs.Kin.{siblings_with_self, children_before, children_behind, tree_parent}
 use Rattle.h5_tree.specs.Elements as w
 use Rattle.h5_tree.specs.Elements.{elements_among}
-use Rattle.h5_flat.specs.Block.{end_in, first_child_in, kind_in, next_in, nodes_in, nothing, parent_in}
+use Rattle.h5_tree_block.specs.Block.{end_in, first_child_in, kind_in, next_in, nodes_in, nothing, parent_in}
 use Rattle.h5_tree.specs.BlockForest.{child_at, child_numbers, forest_in, is_child_of}
-use Rattle.h5_flat.specs.Read.{text_of}
+use Rattle.h5_tree_block.specs.Read.{text_of}
 use Rattle.h5_tree.proofs.OrderLaws.{below_it, is_below, children_step, children_step_to, passing, passing_none, passing_split, within, within_its_end}
 use Rattle.h5_tree.proofs.SoundOrder.{IsInOrder, kind_past, top_up}
 use Rattle.h5_tree.proofs.NodeLaws.{Fragment, IsAny, Past, Plain, Text, any_is, end_of_text, kind_11, parent_none_0, parent_none_11, parent_none_3}

@@ -3,9 +3,9 @@ use Rattle.std.proofs.Common.{◌≡◌, ◌∙◌, ◌⊎◌, ℕ, zero, suc, �
 use Rattle.std.specs.Prelude.{◌%◌, ◌==◌, nat_le, nat_lt}
 use Rattle.std.proofs.Math.Nat.{eq-or-lt_of_le}
 use Rattle.std.proofs.lemmas.Bool.{and_parts, cases_eq, cases_lt, cond-false, cond-true, eq-eqb, eqb-true, le-leb, leb-true, le-ltb, lt-ltb, ltb-true, ne_eqb, or_cases}
-use Rattle.h5_flat.specs.Block.{before_or_nothing, end_in, end_or_next, first_row_in, kind_in, name_ends_at, name_in, names_in, nodes_in, nothing, parent_in, row_ends_at, rows_in, word_in}
+use Rattle.h5_tree_block.specs.Block.{before_or_nothing, end_in, end_or_next, first_row_in, kind_in, name_ends_at, name_in, names_in, nodes_in, nothing, parent_in, row_ends_at, rows_in, word_in}
 use Rattle.h5_tree.specs.Order.{IsOrder}
-use Rattle.h5_flat.specs.Sound.{all_below, do_ends_fit, does_grow, end_word, has_kind, has_root, is_in_order, is_node_sound, is_sound, parent_word, stands, text_word}
+use Rattle.h5_tree_block.specs.Sound.{all_below, do_ends_fit, does_grow, end_word, has_kind, has_root, is_in_order, is_node_sound, is_sound, parent_word, stands, text_word}
 
 -- the words of the columns of parents and ends, and the parents and ends that are read from them
 record AreWords (count : ℕ) (up_word end_word' up end : ℕ → ℕ) : Type 0 where

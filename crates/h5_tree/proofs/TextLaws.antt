@@ -4,9 +4,9 @@ use Rattle.std.specs.Prelude.{◌==◌, not}
 use Rattle.std.proofs.Math.Nat.{eq-or-lt_of_le}
 use Rattle.std.proofs.lemmas.Bool.{cases_eq, cases_lt, cond-false, cond-true, eq-eqb, ne_eqb}
 use Rattle.h5_interface.specs.Forest.{AreParted, Child, ChildNode, ChildText, FragmentNode, children_of}
-use Rattle.h5_flat.specs.Block.{end_in, kind_in, next_in, nodes_in, parent_in}
+use Rattle.h5_tree_block.specs.Block.{end_in, kind_in, next_in, nodes_in, parent_in}
 use Rattle.h5_tree.specs.BlockForest.{child_at, child_numbers, forest_in}
-use Rattle.h5_flat.specs.Read.{text_of}
+use Rattle.h5_tree_block.specs.Read.{text_of}
 use Rattle.h5_tree.specs.ElementNumbers.{children_from}
 use Rattle.h5_tree.proofs.OrderLaws.{ends_in, children_end, children_step, children_within, within}
 use Rattle.h5_tree.proofs.SoundOrder.{IsInOrder}

@@ -6,11 +6,11 @@ use Rattle.std.specs.Str.{IsUtf8}
 use Rattle.std.proofs.lemmas.Bool.{and_from, cond-false, le-leb, ne_eqb}
 use Rattle.std.proofs.lemmas.List.{append-nil, append_assoc, drop_at, get_or_append_left, get_or_at, get_or_default, length-append, take_at}
 use Rattle.std.proofs.lemmas.Str.{is_utf8-from_IsUtf8}
-use Rattle.h5_flat.specs.Block.{between, end_before, word_in}
-use Rattle.h5_flat.specs.Columns.{Texts, with_text}
-use Rattle.h5_flat.specs.Read.{bytes_in, str_in}
-use Rattle.h5_flat.specs.declared.columns.Ended.{Ended}
-use Rattle.h5_flat.specs.declared.view.Span.{Span}
+use Rattle.h5_tree_block.specs.Block.{between, end_before, word_in}
+use Rattle.h5_tree_block.specs.Columns.{Texts, with_text}
+use Rattle.h5_tree_block.specs.Read.{bytes_in, str_in}
+use Rattle.h5_tree_block.specs.declared.columns.Ended.{Ended}
+use Rattle.h5_tree_block.specs.declared.view.Span.{Span}
 use Rattle.h5_tree.proofs.GrowthLaws.{EndInTurn, last_end}
 
 -- a list begins with another

@@ -4,9 +4,9 @@ use Rattle.std.specs.List.{filter, range_with_len}
 use Rattle.h5_interface.specs.Forest.{Child, ChildNode, ChildText, CommentNode, DoctypeNode, DocumentNode, ElementNode, Forest, FragmentNode, InstructionNode, Kind, Node}
 use Rattle.h5_interface.specs.Seen.{no_flags, no_marks}
 use Rattle.h5_interface.specs.declared.marks.QuirksMode.{QuirksMode}
-use Rattle.h5_flat.specs.Block.{contents_in, kind_in, name_in, nodes_in, nothing, parent_in, quirks_in}
-use Rattle.h5_flat.specs.Read.{attributes_of, name_of, text_of, value_of}
-use Rattle.h5_flat.specs.SameTree.{quirks_named}
+use Rattle.h5_tree_block.specs.Block.{contents_in, kind_in, name_in, nodes_in, nothing, parent_in, quirks_in}
+use Rattle.h5_tree_block.specs.Read.{attributes_of, name_of, text_of, value_of}
+use Rattle.h5_tree_block.specs.SameTree.{quirks_named}
 
 abbrev pub mode_in : (block : List ℕ) → QuirksMode
 mode_in b = quirks_named (quirks_in b)

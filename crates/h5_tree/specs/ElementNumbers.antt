@@ -2,7 +2,7 @@
 use Rattle.std.specs.Prelude.{◌≡◌, ◌⊎◌, ℕ, ◌+◌, ◌-◌, ◌<◌, ◌≤◌, ◌==◌, ◌||◌, Bool, false, true, if◌then◌else◌, List, [], ◌∷◌, nat_lt}
 use Prim.Native.Nat.{zero, suc}
 use Rattle.std.specs.List.{filter, range_with_len}
-use Rattle.h5_flat.specs.Block.{end_in, kind_in, nodes_in, nothing, parent_in}
+use Rattle.h5_tree_block.specs.Block.{end_in, kind_in, nodes_in, nothing, parent_in}
 
 module _ (b : List ℕ) where
   -- the elements among numbers

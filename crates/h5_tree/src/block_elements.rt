@@ -1,12 +1,12 @@
 //! Elements among the nodes of a sound block: among the siblings from one on, or among all nodes up to another.
 ghost use Rattle.std.specs.Prelude.{◌≡◌, ◌≤◌, ◌<◌, ◌+◌, ◌==◌, ◌||◌, ◌∷◌, ◌++◌, [], ℕ, IfOk, None, OnOk, Some, cond};
-ghost use Rattle.h5_flat.specs.Block as b;
+ghost use Rattle.h5_tree_block.specs.Block as b;
 ghost use Rattle.h5_tree.specs.BlockForest.{some_number};
 ghost use Rattle.h5_tree.specs.ElementNumbers.{IsBefore, IsChildOrNone, elements_between, elements_from, elements_up_to, is_bare_from};
 
 use super::block_names::is_element;
 use super::of_block::SoundView;
-use h5_flat::{ELEMENT, FRAGMENT, NOTHING, TEXT, View};
+use h5_tree_block::{ELEMENT, FRAGMENT, NOTHING, TEXT, View};
 use std::alloc::{AllocError, Global};
 
 // Adds a node to a list, if it is an element.

@@ -2,13 +2,13 @@
 ghost use Rattle.std.specs.Prelude.{◌≡◌, ◌==◌, ◌&&◌, option_copied};
 ghost use Rattle.h5_names.specs.AttributeText.{is_same_text};
 ghost use Rattle.h5_interface.specs.Forest.{attrs_of};
-ghost use Rattle.h5_flat.specs.Block as b;
-ghost use Rattle.h5_flat.specs.Read as r;
+ghost use Rattle.h5_tree_block.specs.Block as b;
+ghost use Rattle.h5_tree_block.specs.Read as r;
 ghost use Rattle.h5_tree.specs.BlockForest.{forest_in};
 ghost use Rattle.h5_tree.specs.Elements.{value_in};
 
-use h5_flat::{ELEMENT, NOTHING, View};
 use h5_names::{LocalName, namespaces};
+use h5_tree_block::{ELEMENT, NOTHING, View};
 
 pub(crate) fn is_element(view: &View<'_>, id: u32) -> bool
     ensures { result ≡ (b.kind_in view.now.block.now id == 1) }
@@ -17,7 +17,7 @@ pub(crate) fn is_element(view: &View<'_>, id: u32) -> bool
 }
 
 // The namespace with this number.
-#[tactic(auto, unfolding(h5_flat::specs::Read::namespace_named))]
+#[tactic(auto, unfolding(h5_tree_block::specs::Read::namespace_named))]
 fn namespace_url(number: u32) -> &'static str
     ensures { result.now ≡ r.namespace_named number }
 {
@@ -93,7 +93,7 @@ fn row_name(view: &View<'_>, node: u32, index: u32) -> u32
 }
 
 // The value of a row; empty if the block has none there.
-#[tactic(auto, unfolding(h5_flat::specs::Read::value_of))]
+#[tactic(auto, unfolding(h5_tree_block::specs::Read::value_of))]
 fn row_value<'a>(view: &View<'a>, node: u32, index: u32) -> &'a str
     ensures { result.now ≡ r.value_of view.now.block.now node index }
 {

@@ -8,7 +8,7 @@
 //! The forest of a block (`specs/BlockForest.antt`) is defined by the column of parents alone: the children of a node are the numbers with
 //! that parent. It is proved that the first child, the next sibling and the end of a node find exactly these.
 //!
-//! This crate depends on h5_names, h5_interface, h5_serialize, h5_arena and h5_flat; h5_selectors selects in such trees. Begin with
+//! This crate depends on h5_names, h5_interface, h5_serialize, h5_arena and h5_tree_block; h5_selectors selects in such trees. Begin with
 //! `specs/Elements.antt` (elements of a forest) and `src/tree.rt`; then read `specs/BlockForest.antt`, `specs/Order.antt` and `src/laws.rt`.
 #![tactic(auto)]
 

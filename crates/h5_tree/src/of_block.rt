@@ -1,7 +1,7 @@
 //! A sound block is a tree. It is read in place.
 ghost use Rattle.std.specs.Prelude.{◌≡◌, ◌<◌, IfSome, is_some, true};
-ghost use Rattle.h5_flat.specs.Block as b;
-ghost use Rattle.h5_flat.specs.Sound as s;
+ghost use Rattle.h5_tree_block.specs.Block as b;
+ghost use Rattle.h5_tree_block.specs.Sound as s;
 ghost use Rattle.h5_tree.specs.BlockForest.{forest_in, mode_in};
 
 use super::block_elements::{
@@ -11,9 +11,9 @@ use super::block_names::{
     find_row, has_local_name, has_namespace, is_element, is_html_element, is_same_type,
 };
 use super::tree::Tree;
-use h5_flat::{DOCUMENT, View};
 use h5_interface::QuirksMode;
 use h5_names::{LocalName, namespaces};
+use h5_tree_block::{DOCUMENT, View};
 use std::alloc::{AllocError, Global};
 
 /// A sound block: `View::is_sound` returned true, so its nodes are a tree in tree order.

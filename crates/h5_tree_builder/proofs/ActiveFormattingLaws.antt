@@ -4,10 +4,10 @@ use Rattle.std.proofs.lemmas.List.{length-map, map-append, reverse-append}
 use Rattle.h5_token.specs.TokenText.{tag_text}
 use Rattle.h5_tables.specs.declared.entry.FormatEntry.{FormatEntry}
 use Rattle.h5_tables.specs.declared.entry.FormatEntry.TheVariants.{Element, Marker}
-use Rattle.h5_rules.specs.formatting.FormattingList.{ElementEntry, after_marker}
-use Rattle.h5_state.specs.Listed.{entry_of}
-use Rattle.h5_state.specs.View.{listed_node}
-use Rattle.h5_state.specs.declared.open_element.Listed.{Listed}
+use Rattle.h5_builder_spec.specs.formatting.FormattingList.{ElementEntry, after_marker}
+use Rattle.h5_builder_state.specs.Listed.{entry_of}
+use Rattle.h5_builder_state.specs.View.{listed_node}
+use Rattle.h5_builder_state.specs.declared.open_element.Listed.{Listed}
 use Rattle.h5_tree_builder.specs.ActiveFormatting.{falling, given_entry, given_place, placed, still_given}
 
 map-reversed : {A B : Type 0} (f : A → B) (l : List A) → map f (reverse l) ≡ reverse (map f l)

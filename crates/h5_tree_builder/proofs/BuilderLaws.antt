@@ -10,19 +10,20 @@ use Rattle.h5_tables.specs.declared.entry.FormatEntry.{FormatEntry}
 use Rattle.h5_tables.specs.declared.modes.InsertionMode.{InsertionMode}
 use Rattle.h5_tables.specs.declared.modes.InsertionMode.TheVariants.{Initial}
 use Rattle.h5_tables.specs.declared.options.TreeBuilderOpts.{TreeBuilderOpts}
-use Rattle.h5_rules.specs.Run.{doctype_in, is_counted, refuses_in, step, take_or_refuse, taken, tell_or_refuse, text_step, without_lf}
+use Rattle.h5_builder_spec.specs.Run.{doctype_in, is_counted, refuses_in, step, take_or_refuse, taken, tell_or_refuse, text_step, without_lf}
 use Rattle.h5_interface.specs.declared.sink.TreeSink.{Ghosts}
-use Rattle.h5_rules.specs.Sound.{Fits, HasLists, Sound}
-use Rattle.h5_rules.specs.World.{World, names_of}
-use Rattle.h5_plain.proofs.turns.TurnLaws.{turns_few}
-use Rattle.h5_plain.proofs.cuts.RunLaws.{is_taken, moved}
-use Rattle.h5_plain.proofs.StartLaws.{all_none, fits_none, lists_none}
-use Rattle.h5_state.specs.Steps.{world_of}
-use Rattle.h5_state.specs.Stamps.{AreStamped}
-use Rattle.h5_state.specs.Summaries.{IsKept as StackIsKept}
-use Rattle.h5_state.specs.declared.open_element.Listed.{Listed}
-use Rattle.h5_state.specs.declared.open_element.OpenElements.{OpenElements}
-use Rattle.h5_state.specs.declared.state.State.{State}
+use Rattle.h5_builder_spec.specs.inner.Kept.{Fits, HasLists}
+use Rattle.h5_builder_spec.specs.Sound.{Sound}
+use Rattle.h5_builder_spec.specs.World.{World, names_of}
+use Rattle.h5_builder_laws.proofs.turns.TurnLaws.{turns_few}
+use Rattle.h5_builder_laws.proofs.cuts.RunLaws.{is_taken, moved}
+use Rattle.h5_builder_laws.proofs.StartLaws.{all_none, fits_none, lists_none}
+use Rattle.h5_builder_state.specs.Steps.{world_of}
+use Rattle.h5_builder_state.specs.Stamps.{AreStamped}
+use Rattle.h5_builder_state.specs.Summaries.{IsKept as StackIsKept}
+use Rattle.h5_builder_state.specs.declared.open_element.Listed.{Listed}
+use Rattle.h5_builder_state.specs.declared.open_element.OpenElements.{OpenElements}
+use Rattle.h5_builder_state.specs.declared.state.State.{State}
 use Rattle.h5_tree_builder.specs.Builder.{Answered, Building, first_world}
 use Rattle.h5_tree_builder.specs.Chains.{CameTo}
 use Rattle.h5_tree_builder.specs.Held.{IsKept}

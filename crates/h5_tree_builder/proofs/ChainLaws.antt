@@ -9,23 +9,24 @@ use Rattle.h5_tables.specs.TurnResult as results
 use Rattle.h5_tables.specs.TurnResult.{TurnResult}
 use Rattle.h5_tables.specs.TurnText.{HasText, TurnText, is_self_closing}
 use Rattle.h5_tables.specs.declared.modes.InsertionMode.{InsertionMode}
-use Rattle.h5_rules.specs.fitting.Fits.{is_before_root}
-use Rattle.h5_rules.specs.fitting.NamesFit.{NamesFit}
-use Rattle.h5_rules.proofs.fitting.OpenLaws.{names_root_open}
-use Rattle.h5_rules.proofs.rows.MarkLaws.{still_told}
-use Rattle.h5_rules.specs.Changes.{set_mode}
-use Rattle.h5_rules.specs.modes.ForeignContent.{dispatch}
-use Rattle.h5_rules.specs.Rows.{Follows}
-use Rattle.h5_rules.specs.Settle.{Settled, settle}
-use Rattle.h5_rules.specs.Sound.{Fits, HasHtmlRoot, Sound, situation_of}
-use Rattle.h5_rules.specs.World.{World, names_of}
-use Rattle.h5_plain.proofs.turns.SettleLaws.{acknowledged_here, answered_here, ends_here, goes_on}
+use Rattle.h5_builder_spec.specs.inner.Fits.{is_before_root}
+use Rattle.h5_builder_spec.specs.inner.NamesFit.{NamesFit}
+use Rattle.h5_builder_spec.proofs.fitting.OpenLaws.{names_root_open}
+use Rattle.h5_builder_spec.proofs.rows.MarkLaws.{still_told}
+use Rattle.h5_builder_spec.specs.Changes.{set_mode}
+use Rattle.h5_builder_spec.specs.modes.ForeignContent.{dispatch}
+use Rattle.h5_builder_spec.specs.Rows.{Follows}
+use Rattle.h5_builder_spec.specs.Settle.{Settled, settle}
+use Rattle.h5_builder_spec.specs.inner.Kept.{Fits, HasHtmlRoot}
+use Rattle.h5_builder_spec.specs.Sound.{Sound, situation_of}
+use Rattle.h5_builder_spec.specs.World.{World, names_of}
+use Rattle.h5_builder_laws.proofs.turns.SettleLaws.{acknowledged_here, answered_here, ends_here, goes_on}
 use Rattle.h5_interface.specs.declared.sink.TreeSink.{Ghosts}
-use Rattle.h5_state.proofs.ItemLaws.{length-values}
-use Rattle.h5_state.specs.Steps.{IsSound}
-use Rattle.h5_state.specs.View.{elements_of, open_node, world}
-use Rattle.h5_state.proofs.AttributeLaws.{open_length}
-use Rattle.h5_state.specs.declared.state.State.{State}
+use Rattle.h5_builder_state.proofs.ItemLaws.{length-values}
+use Rattle.h5_builder_state.specs.Steps.{IsSound}
+use Rattle.h5_builder_state.specs.View.{elements_of, open_node, world}
+use Rattle.h5_builder_state.proofs.AttributeLaws.{open_length}
+use Rattle.h5_builder_state.specs.declared.state.State.{State}
 use Rattle.h5_tree_builder.specs.Chains.{CameTo, Left}
 
 -- once the root has been made builder and sink are ready

@@ -7,22 +7,22 @@ use Rattle.h5_tables.specs.TurnResult.{TurnResult}
 use Rattle.h5_tables.specs.TurnText.{TurnText, turn_text}
 use Rattle.h5_tables.specs.declared.turns.ProcessResult.{ProcessResult}
 use Rattle.h5_tables.specs.declared.turns.Token.{Token}
-use Rattle.h5_rules.specs.insertion.Foreign.{is_foreign}
-use Rattle.h5_rules.specs.modes.ForeignContent.{ByMode, ForeignStep, HasRow, by_mode, dispatch, foreign_step, row_of}
-use Rattle.h5_rules.specs.modes.Modes.{rule}
-use Rattle.h5_rules.specs.Rows.{Change, Follows, Row, apply_all}
-use Rattle.h5_rules.specs.Sound.{Fitting}
-use Rattle.h5_rules.specs.World.{World}
-use Rattle.h5_plain.proofs.kept.DispatchLaws.{leaves_fitting}
-use Rattle.h5_plain.proofs.modes.ForeignModeLaws.{foreign_mode}
-use Rattle.h5_plain.proofs.modes.ForeignRowLaws.{any_has, dispatch_foreign, dispatch_html, each_step}
-use Rattle.h5_rules.proofs.BoolLaws.{and_both}
-use Rattle.h5_rules.proofs.rows.KeptLaws.{apply_append}
-use Rattle.h5_rules.proofs.rows.MarkLaws.{still_told}
-use Rattle.h5_rules_rest.specs.ForeignSteps.{EndedBy, LeftToMode}
-use Rattle.h5_state.specs.Steps.{IsSound, errors_of, world_of}
-use Rattle.h5_state.specs.Turn.{FollowsRule, turn_result}
-use Rattle.h5_state.specs.declared.state.State.{State}
+use Rattle.h5_builder_spec.specs.insertion.Foreign.{is_foreign}
+use Rattle.h5_builder_spec.specs.modes.ForeignContent.{ByMode, ForeignStep, HasRow, by_mode, dispatch, foreign_step, row_of}
+use Rattle.h5_builder_spec.specs.modes.Modes.{rule}
+use Rattle.h5_builder_spec.specs.Rows.{Change, Follows, Row, apply_all}
+use Rattle.h5_builder_spec.specs.inner.Kept.{Fitting}
+use Rattle.h5_builder_spec.specs.World.{World}
+use Rattle.h5_builder_laws.proofs.kept.DispatchLaws.{leaves_fitting}
+use Rattle.h5_builder_laws.proofs.modes.ForeignModeLaws.{foreign_mode}
+use Rattle.h5_builder_laws.proofs.modes.ForeignRowLaws.{any_has, dispatch_foreign, dispatch_html, each_step}
+use Rattle.h5_builder_spec.proofs.BoolLaws.{and_both}
+use Rattle.h5_builder_spec.proofs.rows.KeptLaws.{apply_append}
+use Rattle.h5_builder_spec.proofs.rows.MarkLaws.{still_told}
+use Rattle.h5_modes_rest.specs.ForeignSteps.{EndedBy, LeftToMode}
+use Rattle.h5_builder_state.specs.Steps.{IsSound, errors_of, world_of}
+use Rattle.h5_builder_state.specs.Turn.{FollowsRule, turn_result}
+use Rattle.h5_builder_state.specs.declared.state.State.{State}
 
 -- what a builder keeps is kept by the changes before it
 abbrev KeptBefore : SinkChoices → World → ForeignStep → Type 0

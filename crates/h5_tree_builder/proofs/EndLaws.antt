@@ -2,16 +2,16 @@
 use Rattle.std.proofs.Common.{◌≡◌, ◌<◌, ℕ, List, [], ◌∷◌, length, refl, ap, sym, subst, ◌∙◌, arith}
 use Rattle.h5_interface.specs.Seen.{Seen}
 use Rattle.h5_interface.specs.SinkChoices.{SinkChoices}
-use Rattle.h5_rules.specs.Changes.{pop}
-use Rattle.h5_rules.specs.Sound.{HasLists}
-use Rattle.h5_rules.specs.World.{World}
-use Rattle.h5_rules.specs.formatting.FormattingList.{Entry}
-use Rattle.h5_rules.specs.formatting.Lists.{Lists}
-use Rattle.h5_rules.specs.stack.Order.{but_first}
-use Rattle.h5_state.proofs.ItemLaws.{length-values}
-use Rattle.h5_state.specs.View.{elements_of, open_node, world}
-use Rattle.h5_state.specs.declared.state.State.{State}
-use Rattle.h5_state.proofs.AttributeLaws.{open_length}
+use Rattle.h5_builder_spec.specs.Changes.{pop}
+use Rattle.h5_builder_spec.specs.inner.Kept.{HasLists}
+use Rattle.h5_builder_spec.specs.World.{World}
+use Rattle.h5_builder_spec.specs.formatting.FormattingList.{Entry}
+use Rattle.h5_builder_spec.specs.inner.Lists.{Lists}
+use Rattle.h5_builder_spec.specs.stack.Order.{but_first}
+use Rattle.h5_builder_state.proofs.ItemLaws.{length-values}
+use Rattle.h5_builder_state.specs.View.{elements_of, open_node, world}
+use Rattle.h5_builder_state.specs.declared.state.State.{State}
+use Rattle.h5_builder_state.proofs.AttributeLaws.{open_length}
 use Rattle.h5_tree_builder.specs.Builder.{all_popped, pop_each}
 
 -- as many open elements are seen as are kept

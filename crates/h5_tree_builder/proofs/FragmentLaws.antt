@@ -16,31 +16,32 @@ use Rattle.h5_interface.specs.declared.sink.TreeSink.{Ghosts}
 use Rattle.h5_tables.specs.declared.modes.InsertionMode.{InsertionMode}
 use Rattle.h5_tables.specs.declared.modes.InsertionMode.TheVariants.{InTemplate}
 use Rattle.h5_tables.specs.declared.options.TreeBuilderOpts.{TreeBuilderOpts}
-use Rattle.h5_rules.specs.ByName.{Only}
-use Rattle.h5_rules.specs.formatting.FormattingNames.{html_name}
-use Rattle.h5_rules.specs.fitting.SituationChanges.{start_modes, start_of}
-use Rattle.h5_rules.specs.fitting.Fits.{Situation}
-use Rattle.h5_rules.specs.fitting.NamesFit.{NamesFit}
-use Rattle.h5_rules.specs.fitting.ResetByRoles.{reset}
-use Rattle.h5_rules.specs.fitting.Roles.{Role, TemplateRole, is_template, role_of, roles}
-use Rattle.h5_rules.proofs.rows.KnownRuleLaws.{among_by_known}
-use Rattle.h5_rules.proofs.fitting.NamesFitLaws.{names_fragment}
-use Rattle.h5_rules.proofs.roles.RoleLaws.{local_html, role_made}
-use Rattle.h5_rules.proofs.roles.SetLaws.{template_test}
-use Rattle.h5_rules.specs.Changes.{create_root}
-use Rattle.h5_rules.specs.fitting.Reset.{reset_mode}
-use Rattle.h5_rules.specs.Rows.{CreateRoot}
-use Rattle.h5_rules.specs.Sound.{Fits, Sound, situation_of}
-use Rattle.h5_rules.specs.World.{World, name_in, name_of_found, names_of}
-use Rattle.h5_rules.proofs.changes.ListsLaws.{IsSteady, steady_changes}
-use Rattle.h5_rules.proofs.changes.NameLaws.{names-insert_root}
-use Rattle.h5_rules.proofs.changes.SituationLaws.{situation_root}
-use Rattle.h5_rules.proofs.changes.SoundLaws.{element_is_node}
-use Rattle.h5_state.specs.Steps.{IsSound, world_of}
-use Rattle.h5_state.specs.declared.state.State.{State}
+use Rattle.h5_builder_spec.specs.ByName.{Only}
+use Rattle.h5_builder_spec.specs.formatting.FormattingNames.{html_name}
+use Rattle.h5_builder_spec.specs.reset.SituationChanges.{start_modes, start_of}
+use Rattle.h5_builder_spec.specs.reset.Situation.{Situation}
+use Rattle.h5_builder_spec.specs.inner.NamesFit.{NamesFit}
+use Rattle.h5_builder_spec.specs.reset.ResetByRoles.{reset}
+use Rattle.h5_builder_spec.specs.reset.Roles.{Role, TemplateRole, is_template, role_of, roles}
+use Rattle.h5_builder_spec.proofs.rows.KnownRuleLaws.{among_by_known}
+use Rattle.h5_builder_spec.proofs.fitting.NamesFitLaws.{names_fragment}
+use Rattle.h5_builder_spec.proofs.roles.RoleLaws.{local_html, role_made}
+use Rattle.h5_builder_spec.proofs.roles.SetLaws.{template_test}
+use Rattle.h5_builder_spec.specs.Changes.{create_root}
+use Rattle.h5_builder_spec.specs.reset.Reset.{reset_mode}
+use Rattle.h5_builder_spec.specs.Rows.{CreateRoot}
+use Rattle.h5_builder_spec.specs.inner.Kept.{Fits}
+use Rattle.h5_builder_spec.specs.Sound.{Sound, situation_of}
+use Rattle.h5_builder_spec.specs.World.{World, name_in, name_of_found, names_of}
+use Rattle.h5_builder_spec.proofs.changes.ListsLaws.{IsSteady, steady_changes}
+use Rattle.h5_builder_spec.proofs.changes.NameLaws.{names-insert_root}
+use Rattle.h5_builder_spec.proofs.changes.SituationLaws.{situation_root}
+use Rattle.h5_builder_spec.proofs.changes.SoundLaws.{element_is_node}
+use Rattle.h5_builder_state.specs.Steps.{IsSound, world_of}
+use Rattle.h5_builder_state.specs.declared.state.State.{State}
 use Rattle.h5_tree_builder.specs.Fragment.{context_modes, context_world, fragment_world, rawtext_context_names, rcdata_context_names, rooted_world, state_of_local}
 use Rattle.h5_tree_builder.specs.Held.{IsKept}
-use Rattle.h5_plain.proofs.StartLaws.{lists_none, stands_none}
+use Rattle.h5_builder_laws.proofs.StartLaws.{lists_none, stands_none}
 
 -- the given form is an element
 pub form_is_there : {H : Type 0} (node : H → ℕ) (f : Forest) (o : Option H) → MatchOption o (Unit {0}) (λ h. IsElement f (node h)) → (n : ℕ) → option_map node o ≡ Some n → IsElement f n

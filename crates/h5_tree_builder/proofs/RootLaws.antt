@@ -9,9 +9,9 @@ use Rattle.h5_interface.specs.Seen.{element, make_element}
 use Rattle.h5_interface.specs.SinkChoices.{SinkChoices}
 use Rattle.h5_interface.proofs.ChildLaws.{joined-append_node}
 use Rattle.h5_interface.proofs.ForestLaws.{document_is_node}
-use Rattle.h5_rules.specs.formatting.FormattingNames.{html_name}
-use Rattle.h5_rules.specs.Changes.{create_root}
-use Rattle.h5_rules.specs.World.{World}
+use Rattle.h5_builder_spec.specs.formatting.FormattingNames.{html_name}
+use Rattle.h5_builder_spec.specs.Changes.{create_root}
+use Rattle.h5_builder_spec.specs.World.{World}
 
 -- what is appended to a node is its last child
 appended_last : (f : Forest) (p n : ℕ) → IsNode f p → AreParted (children_of f p) → children_of (append_node p n f) p ≡ children_of f p ++ ChildNode n ∷ []

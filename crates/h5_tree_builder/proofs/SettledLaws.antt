@@ -2,10 +2,10 @@
 use Rattle.std.proofs.Common.{◌≡◌, Bool, Result, IfOk, subst}
 use Rattle.std.specs.declared.alloc.AllocError.{AllocError}
 use Rattle.h5_interface.specs.declared.sink.TreeSink.{Ghosts}
-use Rattle.h5_rules.specs.Settle.{Settled}
-use Rattle.h5_rules.specs.World.{World}
-use Rattle.h5_state.specs.Steps.{errors_of, world_of}
-use Rattle.h5_state.specs.declared.state.State.{State}
+use Rattle.h5_builder_spec.specs.Settle.{Settled}
+use Rattle.h5_builder_spec.specs.World.{World}
+use Rattle.h5_builder_state.specs.Steps.{errors_of, world_of}
+use Rattle.h5_builder_state.specs.declared.state.State.{State}
 use Rattle.h5_tree_builder.specs.Chains.{CameTo, Settles}
 use Rattle.h5_tree_builder.specs.declared.turns_taken.Taken.{Taken}
 

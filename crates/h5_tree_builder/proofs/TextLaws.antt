@@ -7,33 +7,33 @@ use Rattle.h5_tables.specs.declared.modes.InsertionMode.{InsertionMode}
 use Rattle.h5_tables.specs.declared.modes.InsertionMode.TheVariants.{Initial, BeforeHtml, BeforeHead, InHead, InHeadNoscript, AfterHead, InBody, Text, InTable, InTableText, InCaption, InColumnGroup, InTableBody, InRow, InCell, AfterBody, AfterAfterBody, InTemplate, InFrameset, AfterFrameset, AfterAfterFrameset}
 use Rattle.h5_tables.specs.declared.modes.SplitStatus.{SplitStatus}
 use Rattle.h5_tables.specs.declared.modes.SplitStatus.TheVariants.{NotSplit, Whitespace, NotWhitespace}
-use Rattle.h5_rules.specs.Blanks.{blanks_of, is_blank, rest_of}
-use Rattle.h5_rules.specs.Changes.{append_text, pop, save_mode, set_mode, set_frameset_ok_by_text}
-use Rattle.h5_rules.specs.modes.AfterBody.{back_to_body}
-use Rattle.h5_rules.specs.modes.AfterHead.{after_head_else}
-use Rattle.h5_rules.specs.modes.BeforeHead.{before_head_else}
-use Rattle.h5_rules.specs.modes.BeforeHtml.{before_html_else}
-use Rattle.h5_rules.specs.insertion.Foreign.{adjusted_current_node, is_foreign, is_foreign_at, is_foreign_text}
-use Rattle.h5_rules.specs.modes.ForeignContent.{foreign_text_row}
-use Rattle.h5_rules.specs.modes.InBody.{in_body}
-use Rattle.h5_rules.specs.modes.InColumnGroup.{close_the_column_group, in_column_group_else}
-use Rattle.h5_rules.specs.modes.InHead.{in_head_else}
-use Rattle.h5_rules.specs.modes.InHeadNoscript.{in_head_noscript_else}
-use Rattle.h5_rules.specs.modes.InTable.{in_table_text_or_null, keeps_text}
-use Rattle.h5_rules.specs.modes.InitialMode.{initial_else}
-use Rattle.h5_rules.specs.modes.Modes.{rule}
-use Rattle.h5_rules.specs.Rows.{Again, AppendPendingText, AppendText, IsDone, Pop, Row, SaveMode, changed_by, choose, ignored, next_mode, row}
-use Rattle.h5_rules.specs.Settle.{Settled, by_row, ends_with, settle, then_turns}
-use Rattle.h5_rules.specs.modes.Shared.{current_is, in_body_text}
-use Rattle.h5_rules.specs.Text.{IsRun, after_row, all_blanks, by_else, closes_column_group, foreign_text, fostered_text, text_in_column_group, text_in_table, text_in_table_text, dropped, in_next, if_any, split, text_after_body, text_after_head, text_any, text_before_head, text_before_html, text_in, text_in_body, text_in_head, text_in_head_noscript, text_initial, text_rule, is_quiet_text, unless_foreign}
-use Rattle.h5_rules.specs.Sound.{Fitting}
-use Rattle.h5_rules.specs.modes.Tables.{foster}
-use Rattle.h5_rules.specs.World.{World}
-use Rattle.h5_plain.proofs.cuts.CutLaws.{by_foreign, by_mode, text_cut}
-use Rattle.h5_plain.proofs.modes.ForeignRowLaws.{dispatch_foreign}
-use Rattle.h5_plain.proofs.cuts.ForeignTextLaws.{kept_back_foreign}
-use Rattle.h5_plain.proofs.turns.SettleLaws.{settle-text-row, settle-text-turn}
-use Rattle.h5_plain.proofs.CutGoesLaws.{body_mode}
+use Rattle.h5_builder_spec.specs.Blanks.{blanks_of, is_blank, rest_of}
+use Rattle.h5_builder_spec.specs.Changes.{append_text, pop, save_mode, set_mode, set_frameset_ok_by_text}
+use Rattle.h5_builder_spec.specs.modes.AfterBody.{back_to_body}
+use Rattle.h5_builder_spec.specs.modes.AfterHead.{after_head_else}
+use Rattle.h5_builder_spec.specs.modes.BeforeHead.{before_head_else}
+use Rattle.h5_builder_spec.specs.modes.BeforeHtml.{before_html_else}
+use Rattle.h5_builder_spec.specs.insertion.Foreign.{adjusted_current_node, is_foreign, is_foreign_at, is_foreign_text}
+use Rattle.h5_builder_spec.specs.modes.ForeignContent.{foreign_text_row}
+use Rattle.h5_builder_spec.specs.modes.InBody.{in_body}
+use Rattle.h5_builder_spec.specs.modes.InColumnGroup.{close_the_column_group, in_column_group_else}
+use Rattle.h5_builder_spec.specs.modes.InHead.{in_head_else}
+use Rattle.h5_builder_spec.specs.modes.InHeadNoscript.{in_head_noscript_else}
+use Rattle.h5_builder_spec.specs.modes.InTable.{in_table_text_or_null, keeps_text}
+use Rattle.h5_builder_spec.specs.modes.InitialMode.{initial_else}
+use Rattle.h5_builder_spec.specs.modes.Modes.{rule}
+use Rattle.h5_builder_spec.specs.Rows.{Again, AppendPendingText, AppendText, IsDone, Pop, Row, SaveMode, changed_by, choose, ignored, next_mode, row}
+use Rattle.h5_builder_spec.specs.Settle.{Settled, by_row, ends_with, settle, then_turns}
+use Rattle.h5_builder_spec.specs.modes.Shared.{current_is, in_body_text}
+use Rattle.h5_builder_spec.specs.Text.{IsRun, after_row, all_blanks, by_else, closes_column_group, foreign_text, fostered_text, text_in_column_group, text_in_table, text_in_table_text, dropped, in_next, if_any, split, text_after_body, text_after_head, text_any, text_before_head, text_before_html, text_in, text_in_body, text_in_head, text_in_head_noscript, text_initial, text_rule, is_quiet_text, unless_foreign}
+use Rattle.h5_builder_spec.specs.inner.Kept.{Fitting}
+use Rattle.h5_builder_spec.specs.modes.Tables.{foster}
+use Rattle.h5_builder_spec.specs.World.{World}
+use Rattle.h5_builder_laws.proofs.cuts.CutLaws.{by_foreign, by_mode, text_cut}
+use Rattle.h5_builder_laws.proofs.modes.ForeignRowLaws.{dispatch_foreign}
+use Rattle.h5_builder_laws.proofs.cuts.ForeignTextLaws.{kept_back_foreign}
+use Rattle.h5_builder_laws.proofs.turns.SettleLaws.{settle-text-row, settle-text-turn}
+use Rattle.h5_builder_laws.proofs.CutGoesLaws.{body_mode}
 
 blank_all : (t : List ℕ) → rest_of t ≡ [] → blanks_of t ≡ t
 blank_all [] e = refl

@@ -4,10 +4,11 @@ use Rattle.std.proofs.lemmas.List.{append-nil}
 use Rattle.h5_token.specs.Reply.{Reply}
 use Rattle.h5_token.specs.TokenText.{TokenText}
 use Rattle.h5_interface.specs.SinkChoices.{SinkChoices}
-use Rattle.h5_rules.specs.Run.{CountsTurns, IsFitting, Took, Turns, Untold, View, WasRefused, after_all, after_token, all_quiet, is_quiet, last_turns, later_turns, replies, reply_to, run, told_all, told_of}
-use Rattle.h5_plain.proofs.cuts.RunLaws.{cuts_agree}
-use Rattle.h5_plain.specs.Rebuilding.{DocumentStands, IsStart}
-use Rattle.h5_plain.proofs.WholeLaws.{rebuilds_all}
+use Rattle.h5_builder_spec.specs.Run.{CountsTurns, Took, Turns, Untold, View, WasRefused, after_all, after_token, all_quiet, is_quiet, last_turns, later_turns, replies, reply_to, run, told_all, told_of}
+use Rattle.h5_builder_spec.specs.inner.Kept.{IsFitting}
+use Rattle.h5_builder_laws.proofs.cuts.RunLaws.{cuts_agree}
+use Rattle.h5_builder_laws.specs.Rebuilding.{DocumentStands, IsStart}
+use Rattle.h5_builder_laws.proofs.WholeLaws.{rebuilds_all}
 use Rattle.h5_tree_builder.specs.Builder.{Building, RanAll, RebuildsPlain, Replied}
 use Rattle.h5_tree_builder.proofs.ChainLaws.{and_left, and_right}
 

@@ -5,8 +5,8 @@ use Rattle.h5_token.specs.TokenText.{tag_text}
 use Rattle.h5_token.specs.declared.tag.Tag.{Tag}
 use Rattle.h5_tables.specs.declared.entry.FormatEntry.{FormatEntry}
 use Rattle.h5_tables.specs.declared.entry.FormatEntry.TheVariants.{Element, Marker}
-use Rattle.h5_rules.specs.formatting.FormattingList.{Entry, ElementEntry}
-use Rattle.h5_state.specs.declared.open_element.Listed.{Listed}
+use Rattle.h5_builder_spec.specs.formatting.FormattingList.{Entry, ElementEntry}
+use Rattle.h5_builder_state.specs.declared.open_element.Listed.{Listed}
 
 -- of entries with the newest first: up to the first marker, each element with its tag and its place, which is the
 -- number of older entries

@@ -13,14 +13,14 @@ use Rattle.h5_interface.specs.declared.marks.QuirksMode.TheVariants.{NoQuirks}
 use Rattle.h5_tables.specs.TagSets.{html_namespace}
 use Rattle.h5_tables.specs.declared.modes.InsertionMode.TheVariants.{Initial}
 use Rattle.h5_tables.specs.declared.options.TreeBuilderOpts.{TreeBuilderOpts}
-use Rattle.h5_rules.specs.Changes.{pop}
+use Rattle.h5_builder_spec.specs.Changes.{pop}
 use Rattle.h5_token.specs.Joins.{join}
-use Rattle.h5_plain.specs.Cuts.{spread}
-use Rattle.h5_rules.specs.Run.{CountsTurns, View, WasRefused, after_all, after_token, all_quiet, is_counted, is_quiet, last_turns, refusal, refuses_in, replies, reply_to, step, told_all, told_of}
-use Rattle.h5_rules.specs.insertion.Foreign.{adjusted_current_node}
-use Rattle.h5_rules.specs.World.{World, name_in}
-use Rattle.h5_plain.specs.Plain.{Flow, IsPlain, PlainDocument, document_tokens, nothing_open, plain_reply}
-use Rattle.h5_plain.specs.Rebuilding.{DocumentStands, HoldsDocument, with_scripting}
+use Rattle.h5_builder_laws.specs.Cuts.{spread}
+use Rattle.h5_builder_spec.specs.Run.{CountsTurns, View, WasRefused, after_all, after_token, all_quiet, is_counted, is_quiet, last_turns, refusal, refuses_in, replies, reply_to, step, told_all, told_of}
+use Rattle.h5_builder_spec.specs.insertion.Foreign.{adjusted_current_node}
+use Rattle.h5_builder_spec.specs.World.{World, name_in}
+use Rattle.h5_builder_laws.specs.Plain.{Flow, IsPlain, PlainDocument, document_tokens, nothing_open, plain_reply}
+use Rattle.h5_builder_laws.specs.Rebuilding.{DocumentStands, HoldsDocument, with_scripting}
 use Rattle.h5_tree_builder.specs.Chains.{is_free}
 
 -- the view, the turns of the last token, and the sink's mark of errors

@@ -6,12 +6,12 @@ use Rattle.h5_token.specs.TokenText.{TokenText, Characters, ParseErrorIs}
 use Rattle.h5_interface.specs.SinkChoices.{SinkChoices}
 use Rattle.h5_interface.specs.declared.sink.TreeSink.{Ghosts}
 use Rattle.h5_tables.specs.TurnText.{TurnText}
-use Rattle.h5_rules.specs.Run.{is_empty_text, without_lf}
-use Rattle.h5_rules.specs.Settle.{Settled, settle}
-use Rattle.h5_rules.specs.Sound.{Fits}
-use Rattle.h5_rules.specs.World.{World}
-use Rattle.h5_state.specs.Steps.{IsSound, errors_of, world_of}
-use Rattle.h5_state.specs.declared.state.State.{State}
+use Rattle.h5_builder_spec.specs.Run.{is_empty_text, without_lf}
+use Rattle.h5_builder_spec.specs.Settle.{Settled, settle}
+use Rattle.h5_builder_spec.specs.inner.Kept.{Fits}
+use Rattle.h5_builder_spec.specs.World.{World}
+use Rattle.h5_builder_state.specs.Steps.{IsSound, errors_of, world_of}
+use Rattle.h5_builder_state.specs.declared.state.State.{State}
 use Rattle.h5_tree_builder.specs.declared.turns_taken.Taken.{Taken}
 
 -- a token may be taken: the state is sound, and fits its mode

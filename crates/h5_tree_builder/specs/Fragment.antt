@@ -11,9 +11,9 @@ use Rattle.h5_tables.specs.TagSets.{html_namespace, is_html_named, is_one_of}
 use Rattle.h5_tables.specs.declared.modes.InsertionMode.{InsertionMode}
 use Rattle.h5_tables.specs.declared.modes.InsertionMode.TheVariants.{InTemplate}
 use Rattle.h5_tables.specs.declared.options.TreeBuilderOpts.{TreeBuilderOpts}
-use Rattle.h5_rules.specs.Changes.{create_root, set_mode}
-use Rattle.h5_rules.specs.fitting.Reset.{reset_mode}
-use Rattle.h5_rules.specs.World.{World, name_in}
+use Rattle.h5_builder_spec.specs.Changes.{create_root, set_mode}
+use Rattle.h5_builder_spec.specs.reset.Reset.{reset_mode}
+use Rattle.h5_builder_spec.specs.World.{World, name_in}
 use Rattle.h5_tree_builder.specs.Builder.{Building, first_world}
 
 -- the template insertion modes: "in template" if the context is a template

@@ -2,10 +2,10 @@
 use Rattle.std.specs.Prelude.{◌≡◌, ℕ, Bool, true, false, []}
 use Rattle.h5_interface.specs.Seen.{Seen}
 use Rattle.h5_interface.specs.declared.sink.TreeSink.{Ghosts}
-use Rattle.h5_rules.specs.Sound.{Fits, HasLists}
-use Rattle.h5_state.specs.Steps.{IsSound, world_of}
-use Rattle.h5_state.specs.View.{world}
-use Rattle.h5_state.specs.declared.state.State.{State}
+use Rattle.h5_builder_spec.specs.inner.Kept.{Fits, HasLists}
+use Rattle.h5_builder_state.specs.Steps.{IsSound, world_of}
+use Rattle.h5_builder_state.specs.View.{world}
+use Rattle.h5_builder_state.specs.declared.state.State.{State}
 use Rattle.h5_tree_builder.specs.Builder.{Building}
 
 pub record Held (S H : Type 0) : Type 0 where

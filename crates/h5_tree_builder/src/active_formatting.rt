@@ -1,12 +1,12 @@
 //! The list of active formatting elements, from its end to its last marker (HTML standard, section 13.2.4.3).
 ghost use Rattle.std.specs.Prelude.{◌≡◌, length, map};
-ghost use Rattle.h5_rules.specs.formatting.FormattingList.{after_marker};
+ghost use Rattle.h5_builder_spec.specs.formatting.FormattingList.{after_marker};
 ghost use Rattle.h5_tree_builder.specs.ActiveFormatting.{falling, given_entry, given_place, still_given};
 ghost use Rattle.h5_tree_builder.specs.Held.{building};
 
 use super::builder::TreeBuilder;
+use h5_builder_state::Listed;
 use h5_interface::TreeSink;
-use h5_state::Listed;
 use h5_tables::FormatEntry;
 use h5_token::Tag;
 
@@ -40,7 +40,7 @@ impl<'a, Handle> Iterator for ActiveFormattingIter<'a, Handle> {
 
 impl<Handle: Drop, Sink: TreeSink<Handle = Handle> + Drop> TreeBuilder<Handle, Sink> {
     /// Returns the active formatting elements from the newest to the last marker.
-    #[tactic(auto, unfolding(h5_state::specs::View::world))]
+    #[tactic(auto, unfolding(h5_builder_state::specs::View::world))]
     pub fn active_formatting_end_to_marker(&self) -> ActiveFormattingIter<'_, Handle>
         ensures entries { map (given_entry Sink.node) (still_given result.entries.now) ≡ after_marker (building Sink.sees Sink.node self.now).view.world.formatting }
         ensures places { map given_place (still_given result.entries.now) ≡ falling (length (building Sink.sees Sink.node self.now).view.world.formatting) (after_marker (building Sink.sees Sink.node self.now).view.world.formatting) }

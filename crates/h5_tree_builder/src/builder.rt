@@ -2,7 +2,8 @@
 ghost use Rattle.std.specs.Prelude.{◌≡◌, ◌++◌, [], ◌∷◌, false, true, IfErr, IfOk, MatchOption, is_some, option_map};
 ghost use Rattle.h5_interface.specs.Forest.{ChildNode, IsElement, children_of};
 ghost use Rattle.h5_token.specs.TokenText.{token_text};
-ghost use Rattle.h5_rules.specs.Sound.{Fits, Fitting, HasLists, Sound};
+ghost use Rattle.h5_builder_spec.specs.inner.Kept.{Fits, Fitting, HasLists};
+ghost use Rattle.h5_builder_spec.specs.Sound.{Sound};
 ghost use Rattle.h5_tree_builder.specs.Held.{building};
 ghost use Rattle.h5_tree_builder.specs.Builder.{IsKeptWhole, Takes, ended_view, first_building};
 ghost use Rattle.h5_tree_builder.specs.Fragment.{first_fragment};
@@ -12,8 +13,8 @@ use super::first_state::first_state;
 use super::fragment::fragment_state;
 use super::process_token::{note_line, take_token};
 use super::refusal::refuses_in;
+use h5_builder_state::{State, current_mode};
 use h5_interface::TreeSink;
-use h5_state::{State, current_mode};
 use h5_tables::TreeBuilderOpts;
 use h5_token::{BuildFault, Token, TokenSinkResult};
 use std::alloc::Global;
@@ -40,7 +41,7 @@ pub struct TreeBuilder<Handle: Drop, Sink: TreeSink<Handle = Handle> + Drop> {
 
 impl<Handle: Drop, Sink: TreeSink<Handle = Handle> + Drop> Model for TreeBuilder<Handle, Sink> {
     ghost use Rattle.std.specs.Coded.{codes};
-    ghost use Rattle.h5_state.specs.contracts.numbering.Numbering as numbering;
+    ghost use Rattle.h5_builder_state.specs.contracts.numbering.Numbering as numbering;
     ghost use Rattle.h5_tree_builder.specs.Held.{Held, IsKept};
 
     ghost Value = { Held Sink Handle };

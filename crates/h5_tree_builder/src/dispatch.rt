@@ -1,32 +1,32 @@
 //! The turns of one token (HTML standard, section 13.2.6, "the tree construction dispatcher").
 ghost use Rattle.std.specs.Prelude.{◌≡◌, ◌<◌, false, true, IfOk};
 ghost use Rattle.h5_tables.specs.TurnText.{HasText, is_self_closing as is_closing_turn, turn_text};
-ghost use Rattle.h5_rules.specs.insertion.Foreign.{is_foreign};
-ghost use Rattle.h5_rules.specs.modes.ForeignContent.{dispatch};
-ghost use Rattle.h5_rules.specs.modes.Modes.{rule};
-ghost use Rattle.h5_rules.specs.Settle.{settle};
-ghost use Rattle.h5_state.specs.Steps.{IsSound, TellsErrors, errors_of, world_of};
-ghost use Rattle.h5_state.specs.Turn.{FollowsRule};
+ghost use Rattle.h5_builder_spec.specs.insertion.Foreign.{is_foreign};
+ghost use Rattle.h5_builder_spec.specs.modes.ForeignContent.{dispatch};
+ghost use Rattle.h5_builder_spec.specs.modes.Modes.{rule};
+ghost use Rattle.h5_builder_spec.specs.Settle.{settle};
+ghost use Rattle.h5_builder_state.specs.Steps.{IsSound, TellsErrors, errors_of, world_of};
+ghost use Rattle.h5_builder_state.specs.Turn.{FollowsRule};
 ghost use Rattle.h5_tree_builder.specs.Chains.{IsReady, Settles};
 
 use super::turns_taken::Taken;
-use h5_insertion::is_foreign;
+use h5_builder_actions::is_foreign;
+use h5_builder_state::{
+    State, Turn, current_mode, report_error, set_mode, take_again, take_answer, unexpected,
+};
 use h5_interface::TreeSink;
-use h5_rules_body::{step_after_after_body, step_after_body, step_in_body};
-use h5_rules_head::{
+use h5_modes_body::{step_after_after_body, step_after_body, step_in_body};
+use h5_modes_head::{
     step_after_head, step_before_head, step_before_html, step_in_head, step_in_head_noscript,
     step_initial, step_text_mode,
 };
-use h5_rules_rest::{
+use h5_modes_rest::{
     ForeignStep, step_after_after_frameset, step_after_frameset, step_foreign, step_in_frameset,
     step_in_template,
 };
-use h5_rules_tables::{
+use h5_modes_tables::{
     step_in_caption, step_in_cell, step_in_column_group, step_in_row, step_in_table,
     step_in_table_body, step_in_table_text,
-};
-use h5_state::{
-    State, Turn, current_mode, report_error, set_mode, take_again, take_answer, unexpected,
 };
 use h5_tables::{InsertionMode, ProcessResult, Token, TreeError};
 use h5_token::{TagKind, TokenSinkResult};

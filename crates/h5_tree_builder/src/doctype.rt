@@ -2,13 +2,15 @@
 ghost use Rattle.std.specs.Prelude.{◌<◌, ◌≡◌, IfOk, List, None, OnOk, Option, Some, [], false, option_map, string_bytes, true, unwrap_or, ℕ};
 ghost use Rattle.h5_token.specs.TokenText.{doctype_text};
 ghost use Rattle.h5_tables.specs.Doctypes.{is_good_doctype, quirks_of};
-ghost use Rattle.h5_rules.specs.Run.{doctype_in, judged, with_doctype};
-ghost use Rattle.h5_state.specs.Steps.{IsSound, TellsErrors, errors_of, world_of};
+ghost use Rattle.h5_builder_spec.specs.Run.{doctype_in, judged, with_doctype};
+ghost use Rattle.h5_builder_state.specs.Steps.{IsSound, TellsErrors, errors_of, world_of};
 ghost use Rattle.h5_tree_builder.specs.Chains.{IsReady, Settles};
 
 use super::turns_taken::Taken;
+use h5_builder_state::{
+    State, current_mode, report_error, set_mode, set_quirks_mode, tell_message,
+};
 use h5_interface::TreeSink;
-use h5_state::{State, current_mode, report_error, set_mode, set_quirks_mode, tell_message};
 use h5_tables::{InsertionMode, TreeError, doctype_error_and_quirks};
 use h5_token::{Doctype, TokenSinkResult};
 use std::alloc::{AllocError, Global};
@@ -23,7 +25,7 @@ fn text_or_empty(alloc: Global, text: Option<String>) -> String
 }
 
 // Appends the doctype to the document, unless doctypes are dropped.
-#[tactic(auto, unfolding(h5_state::specs::View::world, h5_rules::specs::Run::with_doctype, h5_rules::specs::Changes::insert_doctype))]
+#[tactic(auto, unfolding(h5_builder_state::specs::View::world, h5_builder_spec::specs::Run::with_doctype, h5_builder_spec::specs::Changes::insert_doctype))]
 fn append_doctype<S: TreeSink>(
     sink: &mut S,
     state: &State<S::Handle>,
@@ -113,7 +115,7 @@ fn tell_late<S: TreeSink>(sink: &mut S, state: &State<S::Handle>)
 }
 
 // Handles a doctype at the start: it is appended to the document and chooses the quirks mode.
-#[tactic(auto, unfolding(h5_rules::specs::Run::judged))]
+#[tactic(auto, unfolding(h5_builder_spec::specs::Run::judged))]
 fn judge_doctype<S: TreeSink>(
     sink: &mut S,
     state: &mut State<S::Handle>,

@@ -1,10 +1,10 @@
 //! The end (HTML standard, section 13.2.7, "The end": all the nodes are popped off the stack of open elements).
 ghost use Rattle.std.specs.Prelude.{◌≡◌, ◌==◌, [], length, not};
-ghost use Rattle.h5_state.specs.Steps.{IsSound, errors_of, world_of};
+ghost use Rattle.h5_builder_state.specs.Steps.{IsSound, errors_of, world_of};
 ghost use Rattle.h5_tree_builder.specs.Builder.{all_popped};
 
+use h5_builder_state::{State, pop};
 use h5_interface::TreeSink;
-use h5_state::{State, pop};
 
 #[tactic(auto, using(crate::proofs::EndLaws::seen_length))]
 fn is_any_open<S: TreeSink>(sink: &S, state: &State<S::Handle>) -> bool

@@ -1,18 +1,18 @@
 //! The state of a new builder (HTML standard, section 13.2.4, "Parse state").
 ghost use Rattle.std.specs.Prelude.{◌≡◌, []};
-ghost use Rattle.h5_state.specs.Stamps.{AreStamped};
-ghost use Rattle.h5_state.specs.Steps.{world_of};
-ghost use Rattle.h5_state.specs.Summaries.{IsKept};
+ghost use Rattle.h5_builder_state.specs.Stamps.{AreStamped};
+ghost use Rattle.h5_builder_state.specs.Steps.{world_of};
+ghost use Rattle.h5_builder_state.specs.Summaries.{IsKept};
 ghost use Rattle.h5_tree_builder.specs.Builder.{first_world};
 
+use h5_builder_state::{FormattingList, OpenElements, PendingText, State};
 use h5_interface::TreeSink;
-use h5_state::{FormattingList, OpenElements, PendingText, State};
 use h5_tables::{InsertionMode, Token, TreeBuilderOpts};
 use h5_token::TokenSinkResult;
 use std::alloc::Global;
 
 // A state without open elements, in the mode "initial".
-#[tactic(auto, unfolding(h5_state::specs::View::world))]
+#[tactic(auto, unfolding(h5_builder_state::specs::View::world))]
 pub fn first_state<S: TreeSink>(sink: &S, alloc: Global, opts: TreeBuilderOpts) -> State<S::Handle>
     ensures kept { IsKept result.open_elems [] }
     ensures stamped { AreStamped S.node result.open_elems result.active_formatting }

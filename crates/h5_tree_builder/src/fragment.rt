@@ -3,14 +3,14 @@
 ghost use Rattle.std.specs.Prelude.{◌≡◌, IfOk, MatchOption, option_map, reverse};
 ghost use Rattle.h5_names.specs.KnownNames.{name_text};
 ghost use Rattle.h5_interface.specs.Forest.{IsElement, IsForest};
-ghost use Rattle.h5_state.specs.Steps.{IsSound, errors_of, world_of};
+ghost use Rattle.h5_builder_state.specs.Steps.{IsSound, errors_of, world_of};
 ghost use Rattle.h5_tree_builder.specs.Fragment.{context_modes, context_world, fragment_world, state_in_context, state_of_local};
 
 use super::first_state::first_state;
-use h5_insertion::{create_root, reset_insertion_mode};
+use h5_builder_actions::{create_root, reset_insertion_mode};
+use h5_builder_state::{State, set_mode};
 use h5_interface::TreeSink;
 use h5_names::{KnownName, LocalName, QualName};
-use h5_state::{State, set_mode};
 use h5_tables::{InsertionMode, TreeBuilderOpts, is_html_known};
 use h5_token::states::{RawKind, State as ReaderState};
 use std::alloc::{AllocError, Global};
@@ -26,7 +26,7 @@ fn context_modes(alloc: Global, name: &QualName) -> Result<Vec<InsertionMode>, A
 }
 
 // A state without open elements, in this context; if that is a template, "in template" is the template insertion mode.
-#[tactic(auto, unfolding(h5_state::specs::View::world))]
+#[tactic(auto, unfolding(h5_builder_state::specs::View::world))]
 fn context_state<S: TreeSink>(
     sink: &S,
     alloc: Global,

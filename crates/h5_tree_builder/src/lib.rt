@@ -6,7 +6,7 @@
 //! make the first state of a builder of a document or of a fragment (section 13.4), and `queries` has the builder's
 //! queries.
 //!
-//! The crate depends on `h5_state`, on the crates of rules, whose steps it calls, and on the laws in `h5_plain`. Begin
+//! The crate depends on `h5_builder_state`, on the crates of rules, whose steps it calls, and on the laws in `h5_builder_laws`. Begin
 //! with `specs/Held.antt` and `specs/Builder.antt` (what contracts see of a builder), then read `src/builder.rt` and
 //! `src/dispatch.rt`.
 #![tactic(auto)]

@@ -1,7 +1,8 @@
 //! Takes a list of tokens.
 ghost use Rattle.std.specs.Prelude.{◌≡◌, true, false, IfOk, OnErr, Err, Result};
 ghost use Rattle.h5_token.specs.TokenText.{token_text};
-ghost use Rattle.h5_rules.specs.Sound.{Fits, HasLists, Sound};
+ghost use Rattle.h5_builder_spec.specs.inner.Kept.{Fits, HasLists};
+ghost use Rattle.h5_builder_spec.specs.Sound.{Sound};
 ghost use Rattle.h5_tree_builder.specs.Builder.{RanAll, RebuildsPlain, Replied};
 ghost use Rattle.h5_tree_builder.specs.Held.{building};
 ghost use Rattle.h5_tree_builder.specs.Replies.{reply_text, reply_texts, token_texts};
@@ -37,7 +38,7 @@ impl<Handle: Drop, Sink: TreeSink<Handle = Handle> + Drop> TreeBuilder<Handle, S
     /// aren't texts are the same, and each text of the run has the run's reply.
     ///
     /// A new builder with the default options, with or without scripting, over a sink with its document alone, builds a
-    /// plain document (`h5_plain`) exactly from its tokens, in no-quirks mode. The reply to the start tag of the title is
+    /// plain document (`h5_builder_laws`) exactly from its tokens, in no-quirks mode. The reply to the start tag of the title is
     /// `RawData`, all others are `Continue`. No parse error is reported if no whitespace text is in a table.
     pub fn process_all(
         &mut self,

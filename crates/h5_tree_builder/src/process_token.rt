@@ -1,22 +1,22 @@
 //! Takes a token, by its kind (HTML standard, section 13.2.6, "Tree construction").
 ghost use Rattle.std.specs.Prelude.{◌≡◌, true, IsOk};
 ghost use Rattle.h5_token.specs.TokenText.{token_text};
-ghost use Rattle.h5_rules.specs.Run.{is_counted, step, taken};
-ghost use Rattle.h5_state.specs.Steps.{errors_of, world_of};
+ghost use Rattle.h5_builder_spec.specs.Run.{is_counted, step, taken};
+ghost use Rattle.h5_builder_state.specs.Steps.{errors_of, world_of};
 ghost use Rattle.h5_tree_builder.specs.Chains.{IsReady, Settles, is_free};
 
 use super::dispatch::process_to_completion;
 use super::doctype::take_doctype;
 use super::text::take_text;
 use super::turns_taken::Taken;
+use h5_builder_state::{State, tell_message};
 use h5_interface::TreeSink;
-use h5_state::{State, tell_message};
 use h5_tables::Token;
 use h5_token::{Token as Input, TokenSinkResult};
 use std::alloc::AllocError;
 
 // Resets the newline flag, and returns its value.
-#[tactic(auto, unfolding(h5_state::specs::View::world, h5_rules::specs::World::names_of))]
+#[tactic(auto, unfolding(h5_builder_state::specs::View::world, h5_builder_spec::specs::World::names_of))]
 #[inline(always)]
 fn take_lf<S: TreeSink>(sink: &S, state: &mut State<S::Handle>) -> bool
     ensures flag { result ≡ (world_of S.TreeSink sink.now state.old).ignore_lf }
@@ -29,7 +29,7 @@ fn take_lf<S: TreeSink>(sink: &S, state: &mut State<S::Handle>) -> bool
 }
 
 // Reports the line of a token to the sink, unless it is the first.
-#[tactic(auto, unfolding(h5_state::specs::View::world, h5_rules::specs::World::names_of))]
+#[tactic(auto, unfolding(h5_builder_state::specs::View::world, h5_builder_spec::specs::World::names_of))]
 #[inline(always)]
 pub fn note_line<S: TreeSink>(sink: &mut S, state: &State<S::Handle>, line_number: u64)
     ensures done { world_of S.TreeSink sink.new state.now ≡ world_of S.TreeSink sink.old state.now }

@@ -20,7 +20,7 @@ impl<Handle: Drop, Sink: TreeSink<Handle = Handle> + Drop> TreeBuilder<Handle, S
     }
 
     /// Returns true if a fragment is built, in a context (HTML standard, section 13.4).
-    #[tactic(auto, unfolding(h5_state::specs::View::world))]
+    #[tactic(auto, unfolding(h5_builder_state::specs::View::world))]
     pub fn is_fragment(&self) -> bool
         ensures { result ≡ is_some (building Sink.sees Sink.node self.now).view.world.context }
     {
@@ -31,7 +31,7 @@ impl<Handle: Drop, Sink: TreeSink<Handle = Handle> + Drop> TreeBuilder<Handle, S
     /// section 13.4): RCDATA for `title` and `textarea`, raw text for `style` and similar, script data for `script`,
     /// raw text for `noscript` if scripting is allowed, and PLAINTEXT for `plaintext`; otherwise data. Doesn't
     /// allocate. The builder must be one of a fragment.
-    #[tactic(auto, unfolding(h5_state::specs::View::world))]
+    #[tactic(auto, unfolding(h5_builder_state::specs::View::world))]
     pub fn tokenizer_state_for_context_elem(&self, context_allows_scripting: bool) -> State
         requires { is_some (building Sink.sees Sink.node self.now).view.world.context ≡ true }
         ensures { result ≡ state_by_context context_allows_scripting (building Sink.sees Sink.node self.now).view.world (building Sink.sees Sink.node self.now).view.world.context }
@@ -62,7 +62,7 @@ impl<Handle: Drop, Sink: TreeSink<Handle = Handle> + Drop> TreeBuilder<Handle, S
     }
 
     /// Reports a parse error to the sink that isn't the builder's. Changes neither forest nor quirks mode.
-    #[tactic(auto, unfolding(h5_state::specs::View::world, h5_rules::specs::World::names_of))]
+    #[tactic(auto, unfolding(h5_builder_state::specs::View::world, h5_builder_spec::specs::World::names_of))]
     pub fn report_error(&mut self, message: &str)
         ensures noted { 0 < (building Sink.sees Sink.node self.new).errors }
         ensures view { (building Sink.sees Sink.node self.new).view ≡ (building Sink.sees Sink.node self.old).view }

@@ -2,7 +2,7 @@
 //! tag, no comments and no nulls.
 ghost use Rattle.std.specs.Prelude.{◌≡◌};
 ghost use Rattle.h5_token.specs.TokenText.{token_text};
-ghost use Rattle.h5_rules.specs.Run.{is_refused_in_text, refuses_in};
+ghost use Rattle.h5_builder_spec.specs.Run.{is_refused_in_text, refuses_in};
 
 use h5_tables::InsertionMode;
 use h5_token::{TagKind, Token};

@@ -2,19 +2,19 @@
 //! characters that a rule handles in the same way is taken at once).
 ghost use Rattle.std.specs.Prelude.{◌≡◌, ◌≢◌, ◌<◌, [], length, take, true, IfOk, IsOk, OnOk, string_bytes};
 ghost use Rattle.std.specs.Str.{IsCharBoundary};
-ghost use Rattle.h5_rules.specs.insertion.Foreign.{is_foreign_text};
-ghost use Rattle.h5_rules.specs.Run.{is_empty_text, text_step, without_lf};
-ghost use Rattle.h5_rules.specs.Sound.{Fits};
-ghost use Rattle.h5_rules.specs.Text.{IsRun, is_quiet_text, text_any};
+ghost use Rattle.h5_builder_spec.specs.insertion.Foreign.{is_foreign_text};
+ghost use Rattle.h5_builder_spec.specs.Run.{is_empty_text, text_step, without_lf};
+ghost use Rattle.h5_builder_spec.specs.inner.Kept.{Fits};
+ghost use Rattle.h5_builder_spec.specs.Text.{IsRun, is_quiet_text, text_any};
 ghost use Rattle.h5_tables.specs.declared.modes.SplitStatus.TheVariants.{NotSplit};
-ghost use Rattle.h5_state.specs.Steps.{IsSound, errors_of, world_of};
+ghost use Rattle.h5_builder_state.specs.Steps.{IsSound, errors_of, world_of};
 ghost use Rattle.h5_tree_builder.specs.Chains.{IsReady, Settles};
 
 use super::dispatch::process_to_completion;
 use super::turns_taken::Taken;
-use h5_insertion::is_foreign_text;
+use h5_builder_actions::is_foreign_text;
+use h5_builder_state::{State, current_mode, first_run};
 use h5_interface::TreeSink;
-use h5_state::{State, current_mode, first_run};
 use h5_tables::{SplitStatus, Token};
 use h5_token::TokenSinkResult;
 use std::alloc::AllocError;

@@ -4,7 +4,7 @@ use h5_interface::TreeSink;
 use h5_token::{BuildFault, Token, TokenSink, TokenSinkResult};
 
 impl<Handle: Drop, Sink: TreeSink<Handle = Handle> + Drop> TokenSink for TreeBuilder<Handle, Sink> {
-    ghost use Rattle.h5_rules.specs.Run.{View, after_token, reply_to as reply_of};
+    ghost use Rattle.h5_builder_spec.specs.Run.{View, after_token, reply_to as reply_of};
     ghost use Rattle.h5_tree_builder.specs.Builder.{ended_view, is_foreign_in};
     ghost use Rattle.h5_tree_builder.specs.Held.{building};
 

@@ -2,8 +2,8 @@
 use anyhow::{Result, bail};
 use h5_driver::ParseOpts;
 use h5_interface::QuirksMode;
+use h5_plain_tokenizer::TokenizerOpts;
 use h5_tables::TreeBuilderOpts;
-use h5_tokenizer::TokenizerOpts;
 
 /// The one who makes the context element.
 #[derive(Clone, Copy)]

@@ -161,7 +161,7 @@ pub fn put_answer<W: Write>(
             Form::Json => return put_nodes(alloc, page.path(), &top, out),
             Form::Lines | Form::Array => return put_tree(alloc, arena, out),
         },
-        TreeOutput::Html => return put_html(alloc, page, &top, out),
+        TreeOutput::Html | TreeOutput::Edited(_) => return put_html(alloc, page, &top, out),
         TreeOutput::Select(selection) => {
             return put_selected(alloc, &top, selection, page.form, page.path(), out);
         }

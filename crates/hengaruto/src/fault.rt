@@ -1,6 +1,7 @@
 //! The errors of a run.
 use h5_input::InputFault;
 use html_tree_builder::serialize::SerializeFault;
+use html_tree_builder::token::BuildFault;
 use std::alloc::AllocError;
 use std::io;
 
@@ -27,6 +28,13 @@ impl From<InputFault> for Fault {
             InputFault::Read(error) => Fault::Read(error),
             InputFault::Memory => Fault::Memory,
         }
+    }
+}
+
+// A parser that hasn't failed has no other error.
+impl From<BuildFault> for Fault {
+    fn from(_fault: BuildFault) -> Fault {
+        Fault::Memory
     }
 }
 

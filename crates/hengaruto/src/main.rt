@@ -3,13 +3,14 @@
 //! `h5_command_line` has the command line, `h5_input` reads pages, and `h5_policy` reads the policies that clean them. `output` has what a
 //! subcommand prints, with the values of its own options, and `request` that and how pages are read; `policy_file` opens the file of a
 //! policy. `run` reads each file, `answer` prints what a subcommand shows of a tree, `parts` writes HTML in parts, `charset` makes a page
-//! declare UTF-8, `select` prints what a selector matches, `errors` prints parse errors, `records` processes pages in JSON lines, `dress`
+//! declare UTF-8, `edit` edits a page, `select` prints what a selector matches, `errors` prints parse errors, `records` processes pages in JSON lines, `dress`
 //! prepares lines for a terminal, and `progress` shows how much of a long input was read. Begin with `src/run.rt`.
 #![tactic(auto)]
 
 mod answer;
 mod charset;
 mod dress;
+mod edit;
 mod errors;
 mod fault;
 mod output;

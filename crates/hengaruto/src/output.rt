@@ -1,4 +1,5 @@
 //! What a subcommand prints, with the values of its options.
+use super::edit::{Change, changes_by};
 use super::policy_file::policy_in;
 use super::select::{Selection, Shown, tell_selector};
 use clap::ArgMatches;
@@ -15,6 +16,8 @@ pub enum TreeOutput<'a> {
     Nodes,
     /// The tree as HTML.
     Html,
+    /// The tree after these edits, as HTML.
+    Edited(Vec<Change<'a>>),
     /// The text, in this layout.
     Text(TextOpts),
     /// The links, or also other references, resolved against this URL unless the page has a base.
@@ -51,6 +54,12 @@ impl Refused {
     /// The refusal of a command line.
     pub fn usage() -> Refused {
         Refused { status: 2 }
+    }
+
+    /// The refusal if an allocation fails, which is reported. An error of standard error is ignored.
+    pub fn memory(rt: &HostRuntime) -> Refused {
+        let _told = writeln!(rt.stderr(), "hengaruto: out of memory");
+        Refused { status: 1 }
     }
 }
 
@@ -167,6 +176,7 @@ impl<'a> Output<'a> {
             }
             "tree" => TreeOutput::Nodes,
             "html" => TreeOutput::Html,
+            "edit" => TreeOutput::Edited(changes_by(rt, matches)?),
             "text" => text_by(rt, matches, scripting_enabled)?,
             "links" => links_by(rt, matches)?,
             "clean" => clean_by(rt, matches)?,

@@ -2,6 +2,7 @@
 use super::answer::{Asked, put_answer};
 use super::charset::declare_utf8;
 use super::dress::dressed;
+use super::edit::apply;
 use super::errors::{ErrorCount, put_errors, tell_count};
 use super::fault::Fault;
 use super::output::{Output, TreeOutput};
@@ -64,9 +65,27 @@ fn put_errors_of<R: Read, W: Write>(
     Ok(Answered { how, errors })
 }
 
-// Makes a page in another encoding than UTF-8 declare UTF-8, if it is to be written as HTML.
-fn prepare(arena: &mut Arena, output: &TreeOutput<'_>, encoding: Encoding) -> Result<(), Fault> {
-    if matches!(output, TreeOutput::Html) && encoding != Encoding::Utf8 {
+// Edits a page that is to be edited. If it is to be written as HTML and is in another encoding than UTF-8, makes it declare UTF-8.
+fn prepare(
+    alloc: Global,
+    arena: &mut Arena,
+    page: &PageOpts<'_>,
+    output: &TreeOutput<'_>,
+    encoding: Encoding,
+) -> Result<(), Fault> {
+    match output {
+        TreeOutput::Html => {}
+        TreeOutput::Edited(changes) => {
+            apply(
+                alloc,
+                arena,
+                changes.as_slice(),
+                page.input.scripting_enabled,
+            )?;
+        }
+        _ => return Ok(()),
+    }
+    if encoding != Encoding::Utf8 {
         declare_utf8(arena)?;
     }
     Ok(())
@@ -81,7 +100,7 @@ fn put_tree_of<R: Read, W: Write>(
     out: &mut W,
 ) -> Result<HowRead, Fault> {
     let (mut arena, how) = tree_of(rt.alloc(), page.context, page.input, input)?;
-    prepare(&mut arena, output, how.encoding)?;
+    prepare(rt.alloc(), &mut arena, page, output, how.encoding)?;
     let written = put_answer(rt.alloc(), page, output, &arena, how.encoding, out);
     if page.is_last {
         mem::forget(arena);

@@ -8,7 +8,7 @@ pub use Rattle.h5_token.specs.TokenText
 pub use Rattle.h5_interface.specs.Forest
 pub use Rattle.h5_interface.specs.Seen
 pub use Rattle.h5_interface.specs.SinkChoices
-pub use Rattle.h5_reading.specs.Answers
+pub use Rattle.h5_tokenizer_input.specs.Answers
 pub use Rattle.h5_tables.specs.TagSets
 pub use Rattle.h5_serialize.specs.Call
 pub use Rattle.h5_serialize.specs.Escape
@@ -23,6 +23,8 @@ pub use Rattle.h5_arena.specs.Html
 pub use Rattle.h5_arena.specs.Kin
 pub use Rattle.h5_arena.specs.Lent
 pub use Rattle.h5_arena.specs.NodeCalls
+pub use Rattle.h5_edit.specs.EditModel
+pub use Rattle.h5_edit.specs.Editing
 pub use Rattle.h5_tree.specs.Elements
 pub use Rattle.h5_tree.specs.Shape
 pub use Rattle.h5_selectors.specs.Asking
@@ -32,13 +34,13 @@ pub use Rattle.h5_selectors.specs.Grammar
 pub use Rattle.h5_selectors.specs.Holds
 pub use Rattle.h5_selectors.specs.Selected
 pub use Rattle.h5_selectors.specs.Ways
-pub use Rattle.h5_plain.specs.Plain
-pub use Rattle.h5_plain.specs.Rebuilding
-pub use Rattle.h5_plain.specs.Staying
+pub use Rattle.h5_builder_laws.specs.Plain
+pub use Rattle.h5_builder_laws.specs.Rebuilding
+pub use Rattle.h5_builder_laws.specs.Staying
 pub use Rattle.h5_round_trip.specs.Inside
 pub use Rattle.h5_round_trip.specs.Readable
 pub use Rattle.h5_round_trip.specs.Written
-pub use Rattle.h5_rules.specs.Run
+pub use Rattle.h5_builder_spec.specs.Run
 pub use Rattle.h5_tree_builder.specs.Builder
 pub use Rattle.h5_tree_builder.specs.Fragment
 pub use Rattle.h5_tree_builder.specs.Held

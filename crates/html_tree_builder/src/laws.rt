@@ -6,24 +6,24 @@ ghost use Rattle.h5_serialize.specs.Standing.{new_standing, walk_text};
 ghost use Rattle.h5_serialize.specs.declared.options.SerializeOpts.{SerializeOpts};
 ghost use Rattle.h5_serialize.specs.declared.options.TraversalScope.TheVariants.{ChildrenOnly};
 ghost use Rattle.h5_arena.specs.NodeCalls.{walk_of};
-ghost use Rattle.h5_plain.specs.Plain.{PlainDocument};
-ghost use Rattle.h5_plain.specs.Rebuilding.{DocumentStands, HoldsDocument};
+ghost use Rattle.h5_builder_laws.specs.Plain.{PlainDocument};
+ghost use Rattle.h5_builder_laws.specs.Rebuilding.{DocumentStands, HoldsDocument};
 ghost use Rattle.h5_round_trip.specs.Readable.{IsReadableDocument};
 ghost use Rattle.h5_round_trip.specs.Written.{KeepsNewlines};
 ghost use Rattle.h5_driver.specs.Parsing.{Parsing, ProcessedAll, joined, text_of, view_of};
 ghost use Rattle.h5_driver.specs.PlainDocuments.{ComesBack, IsNew};
 ghost use Rattle.h5_driver.specs.Reading.{Parses};
 
+pub use h5_builder_laws::laws::documents_are_rebuilt;
+pub use h5_builder_laws::mode_laws::{
+    a_token_has_one_chain, cuts_agree, cuts_of_one_list_agree, reconstructed_elements_are_open,
+    runs_join, turns_are_few, what_is_kept_stays,
+};
 use h5_driver::Reader;
 pub use h5_driver::laws::{
     a_text_has_one_list_of_errors, a_text_has_one_tree, chunks_then_finish, documents_come_back,
     documents_have_no_errors, fragments_come_back, fragments_come_back_over, pieces_then_finish,
     reporting_builds_the_same_tree,
-};
-pub use h5_plain::laws::documents_are_rebuilt;
-pub use h5_plain::mode_laws::{
-    a_token_has_one_chain, cuts_agree, cuts_of_one_list_agree, reconstructed_elements_are_open,
-    runs_join, turns_are_few, what_is_kept_stays,
 };
 pub use h5_round_trip::laws::standard::{
     documents_are_read, documents_are_read_without_errors, documents_tell_no_errors,
@@ -35,7 +35,7 @@ pub use h5_round_trip::laws::{
     values_are_read_back,
 };
 pub use h5_serialize::laws::calls_are_taken_in_turn;
-pub use h5_states::laws::{
+pub use h5_tokenizer_spec::laws::{
     cuts_tell_the_same_errors, tellings_join, told_pieces_join, what_tells_errors_reads,
 };
 

@@ -24,8 +24,8 @@ pub use h5_driver::standard::{
 pub use h5_driver::{ParseOpts, Reader};
 pub use h5_interface::{NodeOrText, QuirksMode, TreeSink};
 pub use h5_names::{Attribute, ExpandedName, LocalName, Namespace, Prefix, QualName, namespaces};
-pub use h5_reading::{BufferQueue, TokenizerOpts, TokenizerResult};
 pub use h5_serialize::{Serialize, SerializeOpts, Serializer, TraversalScope};
+pub use h5_tokenizer_input::{BufferQueue, TokenizerOpts, TokenizerResult};
 
 /// The sink that keeps a tree, and its nodes.
 pub mod arena {
@@ -59,6 +59,11 @@ pub mod driver {
         ParseOpts, Parser, PlainReader, Reader, Utf8Parser, parse_document, parse_fragment,
         parse_fragment_for_element,
     };
+}
+
+/// Edits of a tree, each at one node.
+pub mod edit {
+    pub use h5_edit::{Edit, EditFault, edit_node};
 }
 
 /// Decoding by the Encoding Standard.
@@ -115,8 +120,8 @@ pub mod token {
 
 /// The plain tokenizer.
 pub mod tokenizer {
-    pub use h5_reading::{BufferQueue, TokenizerOpts, TokenizerResult};
-    pub use h5_tokenizer::Tokenizer;
+    pub use h5_plain_tokenizer::Tokenizer;
+    pub use h5_tokenizer_input::{BufferQueue, TokenizerOpts, TokenizerResult};
 }
 
 /// Trees that are read, which selectors select in.
@@ -138,5 +143,5 @@ pub mod types {
 
 /// Decoding of UTF-8.
 pub mod utf8 {
-    pub use h5_reading::Utf8LossyDecoder;
+    pub use h5_tokenizer_input::Utf8LossyDecoder;
 }

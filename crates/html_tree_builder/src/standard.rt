@@ -7,6 +7,6 @@
 pub use h5_driver::standard::{
     Parser, StandardReader, Utf8Parser, parse_document, parse_fragment, parse_fragment_for_element,
 };
-pub use h5_standard::{
+pub use h5_standard_tokenizer::{
     ErrorSink, Errors, LocatedError, ParseError, Position, ReportingTokenizer, Tokenizer,
 };

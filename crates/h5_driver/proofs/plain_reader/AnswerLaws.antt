@@ -7,14 +7,14 @@ use Rattle.h5_token.specs.declared.tag.TagKind.TheVariants.{EndTag, StartTag}
 use Rattle.h5_interface.specs.SinkChoices.{SinkChoices}
 use Rattle.h5_tables.specs.declared.modes.InsertionMode.{InsertionMode}
 use Rattle.h5_tables.specs.declared.modes.InsertionMode.TheVariants.{Text}
-use Rattle.h5_rules.specs.Run.{View, after_token, refuses_in, reply_to}
-use Rattle.h5_plain.proofs.replies.TextReadLaws.{Leads, TagLeads, TokenLeads}
-use Rattle.h5_rules.proofs.rows.RowTexts.{is_text}
-use Rattle.h5_reading.specs.Answers.{refuses}
-use Rattle.h5_tokenizer.specs.Front.{ReaderPlace}
-use Rattle.h5_tokenizer.specs.Read.{after_tag, next_place}
+use Rattle.h5_builder_spec.specs.Run.{View, after_token, refuses_in, reply_to}
+use Rattle.h5_builder_laws.proofs.replies.TextReadLaws.{Leads, TagLeads, TokenLeads}
+use Rattle.h5_builder_spec.proofs.rows.RowTexts.{is_text}
+use Rattle.h5_tokenizer_input.specs.Answers.{refuses}
+use Rattle.h5_plain_tokenizer.specs.Front.{ReaderPlace}
+use Rattle.h5_plain_tokenizer.specs.Read.{after_tag, next_place}
 use Rattle.h5_driver.specs.PlainReader.{IsRawMode}
-use Rattle.h5_driver.specs.Working.{IsWorking}
+use Rattle.h5_driver.specs.inner.Working.{IsWorking}
 use Rattle.h5_driver.proofs.TakenLaws.{text_no_text, token_taken, was_text}
 
 -- it works if the tokenizer is at this place

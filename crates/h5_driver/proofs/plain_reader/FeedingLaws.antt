@@ -5,26 +5,27 @@ use Rattle.h5_token.specs.TokenText.{TokenText, Characters}
 use Rattle.h5_token.specs.declared.fault.BuildFault.{BuildFault}
 use Rattle.h5_token.specs.declared.fault.BuildFault.TheVariants.{AfterEnd, Failed, Memory, NotInText}
 use Rattle.h5_interface.specs.SinkChoices.{SinkChoices}
-use Rattle.h5_rules.specs.Run.{View, after_token, refuses_in, reply_to}
-use Rattle.h5_plain.proofs.cuts.RunLaws.{takes_text}
-use Rattle.h5_reading.specs.Answers.{refuses}
-use Rattle.h5_reading.specs.Lines.{line_behind}
-use Rattle.h5_reading.specs.Taking.{ClosesWith}
-use Rattle.h5_reading.specs.Told.{handed}
-use Rattle.h5_reading.specs.declared.result.TokenizerResult.{TokenizerResult}
-use Rattle.h5_reading.specs.declared.result.TokenizerResult.TheVariants as result
-use Rattle.h5_reading.specs.declared.stage.Stage.TheVariants.{Reading}
-use Rattle.h5_tokenizer.specs.End.{Closes, settle}
-use Rattle.h5_tokenizer.specs.Front.{ReaderPlace}
-use Rattle.h5_tokenizer.specs.Outcome.{Feeds, ReadsAll, RefusedAt, StopsAt}
-use Rattle.h5_tokenizer.specs.Read.{Read, Step, behind, marked, next_place, nothing_read, read_on, started, switch_step, text_step, token_step, unmarked}
-use Rattle.h5_tokenizer.specs.ReaderText.{ReaderText}
-use Rattle.h5_tokenizer.specs.Whole as whole
-use Rattle.h5_tokenizer.specs.Whole.{closing, more_reading, no_reading}
-use Rattle.h5_tokenizer.proofs.WholeLaws.{end_ends}
+use Rattle.h5_builder_spec.specs.Run.{View, after_token, refuses_in, reply_to}
+use Rattle.h5_builder_laws.proofs.cuts.RunLaws.{takes_text}
+use Rattle.h5_tokenizer_input.specs.Answers.{refuses}
+use Rattle.h5_tokenizer_input.specs.Lines.{line_behind}
+use Rattle.h5_tokenizer_input.specs.Taking.{ClosesWith}
+use Rattle.h5_tokenizer_input.specs.Told.{handed}
+use Rattle.h5_tokenizer_input.specs.declared.result.TokenizerResult.{TokenizerResult}
+use Rattle.h5_tokenizer_input.specs.declared.result.TokenizerResult.TheVariants as result
+use Rattle.h5_tokenizer_input.specs.declared.stage.Stage.TheVariants.{Reading}
+use Rattle.h5_plain_tokenizer.specs.End.{Closes, settle}
+use Rattle.h5_plain_tokenizer.specs.Front.{ReaderPlace}
+use Rattle.h5_plain_tokenizer.specs.Outcome.{Feeds, ReadsAll, RefusedAt, StopsAt}
+use Rattle.h5_plain_tokenizer.specs.Read.{Read, Step, behind, marked, next_place, nothing_read, read_on, started, switch_step, text_step, token_step, unmarked}
+use Rattle.h5_plain_tokenizer.specs.ReaderText.{ReaderText}
+use Rattle.h5_plain_tokenizer.specs.Whole as whole
+use Rattle.h5_plain_tokenizer.specs.Whole.{closing, more_reading, no_reading}
+use Rattle.h5_plain_tokenizer.proofs.WholeLaws.{end_ends}
 use Rattle.h5_driver.specs.PlainReader.{IsRaw, IsUndecided, Readings, Reads, left}
 use Rattle.h5_driver.specs.Reading.{Advances, IsReadToEnd}
-use Rattle.h5_driver.specs.Working.{IsWorking, after, ended, foreign, replies}
+use Rattle.h5_driver.specs.inner.Working.{IsWorking}
+use Rattle.h5_driver.specs.BuilderSink.{after, ended, foreign, replies}
 use Rattle.h5_driver.proofs.TakenLaws.{comes, finishes_memory, takes_memory}
 use Rattle.h5_driver.proofs.plain_reader.AnswerLaws.{IsWorkingAt, token_works, works_at}
 use Rattle.h5_driver.proofs.plain_reader.RawLaws.{raw_rest, raw_stays, raw_token}

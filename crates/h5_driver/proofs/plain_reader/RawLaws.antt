@@ -2,18 +2,18 @@
 use Rattle.std.proofs.Common.{◌≡◌, ℕ, Bool, false, List, [], ◌∷◌, Option, Some, None, codes, refl, subst}
 use Rattle.h5_token.specs.TokenText.{TokenText}
 use Rattle.h5_token.specs.declared.states.RawKind.{RawKind}
-use Rattle.h5_rules.specs.Run.{is_refused_in_text}
+use Rattle.h5_builder_spec.specs.Run.{is_refused_in_text}
 use Rattle.h5_markup.specs.Cuts.{is_in}
 use Rattle.h5_markup.specs.Ending.{up_to_end}
 use Rattle.h5_markup.specs.Matching.{Found, Match, No, Open, ahead, and_then, literal, or_else, peek, word}
 use Rattle.h5_markup.specs.declared.cut.Class.TheVariants.{NameEnd}
 use Rattle.h5_markup.specs.Text.{escape, text_of}
-use Rattle.h5_tokenizer.specs.End.{settle, settled, text_token}
-use Rattle.h5_tokenizer.specs.Front.{Begins, Gives, Null, Opening, Piece, Switch, Turns, Whole, concluded, finished, front, opening, other, raw_end_tag, reads_references, says, stands_for}
-use Rattle.h5_tokenizer.specs.Tokens.{start_of}
-use Rattle.h5_tokenizer.specs.declared.front.Construct.TheVariants.{RawEndTag}
-use Rattle.h5_tokenizer.specs.declared.front.Mode.{Mode}
-use Rattle.h5_tokenizer.specs.declared.front.Mode.TheVariants.{RawData}
+use Rattle.h5_plain_tokenizer.specs.End.{settle, settled, text_token}
+use Rattle.h5_plain_tokenizer.specs.Front.{Begins, Gives, Null, Opening, Piece, Switch, Turns, Whole, concluded, finished, front, opening, other, raw_end_tag, reads_references, says, stands_for}
+use Rattle.h5_plain_tokenizer.specs.Tokens.{start_of}
+use Rattle.h5_plain_tokenizer.specs.declared.front.Construct.TheVariants.{RawEndTag}
+use Rattle.h5_plain_tokenizer.specs.declared.front.Mode.{Mode}
+use Rattle.h5_plain_tokenizer.specs.declared.front.Mode.TheVariants.{RawData}
 use Rattle.h5_driver.specs.PlainReader.{IsRawMode}
 
 -- nothing begins except an end tag, or something that a text replaces

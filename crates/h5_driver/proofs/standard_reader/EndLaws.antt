@@ -1,15 +1,15 @@
 -- In raw text the end leaves at most a text.
 use Rattle.std.proofs.Common.{◌≡◌, ◌++◌, ℕ, Bool, true, false, List, [], Option, Some, None, codes, cond, refl}
-use Rattle.h5_states.specs.declared.kinds.TextKind.{TextKind}
-use Rattle.h5_states.specs.declared.kinds.TextKind.TheVariants.{CdataSection}
-use Rattle.h5_states.specs.declared.kinds.RawTextKind.{RawTextKind}
-use Rattle.h5_states.specs.declared.kinds.RawTextKind.TheVariants as raw
-use Rattle.h5_states.specs.AtEnd.{Ending, at_end, behind_raw, coded_at_end, flushed, in_text, named_at_end}
-use Rattle.h5_states.specs.RawTexts.{IsRaw}
-use Rattle.h5_states.specs.References.{Longest, Reference, code_point, is_historical, longest}
-use Rattle.h5_states.specs.Signs.{null}
-use Rattle.h5_states.specs.States as s
-use Rattle.h5_states.specs.States.{Return, State, ToData, ToRcdata, ToValue}
+use Rattle.h5_tokenizer_spec.specs.declared.kinds.TextKind.{TextKind}
+use Rattle.h5_tokenizer_spec.specs.declared.kinds.TextKind.TheVariants.{CdataSection}
+use Rattle.h5_tokenizer_spec.specs.declared.kinds.RawTextKind.{RawTextKind}
+use Rattle.h5_tokenizer_spec.specs.declared.kinds.RawTextKind.TheVariants as raw
+use Rattle.h5_tokenizer_spec.specs.AtEnd.{Ending, at_end, behind_raw, coded_at_end, flushed, in_text, named_at_end}
+use Rattle.h5_tokenizer_spec.specs.RawTexts.{IsRaw}
+use Rattle.h5_tokenizer_spec.specs.References.{Longest, Reference, code_point, is_historical, longest}
+use Rattle.h5_tokenizer_spec.specs.Signs.{null}
+use Rattle.h5_tokenizer_spec.specs.States as s
+use Rattle.h5_tokenizer_spec.specs.States.{Return, State, ToData, ToRcdata, ToValue}
 
 -- no token is left
 record IsText (e : Ending) : Type 0 where

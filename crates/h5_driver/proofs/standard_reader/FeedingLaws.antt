@@ -7,30 +7,31 @@ use Rattle.h5_token.specs.declared.fault.BuildFault.{BuildFault}
 use Rattle.h5_token.specs.declared.fault.BuildFault.TheVariants.{AfterEnd, Failed, Memory, NotInText}
 use Rattle.h5_interface.specs.SinkChoices.{SinkChoices}
 use Rattle.h5_tables.specs.declared.modes.InsertionMode.TheVariants.{Text}
-use Rattle.h5_rules.specs.Run.{View, after_token, reply_to}
-use Rattle.h5_plain.proofs.cuts.RunLaws.{takes_text}
-use Rattle.h5_reading.specs.Answers.{goes_on, refuses}
-use Rattle.h5_reading.specs.Taking.{ClosesWith}
-use Rattle.h5_reading.specs.Told as told
-use Rattle.h5_reading.specs.declared.result.TokenizerResult.{TokenizerResult}
-use Rattle.h5_reading.specs.declared.result.TokenizerResult.TheVariants as result
-use Rattle.h5_reading.specs.declared.stage.Stage.TheVariants.{Reading}
-use Rattle.h5_states.specs.AtEnd.{at_end}
-use Rattle.h5_states.specs.End.{Closes, last_tokens}
-use Rattle.h5_states.specs.ReferenceTable.{references}
-use Rattle.h5_states.specs.Reading.{ReaderPlace, Read}
-use Rattle.h5_states.specs.Whole as whole
-use Rattle.h5_states.specs.Whole.{more_reading, no_reading}
-use Rattle.h5_states.proofs.ReadLaws.{read_goes_on}
-use Rattle.h5_states.proofs.WholeLaws.{end_ends}
-use Rattle.h5_standard.specs.Mark.{behind_mark, still_at_start}
-use Rattle.h5_standard.specs.Outcome.{Feeds, ReadsAll, StopsAt}
-use Rattle.h5_standard.specs.ReaderText.{ReaderText}
-use Rattle.h5_standard.specs.Steps.{RefusedAt}
-use Rattle.h5_standard.specs.Weight.{weight}
+use Rattle.h5_builder_spec.specs.Run.{View, after_token, reply_to}
+use Rattle.h5_builder_laws.proofs.cuts.RunLaws.{takes_text}
+use Rattle.h5_tokenizer_input.specs.Answers.{goes_on, refuses}
+use Rattle.h5_tokenizer_input.specs.Taking.{ClosesWith}
+use Rattle.h5_tokenizer_input.specs.Told as told
+use Rattle.h5_tokenizer_input.specs.declared.result.TokenizerResult.{TokenizerResult}
+use Rattle.h5_tokenizer_input.specs.declared.result.TokenizerResult.TheVariants as result
+use Rattle.h5_tokenizer_input.specs.declared.stage.Stage.TheVariants.{Reading}
+use Rattle.h5_tokenizer_spec.specs.AtEnd.{at_end}
+use Rattle.h5_tokenizer_spec.specs.End.{Closes, last_tokens}
+use Rattle.h5_tokenizer_spec.specs.ReferenceTable.{references}
+use Rattle.h5_tokenizer_spec.specs.Reading.{ReaderPlace, Read}
+use Rattle.h5_tokenizer_spec.specs.Whole as whole
+use Rattle.h5_tokenizer_spec.specs.Whole.{more_reading, no_reading}
+use Rattle.h5_tokenizer_spec.proofs.ReadLaws.{read_goes_on}
+use Rattle.h5_tokenizer_spec.proofs.WholeLaws.{end_ends}
+use Rattle.h5_standard_tokenizer.specs.Mark.{behind_mark, still_at_start}
+use Rattle.h5_standard_tokenizer.specs.Outcome.{Feeds, ReadsAll, StopsAt}
+use Rattle.h5_standard_tokenizer.specs.ReaderText.{ReaderText}
+use Rattle.h5_standard_tokenizer.specs.Steps.{RefusedAt}
+use Rattle.h5_standard_tokenizer.specs.Weight.{weight}
 use Rattle.h5_driver.specs.Reading.{Advances, IsReadToEnd}
 use Rattle.h5_driver.specs.StandardReader.{IsRaw, IsUndecided, Readings, Reads, ahead, left}
-use Rattle.h5_driver.specs.Working.{IsReady, IsWorking, after, ended, foreign, replies}
+use Rattle.h5_driver.specs.inner.Working.{IsReady, IsWorking}
+use Rattle.h5_driver.specs.BuilderSink.{after, ended, foreign, replies}
 use Rattle.h5_driver.proofs.TakenLaws.{IsTaken, comes, finishes_memory, takes_memory, token_taken, was_text}
 use Rattle.h5_driver.proofs.standard_reader.EndLaws.{raw_end}
 use Rattle.h5_driver.proofs.standard_reader.MarkLaws.{decided, whole as none_whole}

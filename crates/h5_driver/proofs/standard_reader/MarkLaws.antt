@@ -6,7 +6,7 @@ use Rattle.std.proofs.lemmas.Str.{is_utf8-from_IsUtf8}
 use Rattle.std.specs.Str.{chars, is_utf8}
 use Rattle.h5_markup.specs.Matching.{Found, Grows, Match, No, Open, literal}
 use Rattle.h5_markup.proofs.Growth.{literal_stable}
-use Rattle.h5_standard.specs.Mark.{behind, behind_mark, is_open, mark, still_at_start}
+use Rattle.h5_standard_tokenizer.specs.Mark.{behind, behind_mark, is_open, mark, still_at_start}
 
 -- what was decided about it doesn't depend on what follows
 grown : (xs more : List ℕ) (m n : Match (Unit {0})) → Grows m more n → is_open m ≡ false → behind (xs ++ more) n ≡ behind xs m ++ more

@@ -3,11 +3,11 @@ use Rattle.std.proofs.Common.{◌≡◌, ◌≢◌, ◌<◌, ◌≤◌, ℕ, Boo
 use Rattle.std.proofs.lemmas.Bool.{false≢true}
 use Rattle.h5_token.specs.Reply.{Reply}
 use Rattle.h5_token.specs.TokenText.{TokenText}
-use Rattle.h5_reading.specs.Answers.{goes_on}
-use Rattle.h5_states.specs.ReferenceTable.{references}
-use Rattle.h5_states.specs.Reading.{ReaderPlace, Passes, passed, drops, goes, again, Step, quiet_step, text_step, token_step, ask_step, Read, nothing_read, read_on, behind, behind_newline}
-use Rattle.h5_standard.specs.Weight.{weight}
-use Rattle.h5_standard.proofs.WeightLaws.{passes_is_no_more, reconsumed_is_less, shorter_is_less}
+use Rattle.h5_tokenizer_input.specs.Answers.{goes_on}
+use Rattle.h5_tokenizer_spec.specs.ReferenceTable.{references}
+use Rattle.h5_tokenizer_spec.specs.Reading.{ReaderPlace, Passes, passed, drops, goes, again, Step, quiet_step, text_step, token_step, ask_step, Read, nothing_read, read_on, behind, behind_newline}
+use Rattle.h5_standard_tokenizer.specs.Weight.{weight}
+use Rattle.h5_standard_tokenizer.proofs.WeightLaws.{passes_is_no_more, reconsumed_is_less, shorter_is_less}
 
 consumed_is_less : (p q : ReaderPlace) (x : ℕ) (xs : List ℕ) → weight q xs < weight p (x ∷ xs)
 consumed_is_less p q x xs = shorter_is_less p q (x ∷ xs) xs (omega arith)

@@ -8,16 +8,17 @@ use Rattle.h5_token.specs.declared.tag.TagKind.TheVariants.{EndTag, StartTag}
 use Rattle.h5_interface.specs.SinkChoices.{SinkChoices}
 use Rattle.h5_tables.specs.declared.modes.InsertionMode.{InsertionMode}
 use Rattle.h5_tables.specs.declared.modes.InsertionMode.TheVariants.{Text}
-use Rattle.h5_rules.specs.Run.{View, after_token, is_refused_in_text, reply_to}
-use Rattle.h5_plain.proofs.replies.TextReadLaws.{Leads, TagLeads, TokenLeads}
-use Rattle.h5_reading.specs.Answers.{refuses}
-use Rattle.h5_states.specs.RawTexts.{IsRaw, RawBehind}
-use Rattle.h5_states.specs.States.{State}
-use Rattle.h5_states.specs.Turn.{is_end}
-use Rattle.h5_states.specs.ReferenceTable.{references}
-use Rattle.h5_states.specs.Reading.{ReaderPlace, Step, quiet_step, text_step, token_step, ask_step, Read, nothing_read, read_on, after_tag, after_token as place_behind, behind}
-use Rattle.h5_states.proofs.RawLaws.{chosen_raw, step_raw}
-use Rattle.h5_driver.specs.Working.{IsWorking, after, foreign, replies}
+use Rattle.h5_builder_spec.specs.Run.{View, after_token, is_refused_in_text, reply_to}
+use Rattle.h5_builder_laws.proofs.replies.TextReadLaws.{Leads, TagLeads, TokenLeads}
+use Rattle.h5_tokenizer_input.specs.Answers.{refuses}
+use Rattle.h5_tokenizer_spec.specs.RawTexts.{IsRaw, RawBehind}
+use Rattle.h5_tokenizer_spec.specs.States.{State}
+use Rattle.h5_tokenizer_spec.specs.Turn.{is_end}
+use Rattle.h5_tokenizer_spec.specs.ReferenceTable.{references}
+use Rattle.h5_tokenizer_spec.specs.Reading.{ReaderPlace, Step, quiet_step, text_step, token_step, ask_step, Read, nothing_read, read_on, after_tag, after_token as place_behind, behind}
+use Rattle.h5_tokenizer_spec.proofs.RawLaws.{chosen_raw, step_raw}
+use Rattle.h5_driver.specs.inner.Working.{IsWorking}
+use Rattle.h5_driver.specs.BuilderSink.{after, foreign, replies}
 use Rattle.h5_driver.proofs.TakenLaws.{comes, text_no_text, token_taken, was_text}
 
 -- it works if the tokenizer is at this place

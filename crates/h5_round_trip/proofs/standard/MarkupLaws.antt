@@ -3,17 +3,17 @@ use Rattle.std.proofs.Common.{◌≡◌, ℕ, Bool, true, false, not, ◌||◌, 
 use Rattle.h5_token.specs.TokenText.{TokenText, Characters, CommentIs, EndOfFile}
 use Rattle.h5_token.specs.Reply.{Reply, Continues}
 use Rattle.h5_serialize.specs.Escape.{escape}
-use Rattle.h5_reading.specs.Options.{default_options}
-use Rattle.h5_states.specs.declared.kinds.TextKind.TheVariants as kind
-use Rattle.h5_states.specs.Machine.{turn}
-use Rattle.h5_states.specs.Reading.{ReaderPlace, nothing_read}
-use Rattle.h5_states.specs.ReferenceTable.{references}
-use Rattle.h5_states.specs.States.{CommentEnd, CommentStart, Text}
-use Rattle.h5_states.specs.States as state
-use Rattle.h5_states.specs.Turn.{Reconsumed, Consumed}
-use Rattle.h5_states.specs.Whole.{ReadsToEnd}
-use Rattle.h5_standard.specs.Options.{first_place}
-use Rattle.h5_plain.specs.Plain.{end_tag}
+use Rattle.h5_tokenizer_input.specs.Options.{default_options}
+use Rattle.h5_tokenizer_spec.specs.declared.kinds.TextKind.TheVariants as kind
+use Rattle.h5_tokenizer_spec.specs.Machine.{turn}
+use Rattle.h5_tokenizer_spec.specs.Reading.{ReaderPlace, nothing_read}
+use Rattle.h5_tokenizer_spec.specs.ReferenceTable.{references}
+use Rattle.h5_tokenizer_spec.specs.States.{CommentEnd, CommentStart, Text}
+use Rattle.h5_tokenizer_spec.specs.States as state
+use Rattle.h5_tokenizer_spec.specs.Turn.{Reconsumed, Consumed}
+use Rattle.h5_tokenizer_spec.specs.Whole.{ReadsToEnd}
+use Rattle.h5_standard_tokenizer.specs.Options.{first_place}
+use Rattle.h5_builder_laws.specs.Plain.{end_tag}
 use Rattle.h5_round_trip.specs.Answers.{Answers}
 use Rattle.h5_round_trip.proofs.TagLaws.{IsTagName}
 use Rattle.h5_round_trip.specs.Markup.{AreCommentBytes, AreMarks, Comment, Ending, IsCommentText, IsMark, IsTagText, Mark, Start, Title, Words, marks_tokens, is_comment_byte, page_tokens, written_mark, written_marks, written_page}

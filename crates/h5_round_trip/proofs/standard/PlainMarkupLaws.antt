@@ -11,16 +11,16 @@ use Rattle.h5_markup.specs.declared.ending.Inside.TheVariants as inside
 use Rattle.h5_markup.proofs.Endings.{end_found, walk_append}
 use Rattle.h5_markup.proofs.Staying.{in_comment}
 use Rattle.h5_markup.proofs.TextLaws.{one_byte, text_nil}
-use Rattle.h5_reading.specs.Options.{default_options}
-use Rattle.h5_tokenizer.specs.declared.front.Construct.TheVariants as construct
-use Rattle.h5_tokenizer.specs.declared.front.Mode.TheVariants.{Data}
-use Rattle.h5_tokenizer.specs.Front.{ReaderPlace, Whole, front}
-use Rattle.h5_tokenizer.specs.Tokens.{is_dashes, without_dashes}
-use Rattle.h5_tokenizer.proofs.StepLaws.{front_concluded}
-use Rattle.h5_tokenizer.specs.Options.{first_place}
-use Rattle.h5_tokenizer.specs.Read.{nothing_read, read_on, started, unmarked}
-use Rattle.h5_tokenizer.specs.Whole.{ReadsToEnd}
-use Rattle.h5_plain.specs.Plain.{end_tag}
+use Rattle.h5_tokenizer_input.specs.Options.{default_options}
+use Rattle.h5_plain_tokenizer.specs.declared.front.Construct.TheVariants as construct
+use Rattle.h5_plain_tokenizer.specs.declared.front.Mode.TheVariants.{Data}
+use Rattle.h5_plain_tokenizer.specs.Front.{ReaderPlace, Whole, front}
+use Rattle.h5_plain_tokenizer.specs.Tokens.{is_dashes, without_dashes}
+use Rattle.h5_plain_tokenizer.proofs.StepLaws.{front_concluded}
+use Rattle.h5_plain_tokenizer.specs.Options.{first_place}
+use Rattle.h5_plain_tokenizer.specs.Read.{nothing_read, read_on, started, unmarked}
+use Rattle.h5_plain_tokenizer.specs.Whole.{ReadsToEnd}
+use Rattle.h5_builder_laws.specs.Plain.{end_tag}
 use Rattle.h5_round_trip.specs.Answers.{Answers}
 use Rattle.h5_round_trip.proofs.CharLaws.{None}
 use Rattle.h5_round_trip.proofs.ReadingLaws.{Reached, doctype_taken, end_taken, ends, front_in, in_behind, start_taken, text_taken, title_end_taken, title_taken, token_taken}

@@ -6,23 +6,23 @@ use Rattle.std.specs.Char.{encode_utf8}
 use Rattle.std.specs.List.{list_all}
 use Rattle.h5_token.specs.TokenText.{TokenText, Characters}
 use Rattle.h5_token.specs.Reply.{Reply, Continues}
-use Rattle.h5_reading.specs.Answers.{goes_on}
+use Rattle.h5_tokenizer_input.specs.Answers.{goes_on}
 use Rattle.h5_serialize.proofs.EscapeLaws.{AreAbove, above_encode}
 use Rattle.h5_round_trip.proofs.CharLaws.{byte_some}
-use Rattle.h5_states.specs.declared.position.Spot.{Spot}
-use Rattle.h5_states.specs.InputErrors.{InputErrors, inside, not_new, of_character}
-use Rattle.h5_states.specs.Lines.{normal}
-use Rattle.h5_states.specs.Machine.{turn}
-use Rattle.h5_states.specs.Reading as reading
-use Rattle.h5_states.specs.Reading.{Passes, ReaderPlace, after_token, behind, in_state, is_dropped, passed}
-use Rattle.h5_states.specs.ReferenceTable.{references}
-use Rattle.h5_states.specs.Spots.{is_inside, position, spot_again, spot_behind}
-use Rattle.h5_states.specs.States.{State}
-use Rattle.h5_states.specs.Telling.{Reached, Reaches, again, at_first, begins, goes, hands_nothing, hands_text, hands_token, row_errors, told_at_byte}
-use Rattle.h5_states.specs.Turn.{Consumed, Emitted, Outcome, Reconsumed, Turn}
-use Rattle.h5_states.specs.WithoutErrors.{HasNoInputErrors, a_character, no_character}
-use Rattle.h5_states.proofs.ToldLaws.{none_at_byte}
-use Rattle.h5_standard.proofs.EncodingLaws.{WideCharacter, encoded_wide, first_same}
+use Rattle.h5_tokenizer_spec.specs.declared.position.Spot.{Spot}
+use Rattle.h5_tokenizer_spec.specs.InputErrors.{InputErrors, inside, not_new, of_character}
+use Rattle.h5_tokenizer_spec.specs.Lines.{normal}
+use Rattle.h5_tokenizer_spec.specs.Machine.{turn}
+use Rattle.h5_tokenizer_spec.specs.Reading as reading
+use Rattle.h5_tokenizer_spec.specs.Reading.{Passes, ReaderPlace, after_token, behind, in_state, is_dropped, passed}
+use Rattle.h5_tokenizer_spec.specs.ReferenceTable.{references}
+use Rattle.h5_tokenizer_spec.specs.Spots.{is_inside, position, spot_again, spot_behind}
+use Rattle.h5_tokenizer_spec.specs.States.{State}
+use Rattle.h5_tokenizer_spec.specs.Telling.{Reached, Reaches, again, at_first, begins, goes, hands_nothing, hands_text, hands_token, row_errors, told_at_byte}
+use Rattle.h5_tokenizer_spec.specs.Turn.{Consumed, Emitted, Outcome, Reconsumed, Turn}
+use Rattle.h5_tokenizer_spec.specs.WithoutErrors.{HasNoInputErrors, a_character, no_character}
+use Rattle.h5_tokenizer_spec.proofs.ToldLaws.{none_at_byte}
+use Rattle.h5_standard_tokenizer.proofs.EncodingLaws.{WideCharacter, encoded_wide, first_same}
 
 -- a row without errors
 abbrev pub quiet : Outcome → Turn

@@ -5,28 +5,28 @@ use Rattle.h5_token.specs.TokenText.{TokenText, DoctypeIs, TagIs, CommentIs, Cha
 use Rattle.h5_token.specs.Reply.{Reply, Continues, TurnsRaw}
 use Rattle.h5_token.specs.declared.states.RawKind.TheVariants.{Rcdata}
 use Rattle.h5_serialize.specs.Escape.{escape}
-use Rattle.h5_reading.specs.Answers.{goes_on}
-use Rattle.h5_reading.specs.Blindness.{IsBlindToCuts}
-use Rattle.h5_reading.specs.Options.{default_options}
-use Rattle.h5_reading.specs.Told.{after_all, handed, told}
-use Rattle.h5_reading.proofs.AnswerLaws.{unrefused}
-use Rattle.h5_states.specs.declared.kinds.TextKind.TheVariants as text
-use Rattle.h5_states.specs.End.{last_tokens}
-use Rattle.h5_states.specs.AtEnd.{at_end}
-use Rattle.h5_states.specs.Reading.{Passes, ReaderPlace, Read, after_token, behind, chosen_state, nothing_read, quiet_step, read_on, text_step, token_step}
-use Rattle.h5_states.specs.ReferenceTable.{references}
-use Rattle.h5_states.specs.States.{State, Text as TextState}
-use Rattle.h5_states.specs.Whole.{ReadsToEnd, more_reading, no_reading}
-use Rattle.h5_states.specs.WithoutErrors.{HasNoInputErrors, ReadsWithoutErrors}
-use Rattle.h5_states.specs.SeenAhead.{seen_ahead, told_of_row}
-use Rattle.h5_states.specs.Spots.{position}
-use Rattle.h5_states.specs.Telling.{at_first}
-use Rattle.h5_states.specs.WholeTelling.{TellsToEnd, more_telling, no_telling}
-use Rattle.h5_states.specs.declared.position.Spot.{Spot}
-use Rattle.h5_states.specs.declared.position.LocatedError.{LocatedError}
-use Rattle.h5_states.proofs.ToldCutLaws.{told_agree}
-use Rattle.h5_standard.specs.Options.{first_place}
-use Rattle.h5_plain.specs.Plain.{ArePlain, ElementThen, End, Nodes, PlainDocument, TextThen, as_written, document_tokens, end_tag, fragment_tokens, has_end_tag, is_start_of_title, plain_doctype, plain_reply, root_of, start_tag, tokens_before}
+use Rattle.h5_tokenizer_input.specs.Answers.{goes_on}
+use Rattle.h5_tokenizer_input.specs.Blindness.{IsBlindToCuts}
+use Rattle.h5_tokenizer_input.specs.Options.{default_options}
+use Rattle.h5_tokenizer_input.specs.Told.{after_all, handed, told}
+use Rattle.h5_tokenizer_input.proofs.AnswerLaws.{unrefused}
+use Rattle.h5_tokenizer_spec.specs.declared.kinds.TextKind.TheVariants as text
+use Rattle.h5_tokenizer_spec.specs.End.{last_tokens}
+use Rattle.h5_tokenizer_spec.specs.AtEnd.{at_end}
+use Rattle.h5_tokenizer_spec.specs.Reading.{Passes, ReaderPlace, Read, after_token, behind, chosen_state, nothing_read, quiet_step, read_on, text_step, token_step}
+use Rattle.h5_tokenizer_spec.specs.ReferenceTable.{references}
+use Rattle.h5_tokenizer_spec.specs.States.{State, Text as TextState}
+use Rattle.h5_tokenizer_spec.specs.Whole.{ReadsToEnd, more_reading, no_reading}
+use Rattle.h5_tokenizer_spec.specs.WithoutErrors.{HasNoInputErrors, ReadsWithoutErrors}
+use Rattle.h5_tokenizer_spec.specs.SeenAhead.{seen_ahead, told_of_row}
+use Rattle.h5_tokenizer_spec.specs.Spots.{position}
+use Rattle.h5_tokenizer_spec.specs.Telling.{at_first}
+use Rattle.h5_tokenizer_spec.specs.WholeTelling.{TellsToEnd, more_telling, no_telling}
+use Rattle.h5_tokenizer_spec.specs.declared.position.Spot.{Spot}
+use Rattle.h5_tokenizer_spec.specs.declared.position.LocatedError.{LocatedError}
+use Rattle.h5_tokenizer_spec.proofs.ToldCutLaws.{told_agree}
+use Rattle.h5_standard_tokenizer.specs.Options.{first_place}
+use Rattle.h5_builder_laws.specs.Plain.{ArePlain, ElementThen, End, Nodes, PlainDocument, TextThen, as_written, document_tokens, end_tag, fragment_tokens, has_end_tag, is_start_of_title, plain_doctype, plain_reply, root_of, start_tag, tokens_before}
 use Rattle.h5_round_trip.specs.Answers.{Answers}
 use Rattle.h5_round_trip.specs.Readable.{AreReadable, CanBeRead, IsReadable, IsReadableDocument}
 use Rattle.h5_round_trip.specs.Written.{tag_written, written_before, written_fragment, written_of}
@@ -38,7 +38,7 @@ use Rattle.h5_round_trip.proofs.standard.ReferenceLaws.{InData, InTitle, Where, 
 use Rattle.h5_round_trip.proofs.standard.RunLaws.{IsIn, Moves}
 use Rattle.h5_round_trip.specs.Fragment.{AnswersCuts}
 use Rattle.h5_token.specs.Joins.{join}
-use Rattle.h5_reading.proofs.JoinLaws.{joins_append}
+use Rattle.h5_tokenizer_input.proofs.JoinLaws.{joins_append}
 use Rattle.h5_round_trip.proofs.standard.TagLaws.{HandsToken, doctype_handed, end_handed, start_handed, title_end_handed}
 use Rattle.h5_round_trip.proofs.standard.TextLaws.{text_ends, text_reads}
 

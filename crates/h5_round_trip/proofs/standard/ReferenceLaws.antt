@@ -1,14 +1,14 @@
 -- The references that a serializer writes are read as their characters.
 use Rattle.std.proofs.Common.{◌≡◌, ◌++◌, ℕ, List, [], ◌∷◌, Some, codes, refl, subst, append-nil}
-use Rattle.h5_states.specs.declared.kinds.Quote.TheVariants.{Double}
-use Rattle.h5_states.specs.declared.kinds.TextKind.TheVariants.{Data, Rcdata}
-use Rattle.h5_states.specs.Construction.{Tag, value_further}
-use Rattle.h5_states.specs.Lines.{normal}
-use Rattle.h5_states.specs.Machine.{turn}
-use Rattle.h5_states.specs.Reading.{ReaderPlace}
-use Rattle.h5_states.specs.ReferenceTable.{references}
-use Rattle.h5_states.specs.States.{AttributeValue, NamedCharacterReference, Quoted, Return, State, Text, ToData, ToRcdata, ToValue}
-use Rattle.h5_states.specs.Turn.{Reconsumed}
+use Rattle.h5_tokenizer_spec.specs.declared.kinds.Quote.TheVariants.{Double}
+use Rattle.h5_tokenizer_spec.specs.declared.kinds.TextKind.TheVariants.{Data, Rcdata}
+use Rattle.h5_tokenizer_spec.specs.Construction.{Tag, value_further}
+use Rattle.h5_tokenizer_spec.specs.Lines.{normal}
+use Rattle.h5_tokenizer_spec.specs.Machine.{turn}
+use Rattle.h5_tokenizer_spec.specs.Reading.{ReaderPlace}
+use Rattle.h5_tokenizer_spec.specs.ReferenceTable.{references}
+use Rattle.h5_tokenizer_spec.specs.States.{AttributeValue, NamedCharacterReference, Quoted, Return, State, Text, ToData, ToRcdata, ToValue}
+use Rattle.h5_tokenizer_spec.specs.Turn.{Reconsumed}
 use Rattle.h5_round_trip.proofs.standard.QuietLaws.{quiet}
 use Rattle.h5_round_trip.proofs.standard.RunLaws.{IsIn, Moves, again_at, moves_then, rows, rows_move}
 

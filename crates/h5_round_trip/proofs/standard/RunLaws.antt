@@ -1,12 +1,12 @@
 -- Rows without errors, one after another, that emit nothing.
 use Rattle.std.proofs.Common.{◌≡◌, ◌==◌, ℕ, Bool, true, false, List, [], ◌∷◌, ◌++◌, Option, Some, None, if◌then◌else◌, refl, ap, subst, ◌∙◌}
-use Rattle.h5_states.specs.Lines.{normal}
-use Rattle.h5_states.specs.ReferenceTable.{references}
-use Rattle.h5_states.specs.Machine.{turn}
-use Rattle.h5_states.specs.Reading.{ReaderPlace, behind, in_state, is_dropped}
-use Rattle.h5_states.specs.States.{State}
-use Rattle.h5_states.specs.Turn.{Reconsumed, Asks, Outcome, Consumed, Emitted, Turn}
-use Rattle.h5_states.specs.declared.errors.ParseError.{ParseError}
+use Rattle.h5_tokenizer_spec.specs.Lines.{normal}
+use Rattle.h5_tokenizer_spec.specs.ReferenceTable.{references}
+use Rattle.h5_tokenizer_spec.specs.Machine.{turn}
+use Rattle.h5_tokenizer_spec.specs.Reading.{ReaderPlace, behind, in_state, is_dropped}
+use Rattle.h5_tokenizer_spec.specs.States.{State}
+use Rattle.h5_tokenizer_spec.specs.Turn.{Reconsumed, Asks, Outcome, Consumed, Emitted, Turn}
+use Rattle.h5_tokenizer_spec.specs.declared.errors.ParseError.{ParseError}
 use Rattle.h5_round_trip.proofs.standard.QuietLaws.{PassesQuietly, quiet, quietly_again, quietly_goes, quietly_more, quietly_passed, row_at}
 
 -- a place in a state, if the byte before wasn't a CR

@@ -11,17 +11,17 @@ use Rattle.h5_token.specs.declared.tag.TagKind.TheVariants.{EndTag, StartTag}
 use Rattle.h5_markup.specs.Attributes.{attribute_named, is_named_in, repeats}
 use Rattle.h5_serialize.specs.Escape.{escape}
 use Rattle.h5_serialize.specs.Writing.{attribute_written}
-use Rattle.h5_states.specs.declared.kinds.Quote.TheVariants.{Double}
-use Rattle.h5_states.specs.declared.kinds.TextKind.TheVariants.{Data, Rcdata}
-use Rattle.h5_states.specs.declared.kinds.RawTextKind.TheVariants as raw
-use Rattle.h5_states.specs.Construction.{Attribute, Tag, completed, new_doctype, with_attribute}
-use Rattle.h5_states.specs.Machine.{turn}
-use Rattle.h5_states.specs.Reading.{ReaderPlace, is_dropped}
-use Rattle.h5_states.specs.ReferenceTable.{references}
-use Rattle.h5_states.specs.Signs.{is_blank}
-use Rattle.h5_states.specs.States.{AfterAttributeValueQuoted, AttributeName, AttributeValue, BeforeAttributeName, DoctypeName, EndTagOpen, Quoted, RawEndTagName, State, TagName, TagOpen, Text}
-use Rattle.h5_states.specs.Turn.{Reconsumed, Consumed, Emitted, hand_complete}
-use Rattle.h5_plain.specs.Plain.{ArePlain, end_tag, plain_doctype, start_tag}
+use Rattle.h5_tokenizer_spec.specs.declared.kinds.Quote.TheVariants.{Double}
+use Rattle.h5_tokenizer_spec.specs.declared.kinds.TextKind.TheVariants.{Data, Rcdata}
+use Rattle.h5_tokenizer_spec.specs.declared.kinds.RawTextKind.TheVariants as raw
+use Rattle.h5_tokenizer_spec.specs.Construction.{Attribute, Tag, completed, new_doctype, with_attribute}
+use Rattle.h5_tokenizer_spec.specs.Machine.{turn}
+use Rattle.h5_tokenizer_spec.specs.Reading.{ReaderPlace, is_dropped}
+use Rattle.h5_tokenizer_spec.specs.ReferenceTable.{references}
+use Rattle.h5_tokenizer_spec.specs.Signs.{is_blank}
+use Rattle.h5_tokenizer_spec.specs.States.{AfterAttributeValueQuoted, AttributeName, AttributeValue, BeforeAttributeName, DoctypeName, EndTagOpen, Quoted, RawEndTagName, State, TagName, TagOpen, Text}
+use Rattle.h5_tokenizer_spec.specs.Turn.{Reconsumed, Consumed, Emitted, hand_complete}
+use Rattle.h5_builder_laws.specs.Plain.{ArePlain, end_tag, plain_doctype, start_tag}
 use Rattle.h5_round_trip.specs.Readable.{AreNameBytes, AreReadable, IsName, IsReadable}
 use Rattle.h5_round_trip.specs.Written.{tag_written}
 use Rattle.h5_round_trip.proofs.AttributeLaws.{no_duplicates, written_plain}

@@ -6,16 +6,16 @@ use Rattle.std.specs.List.{flat_map}
 use Rattle.std.specs.Str.{chars, encode_utf8_all}
 use Rattle.h5_serialize.specs.Escape.{escape, escape_char}
 use Rattle.h5_serialize.proofs.EscapeLaws.{by_cases}
-use Rattle.h5_states.specs.Construction.{Attribute, Tag, value_further}
-use Rattle.h5_states.specs.Machine.{turn}
-use Rattle.h5_states.specs.Reading.{Passes, ReaderPlace}
-use Rattle.h5_states.specs.AtEnd.{at_end}
-use Rattle.h5_states.specs.End.{last_tokens}
-use Rattle.h5_states.specs.States.{NamedCharacterReference, ToData}
-use Rattle.h5_reading.specs.Told.{handed, told}
-use Rattle.h5_states.specs.ReferenceTable.{references}
-use Rattle.h5_states.specs.Turn.{Consumed}
-use Rattle.h5_states.proofs.ReadLaws.{passes_join}
+use Rattle.h5_tokenizer_spec.specs.Construction.{Attribute, Tag, value_further}
+use Rattle.h5_tokenizer_spec.specs.Machine.{turn}
+use Rattle.h5_tokenizer_spec.specs.Reading.{Passes, ReaderPlace}
+use Rattle.h5_tokenizer_spec.specs.AtEnd.{at_end}
+use Rattle.h5_tokenizer_spec.specs.End.{last_tokens}
+use Rattle.h5_tokenizer_spec.specs.States.{NamedCharacterReference, ToData}
+use Rattle.h5_tokenizer_input.specs.Told.{handed, told}
+use Rattle.h5_tokenizer_spec.specs.ReferenceTable.{references}
+use Rattle.h5_tokenizer_spec.specs.Turn.{Consumed}
+use Rattle.h5_tokenizer_spec.proofs.ReadLaws.{passes_join}
 use Rattle.h5_round_trip.specs.Readable.{IsReadable}
 use Rattle.h5_round_trip.proofs.CharLaws.{AreFree, AreKept, IsFree, None, byte_some, free_encode, kept, no_quote}
 use Rattle.h5_round_trip.proofs.standard.QuietLaws.{passes_of, quiet}

@@ -3,18 +3,18 @@ ghost use Rattle.std.specs.Prelude.{◌≡◌, List, [], false, true};
 ghost use Rattle.h5_token.specs.TokenText.{TokenText};
 ghost use Rattle.h5_token.specs.Joins.{join};
 ghost use Rattle.h5_round_trip.specs.Fragment.{AnswersCuts};
-ghost use Rattle.h5_reading.specs.Blindness.{IsBlindToCuts};
-ghost use Rattle.h5_reading.specs.Options.{default_options};
-ghost use Rattle.h5_tokenizer.specs.Options as plain;
-ghost use Rattle.h5_tokenizer.specs.Whole as plain_reader;
-ghost use Rattle.h5_states.specs.ReferenceTable.{references};
-ghost use Rattle.h5_states.specs.Whole.{ReadsToEnd};
-ghost use Rattle.h5_states.specs.WithoutErrors.{HasNoInputErrors, ReadsWithoutErrors};
-ghost use Rattle.h5_states.specs.WholeTelling.{TellsToEnd};
-ghost use Rattle.h5_states.specs.declared.position.Spot.{Spot};
-ghost use Rattle.h5_states.specs.declared.position.LocatedError.{LocatedError};
-ghost use Rattle.h5_standard.specs.Options.{first_place};
-ghost use Rattle.h5_plain.specs.Plain.{Flow, IsPlain, Nodes, PlainDocument, document_tokens, fragment_tokens, nothing_open};
+ghost use Rattle.h5_tokenizer_input.specs.Blindness.{IsBlindToCuts};
+ghost use Rattle.h5_tokenizer_input.specs.Options.{default_options};
+ghost use Rattle.h5_plain_tokenizer.specs.Options as plain;
+ghost use Rattle.h5_plain_tokenizer.specs.Whole as plain_reader;
+ghost use Rattle.h5_tokenizer_spec.specs.ReferenceTable.{references};
+ghost use Rattle.h5_tokenizer_spec.specs.Whole.{ReadsToEnd};
+ghost use Rattle.h5_tokenizer_spec.specs.WithoutErrors.{HasNoInputErrors, ReadsWithoutErrors};
+ghost use Rattle.h5_tokenizer_spec.specs.WholeTelling.{TellsToEnd};
+ghost use Rattle.h5_tokenizer_spec.specs.declared.position.Spot.{Spot};
+ghost use Rattle.h5_tokenizer_spec.specs.declared.position.LocatedError.{LocatedError};
+ghost use Rattle.h5_standard_tokenizer.specs.Options.{first_place};
+ghost use Rattle.h5_builder_laws.specs.Plain.{Flow, IsPlain, Nodes, PlainDocument, document_tokens, fragment_tokens, nothing_open};
 ghost use Rattle.h5_interface.specs.SinkChoices.{SinkChoices};
 ghost use Rattle.h5_round_trip.specs.Answers.{Answers};
 ghost use Rattle.h5_round_trip.specs.Inside.{TextsStay};
@@ -22,8 +22,8 @@ ghost use Rattle.h5_round_trip.specs.Readable.{CanBeRead, IsReadableDocument};
 ghost use Rattle.h5_round_trip.specs.Written.{written_fragment, written_of};
 ghost use Rattle.h5_round_trip.specs.Markup.{AreMarks, Mark, page_tokens, written_page};
 
-use h5_reading::Likeness;
 use h5_token::TokenSink;
+use h5_tokenizer_input::Likeness;
 
 /// If a plain document can be read (its texts and values are UTF-8 with neither NUL nor CR, and its attributes have
 /// names that are read back), the standard's states read its text as its tokens, over a token sink that replies as a

@@ -1,5 +1,5 @@
 use Rattle.std.proofs.Common.{ap, ◌∙◌}
-use Rattle.h5_flat.specs.Columns.{document_columns}
+use Rattle.h5_tree_block.specs.Columns.{document_columns}
 use Rattle.h5_c.proofs.parse.block_of.Goals as goal
 
 pub returns : goal.returns

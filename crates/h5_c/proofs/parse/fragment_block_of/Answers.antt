@@ -1,5 +1,5 @@
 use Rattle.std.proofs.Common.{ap, subst, ◌∙◌}
-use Rattle.h5_flat.specs.Columns.{fragment_columns}
+use Rattle.h5_tree_block.specs.Columns.{fragment_columns}
 use Rattle.h5_c.specs.Pages.{IsFragmentTree}
 use Rattle.h5_c.proofs.parse.fragment_block_of.Goals as goal
 

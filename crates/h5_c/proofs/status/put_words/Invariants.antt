@@ -1,5 +1,5 @@
 use Rattle.std.proofs.Common.{◌≡◌, ◌++◌, drop}
-use Rattle.h5_flat.specs.Packed.{bytes_of_words}
+use Rattle.h5_tree_block.specs.Packed.{bytes_of_words}
 use Rattle.h5_c.proofs.status.put_words.Given as goal
 
 -- what was appended and what is left are the whole

@@ -1,7 +1,7 @@
 use Rattle.std.proofs.Common.{◌≡◌, ℕ, zero, suc, ◌<◌, ◌==◌, Bool, true, false, List, [], ◌∷◌, Option, None, Some, is_some, not, length, get_or, refl, sym, ap, subst, ◌∙◌, arith}
 use Rattle.std.proofs.lemmas.Bool.{false_from_ne_true, true≢false, ne_eqb, or_from, or_parts}
 use Rattle.memchr.specs.Find.{IsFirstByte, is_byte2}
-use Rattle.h5_plain.specs.Plain.{NoNul}
+use Rattle.h5_builder_laws.specs.Plain.{NoNul}
 use Rattle.h5_round_trip.specs.Readable.{NoCr}
 use Rattle.h5_clean.specs.Texts.{readable}
 use Rattle.h5_clean.proofs.TextLaws.{no_cr, no_nul}

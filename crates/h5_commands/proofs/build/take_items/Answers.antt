@@ -2,7 +2,7 @@ use Rattle.std.proofs.Common.{◌≡◌, ℕ, Vec, Global, ◌++◌, [], ◌∷�
 use Rattle.std.proofs.lemmas.List.{map-append}
 use Rattle.std.specs.Vec.Iter.{into_iter_items}
 use Rattle.h5_arena.specs.ArenaModel.{arena_choices, place, seen_of}
-use Rattle.h5_rules.specs.Run.{after_all, replies}
+use Rattle.h5_builder_spec.specs.Run.{after_all, replies}
 use Rattle.h5_tree_builder.specs.Builder.{ended_view}
 use Rattle.h5_print.specs.Items.{item_text, item_texts}
 use Rattle.h5_print.specs.declared.items.Item.TheVariants as item

@@ -1,7 +1,7 @@
 use Rattle.std.proofs.Common.{subst, sym}
-use Rattle.h5_rules.specs.Sound.{Fitting}
+use Rattle.h5_builder_spec.specs.inner.Kept.{Fitting}
 use Rattle.h5_tree_builder.specs.Builder.{Building}
-use Rattle.h5_driver.specs.Working.{Begins}
+use Rattle.h5_driver.specs.inner.Working.{Begins}
 use Rattle.h5_driver.proofs.BeginningLaws.{document_begins}
 use Rattle.h5_driver.proofs.beginning.document_builder.Goals as goal
 

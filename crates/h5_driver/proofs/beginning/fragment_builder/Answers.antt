@@ -1,9 +1,9 @@
 use Rattle.std.proofs.Common.{ap, option_map, subst, sym}
 use Rattle.std.specs.Option.{is_some}
-use Rattle.h5_rules.specs.Changes.{create_root}
-use Rattle.h5_rules.specs.Sound.{Fitting}
+use Rattle.h5_builder_spec.specs.Changes.{create_root}
+use Rattle.h5_builder_spec.specs.inner.Kept.{Fitting}
 use Rattle.h5_tree_builder.specs.Builder.{Building}
-use Rattle.h5_driver.specs.Working.{Begins}
+use Rattle.h5_driver.specs.inner.Working.{Begins}
 use Rattle.h5_driver.proofs.BeginningLaws.{fragment_begins}
 use Rattle.h5_driver.proofs.beginning.fragment_builder.Goals as goal
 

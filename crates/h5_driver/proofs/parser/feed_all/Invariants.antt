@@ -1,7 +1,7 @@
 use Rattle.std.proofs.Common.{◌≡◌}
-use Rattle.h5_reading.specs.declared.stage.Stage.TheVariants.{Reading}
+use Rattle.h5_tokenizer_input.specs.declared.stage.Stage.TheVariants.{Reading}
 use Rattle.h5_driver.specs.Reading.{Advances}
-use Rattle.h5_driver.specs.Working.{IsWorking}
+use Rattle.h5_driver.specs.inner.Working.{IsWorking}
 use Rattle.h5_driver.proofs.parser.feed_all.Given as goal
 
 abbrev pub invariant-pieces : goal.invariant-pieces

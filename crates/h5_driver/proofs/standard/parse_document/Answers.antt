@@ -1,6 +1,6 @@
 use Rattle.std.proofs.Common.{subst, sym}
 use Rattle.h5_tree_builder.specs.Held.{building}
-use Rattle.h5_driver.specs.Working.{Begins}
+use Rattle.h5_driver.specs.inner.Working.{Begins}
 use Rattle.h5_driver.proofs.BeginningLaws.{begins_works}
 use Rattle.h5_driver.proofs.standard.parse_document.Goals as goal
 

@@ -1,5 +1,5 @@
 use Rattle.std.proofs.Common.{[], ◌++◌, codes, ap, sym, ◌∙◌}
-use Rattle.h5_plain.specs.Plain.{root_of}
+use Rattle.h5_builder_laws.specs.Plain.{root_of}
 use Rattle.h5_round_trip.specs.Written.{written_before}
 use Rattle.h5_round_trip.proofs.KeptNewlineLaws.{kept_as_written}
 use Rattle.h5_round_trip.proofs.WrittenLaws.{document_written}

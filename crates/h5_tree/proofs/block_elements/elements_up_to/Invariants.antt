@@ -1,5 +1,5 @@
 use Rattle.std.proofs.Common.{◌≡◌, ◌-◌, ◌<◌, ◌++◌}
-use Rattle.h5_flat.specs.Block.{nodes_in, parent_in}
+use Rattle.h5_tree_block.specs.Block.{nodes_in, parent_in}
 use Rattle.h5_tree.specs.ElementNumbers.{IsBefore, elements_up_to}
 use Rattle.h5_tree.proofs.block_elements.elements_up_to.Given as goal
 

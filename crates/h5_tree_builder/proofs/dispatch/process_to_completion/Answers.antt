@@ -2,16 +2,16 @@ use Rattle.std.proofs.Common.{◌≡◌, ◌-◌, true, ap, refl, sym, subst, �
 use Rattle.h5_token.specs.declared.sink.TokenSinkResult.TheVariants.{Continue}
 use Rattle.h5_tables.specs.TurnResult as results
 use Rattle.h5_tables.specs.TurnText.{turn_text}
-use Rattle.h5_rules.specs.Changes.{set_mode}
-use Rattle.h5_rules.specs.modes.ForeignContent.{dispatch}
-use Rattle.h5_rules.specs.Rows.{Follows}
-use Rattle.h5_rules.specs.Settle.{settle}
-use Rattle.h5_rules.specs.Sound.{Fits}
-use Rattle.h5_plain.proofs.kept.DispatchLaws.{fits_acknowledged, fits_again, fits_answered, fits_done}
-use Rattle.h5_plain.proofs.turns.FallsLaws.{rank_few}
-use Rattle.h5_plain.proofs.turns.SettleLaws.{rank_falls}
-use Rattle.h5_state.specs.Turn.{turn_result}
-use Rattle.h5_state.specs.View.{world}
+use Rattle.h5_builder_spec.specs.Changes.{set_mode}
+use Rattle.h5_builder_spec.specs.modes.ForeignContent.{dispatch}
+use Rattle.h5_builder_spec.specs.Rows.{Follows}
+use Rattle.h5_builder_spec.specs.Settle.{settle}
+use Rattle.h5_builder_spec.specs.inner.Kept.{Fits}
+use Rattle.h5_builder_laws.proofs.kept.DispatchLaws.{fits_acknowledged, fits_again, fits_answered, fits_done}
+use Rattle.h5_builder_laws.proofs.turns.FallsLaws.{rank_few}
+use Rattle.h5_builder_laws.proofs.turns.SettleLaws.{rank_falls}
+use Rattle.h5_builder_state.specs.Turn.{turn_result}
+use Rattle.h5_builder_state.specs.View.{world}
 use Rattle.h5_tree_builder.specs.Chains.{CameTo, Left}
 use Rattle.h5_tree_builder.proofs.ChainLaws.{acknowledged_last, answered_last, done_last, few_open, left_all, left_next}
 use Rattle.h5_tree_builder.proofs.dispatch.process_to_completion.Goals as goal

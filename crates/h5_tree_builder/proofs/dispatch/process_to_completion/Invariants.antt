@@ -1,9 +1,9 @@
 use Rattle.std.proofs.Common.{◌≡◌, ◌<◌, ◌≤◌, ◌+◌, ◌-◌, length}
 use Rattle.h5_tables.specs.TurnText.{turn_text}
-use Rattle.h5_rules.specs.Sound.{Fits}
-use Rattle.h5_plain.proofs.turns.FallsLaws.{rank_of}
-use Rattle.h5_state.specs.Steps.{IsSound}
-use Rattle.h5_state.specs.View.{world}
+use Rattle.h5_builder_spec.specs.inner.Kept.{Fits}
+use Rattle.h5_builder_laws.proofs.turns.FallsLaws.{rank_of}
+use Rattle.h5_builder_state.specs.Steps.{IsSound}
+use Rattle.h5_builder_state.specs.View.{world}
 use Rattle.h5_tree_builder.specs.Chains.{Left}
 use Rattle.h5_tree_builder.proofs.dispatch.process_to_completion.Given as goal
 

@@ -1,6 +1,6 @@
 use Rattle.std.proofs.Common.{refl, sym, ◌∙◌}
 use Rattle.h5_tables.specs.declared.modes.InsertionMode.TheVariants.{AfterAfterBody, AfterBody, AfterHead, BeforeHead, InBody, InCaption, InCell, InColumnGroup, InHead, InHeadNoscript, InRow, InTable, InTableBody, InTableText, InTemplate, InFrameset, AfterFrameset, AfterAfterFrameset, Text}
-use Rattle.h5_plain.proofs.kept.SetModeLaws.{enough_open}
+use Rattle.h5_builder_laws.proofs.kept.SetModeLaws.{enough_open}
 use Rattle.h5_tree_builder.proofs.ChainLaws.{fits_in_mode, ready_in_mode}
 use Rattle.h5_tree_builder.proofs.dispatch.step_by_mode.Goals as goal
 

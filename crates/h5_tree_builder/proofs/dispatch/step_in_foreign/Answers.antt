@@ -1,8 +1,8 @@
 use Rattle.std.proofs.Common.{subst}
 use Rattle.h5_tables.specs.TurnText.{turn_text}
-use Rattle.h5_rules.specs.modes.ForeignContent.{foreign_step}
-use Rattle.h5_rules_rest.specs.ForeignSteps.{CameTo}
-use Rattle.h5_state.specs.Steps.{errors_of, world_of}
+use Rattle.h5_builder_spec.specs.modes.ForeignContent.{foreign_step}
+use Rattle.h5_modes_rest.specs.ForeignSteps.{CameTo}
+use Rattle.h5_builder_state.specs.Steps.{errors_of, world_of}
 use Rattle.h5_tree_builder.proofs.DispatchLaws.{left_keeps, turns_in_foreign, turns_left}
 use Rattle.h5_tree_builder.proofs.dispatch.step_in_foreign.Goals as goal
 

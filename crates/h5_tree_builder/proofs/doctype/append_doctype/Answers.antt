@@ -1,8 +1,8 @@
 use Rattle.h5_interface.specs.Seen.{append_doctype}
 use Rattle.h5_interface.proofs.MakingLaws.{append_doctype_rearranges}
-use Rattle.h5_rules.proofs.changes.SoundLaws.{rearranged_or_not}
-use Rattle.h5_state.specs.View.{world}
-use Rattle.h5_state.proofs.StepLaws.{sound_rearranged}
+use Rattle.h5_builder_spec.proofs.changes.SoundLaws.{rearranged_or_not}
+use Rattle.h5_builder_state.specs.View.{world}
+use Rattle.h5_builder_state.proofs.StepLaws.{sound_rearranged}
 use Rattle.h5_tree_builder.proofs.doctype.append_doctype.Goals as goal
 
 pub returns-clause-sound : goal.returns-clause-sound

@@ -1,10 +1,10 @@
 use Rattle.std.proofs.Common.{◌≡◌, ap, ◌∙◌}
 use Rattle.h5_token.specs.TokenText.{doctype_text}
 use Rattle.h5_tables.specs.declared.modes.InsertionMode.TheVariants.{BeforeHtml}
-use Rattle.h5_rules.specs.Changes.{set_mode, set_quirks_mode}
-use Rattle.h5_rules.specs.Run.{judged, with_doctype}
-use Rattle.h5_state.specs.Steps.{world_of}
-use Rattle.h5_state.specs.View.{world}
+use Rattle.h5_builder_spec.specs.Changes.{set_mode, set_quirks_mode}
+use Rattle.h5_builder_spec.specs.Run.{judged, with_doctype}
+use Rattle.h5_builder_state.specs.Steps.{world_of}
+use Rattle.h5_builder_state.specs.View.{world}
 use Rattle.h5_tree_builder.proofs.doctype.judge_doctype.Goals.{else-is_error, then-is_error}
 use Rattle.h5_tree_builder.proofs.doctype.judge_doctype.Goals as goal
 

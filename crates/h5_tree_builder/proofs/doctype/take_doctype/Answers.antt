@@ -1,11 +1,11 @@
 use Rattle.std.proofs.Common.{true, refl, subst, sym, ◌∙◌}
 use Rattle.h5_token.specs.TokenText.{doctype_text}
 use Rattle.h5_token.specs.declared.sink.TokenSinkResult.TheVariants.{Continue}
-use Rattle.h5_rules.specs.Run.{doctype_in}
-use Rattle.h5_rules.specs.Sound.{Fits}
-use Rattle.h5_state.specs.Steps.{errors_of, world_of}
+use Rattle.h5_builder_spec.specs.Run.{doctype_in}
+use Rattle.h5_builder_spec.specs.inner.Kept.{Fits}
+use Rattle.h5_builder_state.specs.Steps.{errors_of, world_of}
 use Rattle.h5_tree_builder.specs.Chains.{CameTo}
-use Rattle.h5_plain.proofs.kept.DoctypeLaws.{fits_judged}
+use Rattle.h5_builder_laws.proofs.kept.DoctypeLaws.{fits_judged}
 use Rattle.h5_tree_builder.proofs.doctype.take_doctype.Goals as goal
 
 pub returns-in_ok-judge_doctype-in-Initial : goal.returns-in_ok-judge_doctype-in-Initial

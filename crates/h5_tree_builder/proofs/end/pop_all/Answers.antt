@@ -1,8 +1,8 @@
 use Rattle.std.proofs.Common.{◌<◌, length, ap, subst, sym, ◌∙◌, arith, rules}
-use Rattle.h5_rules.specs.World.{World}
-use Rattle.h5_state.specs.View.{world}
+use Rattle.h5_builder_spec.specs.World.{World}
+use Rattle.h5_builder_state.specs.View.{world}
 use Rattle.h5_tree_builder.specs.Builder.{all_popped}
-use Rattle.h5_rules.proofs.changes.PopLaws.{pop_shorter}
+use Rattle.h5_builder_spec.proofs.changes.PopLaws.{pop_shorter}
 use Rattle.h5_tree_builder.proofs.EndLaws.{pop_next}
 use Rattle.h5_tree_builder.proofs.end.pop_all.Goals as goal
 

@@ -1,6 +1,6 @@
 use Rattle.std.proofs.Common.{◌≡◌, [], length}
-use Rattle.h5_state.specs.Steps.{IsSound}
-use Rattle.h5_state.specs.View.{world}
+use Rattle.h5_builder_state.specs.Steps.{IsSound}
+use Rattle.h5_builder_state.specs.View.{world}
 use Rattle.h5_tree_builder.specs.Builder.{all_popped}
 use Rattle.h5_tree_builder.proofs.end.pop_all.Given as goal
 

@@ -2,10 +2,10 @@ use Rattle.std.proofs.Common.{Bor, ap, not, option_map, sym, ◌∙◌}
 use Rattle.h5_names.specs.AttributeText.{is_same_text}
 use Rattle.h5_names.specs.declared.qualified.QualName.{QualName}
 use Rattle.h5_tables.specs.TagSets.{html_namespace}
-use Rattle.h5_insertion.proofs.CurrentLaws.{adjusted_is_element}
-use Rattle.h5_state.specs.Steps.{world_of}
-use Rattle.h5_state.specs.View.{world}
-use Rattle.h5_state.proofs.StackLaws.{named}
+use Rattle.h5_builder_actions.proofs.CurrentLaws.{adjusted_is_element}
+use Rattle.h5_builder_state.specs.Steps.{world_of}
+use Rattle.h5_builder_state.specs.View.{world}
+use Rattle.h5_builder_state.proofs.StackLaws.{named}
 use Rattle.h5_tree_builder.specs.Builder.{is_foreign_node}
 use Rattle.h5_tree_builder.proofs.foreign.is_current_foreign.Goals as goal
 

@@ -1,10 +1,10 @@
 use Rattle.std.proofs.Common.{◌≡◌, ℕ, List, Option, Some, option_map, reverse, ap, sym, subst, ◌∙◌}
 use Rattle.h5_tables.specs.declared.modes.InsertionMode.{InsertionMode}
-use Rattle.h5_rules.specs.Sound.{Sound}
-use Rattle.h5_rules.specs.World.{World, names_of}
-use Rattle.h5_state.specs.Summaries.{IsKept}
-use Rattle.h5_state.specs.View.{world}
-use Rattle.h5_state.proofs.StackLaws.{named}
+use Rattle.h5_builder_spec.specs.Sound.{Sound}
+use Rattle.h5_builder_spec.specs.World.{World, names_of}
+use Rattle.h5_builder_state.specs.Summaries.{IsKept}
+use Rattle.h5_builder_state.specs.View.{world}
+use Rattle.h5_builder_state.proofs.StackLaws.{named}
 use Rattle.h5_tree_builder.specs.Builder.{first_world}
 use Rattle.h5_tree_builder.specs.Fragment.{context_modes, context_world}
 use Rattle.h5_tree_builder.proofs.FragmentLaws.{context_stands, form_is_there, names_before_root}

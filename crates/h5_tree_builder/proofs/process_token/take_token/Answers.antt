@@ -1,11 +1,11 @@
 use Rattle.std.proofs.Common.{string_bytes, refl, ap, sym, subst, ◌∙◌}
 use Rattle.h5_token.specs.TokenText.{doctype_text, tag_text, token_text}
 use Rattle.h5_tables.specs.TurnText.{CommentTurn, EofTurn, NullTurn, TagTurn}
-use Rattle.h5_rules.specs.Run.{doctype_in, is_counted, is_empty_text, step, taken, text_step, without_lf}
-use Rattle.h5_rules.specs.Settle.{settle}
-use Rattle.h5_rules.specs.Sound.{Fits}
-use Rattle.h5_rules.specs.World.{World}
-use Rattle.h5_state.specs.Steps.{world_of}
+use Rattle.h5_builder_spec.specs.Run.{doctype_in, is_counted, is_empty_text, step, taken, text_step, without_lf}
+use Rattle.h5_builder_spec.specs.Settle.{settle}
+use Rattle.h5_builder_spec.specs.inner.Kept.{Fits}
+use Rattle.h5_builder_spec.specs.World.{World}
+use Rattle.h5_builder_state.specs.Steps.{world_of}
 use Rattle.h5_tree_builder.specs.Chains.{IsReady, Settles}
 use Rattle.h5_tree_builder.proofs.SettledLaws.{settles_as}
 use Rattle.h5_tree_builder.proofs.process_token.take_token.Goals as goal

@@ -1,6 +1,6 @@
 use Rattle.std.proofs.Common.{rules, ◌≡◌, ◌≢◌, [], take, drop, string_bytes, ap, ◌∙◌}
-use Rattle.h5_rules.specs.Text.{text_any}
-use Rattle.h5_state.specs.View.{world}
+use Rattle.h5_builder_spec.specs.Text.{text_any}
+use Rattle.h5_builder_state.specs.View.{world}
 use Rattle.h5_tree_builder.proofs.TextLaws.{mode_stays, run_then_rest}
 use Rattle.h5_tree_builder.proofs.text.process_runs.Goals as goal
 

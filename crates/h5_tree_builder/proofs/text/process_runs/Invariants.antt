@@ -1,8 +1,8 @@
 use Rattle.std.proofs.Common.{◌≡◌, length, true}
-use Rattle.h5_rules.specs.Sound.{Fits}
-use Rattle.h5_rules.specs.Text.{is_quiet_text, text_any}
-use Rattle.h5_state.specs.Steps.{IsSound}
-use Rattle.h5_state.specs.View.{world}
+use Rattle.h5_builder_spec.specs.inner.Kept.{Fits}
+use Rattle.h5_builder_spec.specs.Text.{is_quiet_text, text_any}
+use Rattle.h5_builder_state.specs.Steps.{IsSound}
+use Rattle.h5_builder_state.specs.View.{world}
 use denote.Shadow.{shadow}
 use denote.Text.{Utf8}
 use Rattle.h5_tree_builder.proofs.text.process_runs.Given as goal

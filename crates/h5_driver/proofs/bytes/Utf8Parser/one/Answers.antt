@@ -2,7 +2,7 @@ use Rattle.std.proofs.Common.{◌++◌, rules, Err, ap}
 use Rattle.std.proofs.lemmas.Result.{err_from_is_err_and}
 use Rattle.std.specs.Str.Lossy.{utf8_lossy}
 use Rattle.h5_driver.specs.Parsing.{text_of, view_of}
-use Rattle.h5_driver.specs.Working.{IsReady}
+use Rattle.h5_driver.specs.inner.Working.{IsReady}
 use Rattle.h5_driver.proofs.ByteLaws.{told_of_bytes}
 use Rattle.h5_driver.proofs.FaultLaws.{fault_of}
 use Rattle.h5_driver.proofs.PlainLaws.{brought_back}

@@ -3,7 +3,7 @@ use Rattle.std.proofs.lemmas.Result.{err_from_is_err_and}
 use Rattle.h5_interface.specs.Seen.{Seen}
 use Rattle.h5_driver.specs.Parsing.{Parsing, text_of, view_of}
 use Rattle.h5_driver.specs.Reading.{Parses}
-use Rattle.h5_driver.specs.Working.{IsReady}
+use Rattle.h5_driver.specs.inner.Working.{IsReady}
 use Rattle.h5_driver.proofs.FaultLaws.{fault_of}
 use Rattle.h5_driver.proofs.ReadingLaws.{parsed}
 use Rattle.h5_driver.proofs.parser.Parser.finish.Goals as goal

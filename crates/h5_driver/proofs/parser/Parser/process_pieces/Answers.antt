@@ -1,7 +1,7 @@
 use Rattle.std.proofs.Common.{map, string_bytes, rules, Err, ap}
 use Rattle.std.proofs.lemmas.Result.{err_from_is_err_and}
 use Rattle.h5_driver.specs.Parsing.{joined, text_of, view_of}
-use Rattle.h5_driver.specs.Working.{IsReady}
+use Rattle.h5_driver.specs.inner.Working.{IsReady}
 use Rattle.h5_driver.proofs.FaultLaws.{fault_of}
 use Rattle.h5_driver.proofs.PlainLaws.{brought_back}
 use Rattle.h5_driver.proofs.ReadingLaws.{told_behind}

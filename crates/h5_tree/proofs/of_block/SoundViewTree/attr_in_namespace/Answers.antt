@@ -1,6 +1,6 @@
 use Rattle.std.proofs.Common.{◌≡◌, ◌∙◌, true, false, sym}
 use Rattle.std.proofs.lemmas.Bool.{eq-eqb, eqb-true}
-use Rattle.h5_flat.specs.Block.{kind_in}
+use Rattle.h5_tree_block.specs.Block.{kind_in}
 use Rattle.h5_tree.proofs.AttributeLaws.{attributes_none}
 use Rattle.h5_tree.proofs.of_block.SoundViewTree.attr_in_namespace.Goals as goal
 

@@ -1,7 +1,7 @@
 use Rattle.std.proofs.Common.{◌∙◌, ◌<◌, arith}
 use Rattle.std.proofs.lemmas.List.{map-id}
 use Rattle.std.proofs.lemmas.Result.{IfOk-weaker}
-use Rattle.h5_flat.specs.Block.{nodes_in}
+use Rattle.h5_tree_block.specs.Block.{nodes_in}
 use Rattle.h5_tree.proofs.ReadLaws.{below_law}
 use Rattle.h5_tree.proofs.of_block.SoundViewTree.descendant_elements.Goals as goal
 

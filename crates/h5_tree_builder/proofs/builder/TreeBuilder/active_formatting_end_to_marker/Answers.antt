@@ -1,6 +1,6 @@
 use Rattle.std.proofs.Common.{◌≡◌, length, map, ap, subst, ◌∙◌}
-use Rattle.h5_rules.specs.formatting.FormattingList.{after_marker}
-use Rattle.h5_state.specs.View.{world}
+use Rattle.h5_builder_spec.specs.formatting.FormattingList.{after_marker}
+use Rattle.h5_builder_state.specs.View.{world}
 use Rattle.h5_tree_builder.specs.ActiveFormatting.{falling, given_entry, given_place, still_given}
 use Rattle.h5_tree_builder.specs.Held.{building}
 use Rattle.h5_tree_builder.proofs.ActiveFormattingLaws.{given_entries, given_places}

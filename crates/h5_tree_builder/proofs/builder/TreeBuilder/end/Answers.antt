@@ -1,5 +1,5 @@
 use Rattle.std.proofs.Common.{rules}
-use Rattle.h5_state.specs.Steps.{world_of}
+use Rattle.h5_builder_state.specs.Steps.{world_of}
 use Rattle.h5_tree_builder.proofs.EndLaws.{lists_popped}
 use Rattle.h5_tree_builder.proofs.builder.TreeBuilder.end.Goals as goal
 

@@ -1,7 +1,7 @@
 use Rattle.std.proofs.Common.{is_some, option_map, ap, refl, ◌∙◌}
 use Rattle.h5_interface.specs.Forest.{children_of}
-use Rattle.h5_rules.specs.Changes.{create_root}
-use Rattle.h5_rules.specs.World.{World}
+use Rattle.h5_builder_spec.specs.Changes.{create_root}
+use Rattle.h5_builder_spec.specs.World.{World}
 use Rattle.h5_tree_builder.specs.Fragment.{context_world}
 use Rattle.h5_tree_builder.proofs.FragmentLaws.{form_is_there, fragment_kept}
 use Rattle.h5_tree_builder.proofs.RootLaws.{root_is_last}

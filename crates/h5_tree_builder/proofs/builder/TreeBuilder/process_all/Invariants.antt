@@ -1,6 +1,7 @@
 use Rattle.std.specs.Prelude.{◌≡◌, false}
 use Rattle.std.specs.Vec.Iter.{into_iter_items}
-use Rattle.h5_rules.specs.Sound.{Fits, HasLists, Sound}
+use Rattle.h5_builder_spec.specs.inner.Kept.{Fits, HasLists}
+use Rattle.h5_builder_spec.specs.Sound.{Sound}
 use Rattle.h5_tree_builder.specs.Held.{building}
 use Rattle.h5_tree_builder.specs.Replies.{reply_texts, token_texts}
 use Rattle.h5_tree_builder.proofs.WholeLaws.{Onward}

@@ -1,9 +1,9 @@
 use Rattle.std.proofs.Common.{◌≡◌, false, ap, sym, subst, refl, rules, ◌∙◌}
 use Rattle.h5_token.specs.Reply.{reply}
 use Rattle.h5_token.specs.TokenText.{token_text}
-use Rattle.h5_rules.specs.Run.{View, is_counted, refuses_in, step}
-use Rattle.h5_rules.specs.World.{World}
-use Rattle.h5_state.specs.View.{world}
+use Rattle.h5_builder_spec.specs.Run.{View, is_counted, refuses_in, step}
+use Rattle.h5_builder_spec.specs.World.{World}
+use Rattle.h5_builder_state.specs.View.{world}
 use Rattle.h5_tree_builder.specs.Builder.{Answered, Building}
 use Rattle.h5_tree_builder.specs.Chains.{CameTo}
 use Rattle.h5_tree_builder.specs.Held.{building}

@@ -1,0 +1,22 @@
+use Rattle.std.proofs.Common.{ap, refl, subst, sym, ◌≡◌, ◌∙◌}
+use Rattle.h5_tables.specs.TagSets.{is_cell}
+use Rattle.h5_builder_spec.specs.stack.Closing.{pop_until_cell}
+use Rattle.h5_builder_spec.specs.Sound.{Sound}
+use Rattle.h5_builder_spec.specs.World.{names_of}
+use Rattle.h5_builder_spec.proofs.changes.PopLaws.{all_cut}
+use Rattle.h5_builder_state.specs.View.{with_stack, world}
+use Rattle.h5_builder_state.proofs.WalkLaws.{cut_under}
+use Rattle.h5_builder_actions.proofs.tables.pop_until_cell.Goals as goal
+
+pub returns : goal.returns
+unfolding pop_until_cell world
+returns g c =
+    let w = world g.S.TreeSink.sees g.S.TreeSink.node c.args.sink.now c.args.state.now in
+    let is = is_cell in
+    let left = cut_under g.S.TreeSink.node c.args.state.now is (names_of w) w.stack c.args.place refl c.requires.place in
+    let same : world g.S.TreeSink.sees g.S.TreeSink.node c.args.sink.now c.truncate.new.state ≡ pop_until_cell w = c.truncate.ensures.world ∙ ap (λ s. with_stack s w) left in
+    record {
+      world = same;
+      quiet = refl;
+      sound = record { sound = subst Sound (sym same) (all_cut _ is (names_of w) w.stack c.requires.sound.sound); kept = c.truncate.ensures.kept; stamped = c.truncate.ensures.stamped };
+    }

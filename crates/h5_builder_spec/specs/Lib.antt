@@ -1,0 +1,17 @@
+pub mod Blanks
+pub mod ByName
+pub mod Changes
+pub mod Kinds
+pub mod NamedEncoding
+pub mod Rows
+pub mod Run
+pub mod Settle
+pub mod Sound
+pub mod Text
+pub mod World
+pub mod formatting
+pub mod inner
+pub mod insertion
+pub mod modes
+pub mod reset
+pub mod stack

@@ -1,7 +1,0 @@
--- Borrowed identifiers of a doctype.
-use Rattle.h5_flat.specs.Columns.{DoctypeIds}
-use Rattle.h5_flat.specs.declared.of_arena.Ids.{Ids}
-
--- the identifiers, independent of where they are in memory
-abbrev pub lent : Ids → DoctypeIds
-lent ids = record { public_id = ids.public_id.now; system_id = ids.system_id.now }

@@ -1,6 +1,0 @@
-use Rattle.std.proofs.Common.{take}
-use Rattle.h5_machine.specs.Candidates.{AreCandidates}
-use Rattle.h5_machine.proofs.candidates.candidates_of.Given as goal
-
-abbrev pub invariant-loop-depth : goal.invariant-loop-depth
-invariant-loop-depth l = AreCandidates (take l.depth l.seen) l.candidates.from l.candidates.to

@@ -1,5 +1,0 @@
-use Rattle.h5_machine.proofs.NarrowingLemmas.{nothing_begins}
-use Rattle.h5_machine.proofs.search.seen_len.Goals as goal
-
-pub returns-clause-begins : goal.returns-clause-begins
-returns-clause-begins c = c.further_len.ensures.begins nothing_begins

@@ -1,4 +1,0 @@
-use Rattle.h5_machine.proofs.texts.script_data_escaped.Goals as goal
-
-pub returns-in-60 : goal.returns-in-60
-returns-in-60 c = rw c.in-60.is c.less_than_sign.ensures

@@ -1,0 +1,104 @@
+//! The mode "after body" (HTML standard, section 13.2.6.4.17).
+ghost use Rattle.h5_builder_spec.specs.ByName.{by_known, of_tag};
+ghost use Rattle.h5_tables.specs.TurnText.{HasText, turn_text};
+ghost use Rattle.h5_builder_spec.specs.modes.AfterBody.{after_body, after_body_end, after_body_end_html, after_body_start, after_body_tag, back_to_body};
+ghost use Rattle.h5_builder_state.specs.Steps.{IsOpen, IsSound};
+ghost use Rattle.h5_builder_state.specs.Turn.{TakesTag, TakesToken};
+
+use super::body_text::in_body_text;
+use h5_builder_actions::append_comment_to_html;
+use h5_builder_state::{State, Turn, is_fragment, set_again, set_mode, unexpected, unexpected_tag};
+use h5_interface::TreeSink;
+use h5_modes_head::in_body_start_html;
+use h5_names::KnownName;
+use h5_tables::{InsertionMode, ProcessResult, SplitStatus, Token};
+use h5_token::{Tag, TagKind};
+
+// An end tag `html`.
+fn after_body_end_html<S: TreeSink>(sink: &mut S, state: &mut State<S::Handle>, tag: Tag) -> Turn
+    requires { IsSound S.TreeSink sink.old state.old }
+    ensures { TakesTag S.TreeSink after_body_end_html tag sink.old state.old sink.new state.new result }
+{
+    if is_fragment(sink, state) {
+        unexpected_tag(sink, state, &tag);
+    } else {
+        set_mode(sink, state, InsertionMode::AfterAfterBody);
+    }
+    Ok(ProcessResult::Done)
+}
+
+/// Reprocesses a token that belongs in the body in the mode "in body", with a parse error.
+pub(crate) fn back_to_body<S: TreeSink>(
+    sink: &mut S,
+    state: &mut State<S::Handle>,
+    token: Token,
+) -> Turn
+    requires { IsSound S.TreeSink sink.old state.old }
+    ensures { TakesToken S.TreeSink back_to_body token sink.old state.old sink.new state.new result }
+{
+    unexpected(sink, state, &token);
+    set_again(sink, state, token);
+    Ok(ProcessResult::Reprocess(InsertionMode::InBody))
+}
+
+// Start tags, by their names.
+#[tactic(auto, unfolding(h5_builder_spec::specs::modes::AfterBody::after_body_start, h5_names::specs::KnownNames::name_text))]
+fn after_body_start_tag<S: TreeSink>(sink: &mut S, state: &mut State<S::Handle>, tag: Tag) -> Turn
+    requires { IsOpen S.TreeSink sink.old state.old }
+    ensures { TakesTag S.TreeSink (by_known after_body_start (of_tag back_to_body)) tag sink.old state.old sink.new state.new result }
+{
+    match tag.name.known() {
+        KnownName::Html => in_body_start_html(sink, state, tag),
+        _ => back_to_body(sink, state, Token::Tag(tag)),
+    }
+}
+
+// End tags, by their names.
+#[tactic(auto, unfolding(h5_builder_spec::specs::modes::AfterBody::after_body_end, h5_names::specs::KnownNames::name_text))]
+fn after_body_end_tag<S: TreeSink>(sink: &mut S, state: &mut State<S::Handle>, tag: Tag) -> Turn
+    requires { IsOpen S.TreeSink sink.old state.old }
+    ensures { TakesTag S.TreeSink (by_known after_body_end (of_tag back_to_body)) tag sink.old state.old sink.new state.new result }
+{
+    match tag.name.known() {
+        KnownName::Html => after_body_end_html(sink, state, tag),
+        _ => back_to_body(sink, state, Token::Tag(tag)),
+    }
+}
+
+#[tactic(auto, using(h5_builder_spec::proofs::rows::KnownRuleLaws::after_body_start_known, h5_builder_spec::proofs::rows::KnownRuleLaws::after_body_end_known), unfolding(h5_builder_spec::specs::modes::AfterBody::after_body_tag))]
+fn after_body_tag<S: TreeSink>(sink: &mut S, state: &mut State<S::Handle>, tag: Tag) -> Turn
+    requires { IsOpen S.TreeSink sink.old state.old }
+    ensures { TakesTag S.TreeSink after_body_tag tag sink.old state.old sink.new state.new result }
+{
+    match tag.kind {
+        TagKind::StartTag => after_body_start_tag(sink, state, tag),
+        TagKind::EndTag => after_body_end_tag(sink, state, tag),
+    }
+}
+
+/// A turn in "after body".
+pub fn step_after_body<S: TreeSink>(
+    sink: &mut S,
+    state: &mut State<S::Handle>,
+    token: Token,
+) -> Turn
+    requires open { IsOpen S.TreeSink sink.old state.old }
+    requires text { HasText (turn_text token) }
+    ensures { TakesToken S.TreeSink after_body token sink.old state.old sink.new state.new result }
+{
+    match token {
+        Token::Tag(tag) => after_body_tag(sink, state, tag),
+        Token::Comment(text) => {
+            append_comment_to_html(sink, state, text)?;
+            Ok(ProcessResult::Done)
+        }
+        Token::Characters(SplitStatus::Whitespace, text) => in_body_text(
+            sink,
+            state,
+            SplitStatus::Whitespace,
+            text,
+        ),
+        Token::Eof => Ok(ProcessResult::Done),
+        other => back_to_body(sink, state, other),
+    }
+}

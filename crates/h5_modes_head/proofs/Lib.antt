@@ -1,0 +1,3 @@
+pub mod ArmLaws
+pub mod DefaultLaws
+pub mod HeadLaws

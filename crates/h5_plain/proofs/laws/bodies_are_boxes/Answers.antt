@@ -1,5 +1,0 @@
-use Rattle.h5_plain.proofs.BoxLaws.{bodies_are_boxes}
-use Rattle.h5_plain.proofs.laws.bodies_are_boxes.Goals as goal
-
-pub returns : goal.returns
-returns c = bodies_are_boxes

@@ -1,5 +1,0 @@
-use Rattle.h5_plain.proofs.BoxLaws.{box_names_lead_to_boxes}
-use Rattle.h5_plain.proofs.laws.box_names_lead_to_boxes.Goals as goal
-
-pub returns : goal.returns
-returns c = box_names_lead_to_boxes

@@ -1,5 +1,0 @@
-use Rattle.h5_plain.proofs.WholeLaws.{rebuilds_all}
-use Rattle.h5_plain.proofs.laws.documents_are_rebuilt.Goals as goal
-
-pub returns : goal.returns
-returns c = rebuilds_all

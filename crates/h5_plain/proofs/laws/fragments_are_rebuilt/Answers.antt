@@ -1,5 +1,0 @@
-use Rattle.h5_plain.proofs.FragmentLaws.{rebuilds_fragments}
-use Rattle.h5_plain.proofs.laws.fragments_are_rebuilt.Goals as goal
-
-pub returns : goal.returns
-returns c = rebuilds_fragments

@@ -1,5 +1,0 @@
-use Rattle.h5_plain.proofs.cuts.RunLaws.{cuts_agree}
-use Rattle.h5_plain.proofs.mode_laws.cuts_agree.Goals as goal
-
-pub returns : goal.returns
-returns c = cuts_agree

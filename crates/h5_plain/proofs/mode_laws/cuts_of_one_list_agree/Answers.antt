@@ -1,5 +1,0 @@
-use Rattle.h5_plain.proofs.cuts.JoinLaws.{equal_joins}
-use Rattle.h5_plain.proofs.mode_laws.cuts_of_one_list_agree.Goals as goal
-
-pub returns : goal.returns
-returns c = equal_joins

@@ -1,7 +1,0 @@
-use Rattle.std.proofs.Common.{subst, sym}
-use Rattle.h5_reading.specs.Decoding.{IsUnfinished}
-use Rattle.h5_reading.proofs.DecodingLaws.{nothing_unfinished}
-use Rattle.h5_reading.proofs.decoder.Utf8LossyDecoder.new.Goals as goal
-
-pub invariant_of-result : goal.invariant_of-result
-invariant_of-result c = subst IsUnfinished (sym c.new.ensures.items) nothing_unfinished

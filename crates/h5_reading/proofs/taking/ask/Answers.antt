@@ -1,5 +1,0 @@
-use Rattle.std.proofs.Common.{rules}
-use Rattle.h5_reading.proofs.taking.ask.Goals as goal
-
-pub returns : goal.returns
-returns g c = search rules

@@ -1,8 +1,0 @@
-use Rattle.h5_rules.proofs.fitting.NamesFitLaws.{names_fragment, names_reset}
-use Rattle.h5_rules.proofs.fits.a_reset_fits.Goals as goal
-
-pub returns-clause-reset : goal.returns-clause-reset
-returns-clause-reset c = names_reset
-
-pub returns-clause-fragment : goal.returns-clause-fragment
-returns-clause-fragment c = names_fragment

@@ -1,5 +1,0 @@
-use Rattle.h5_rules.proofs.adoption.NamesAdoptionLaws.{frame_adopted}
-use Rattle.h5_rules.proofs.fits.a_round_of_adoption_is_a_frame.Goals as goal
-
-pub returns : goal.returns
-returns c = frame_adopted

@@ -1,5 +1,0 @@
-use Rattle.h5_rules.proofs.fitting.FrameLaws.{frame_trans}
-use Rattle.h5_rules.proofs.fits.frames_compose.Goals as goal
-
-pub returns : goal.returns
-returns c = frame_trans

@@ -1,5 +1,0 @@
-use Rattle.h5_rules.proofs.entries.PassLaws.{lists_adopted}
-use Rattle.h5_rules.proofs.lists.adopting_keeps_lists.Goals as goal
-
-pub returns : goal.returns
-returns c = lists_adopted

@@ -1,5 +1,0 @@
-use Rattle.h5_rules.proofs.entries.PushLaws.{lists_push_formatting}
-use Rattle.h5_rules.proofs.lists.formatting_keeps_lists.Goals as goal
-
-pub returns : goal.returns
-returns c = lists_push_formatting

@@ -1,4 +1,0 @@
-pub mod ArmLaws
-pub mod EndLaws
-pub mod HiddenLaws
-pub mod RuleLaws

@@ -1,3 +1,0 @@
-pub mod DefaultLaws
-pub mod HeadLaws
-pub mod KnownTexts

@@ -1,8 +1,0 @@
--- What "after head" says about the open elements.
-use Rattle.h5_tables.specs.declared.modes.InsertionMode.TheVariants.{AfterHead}
-use Rattle.h5_rules.specs.fitting.NamesFit.{NamesFit}
-use Rattle.h5_rules.specs.Sound.{situation_of}
-use Rattle.h5_rules.specs.World.{World, names_of}
-
-abbrev pub FitsAfterHead : World → Type 0
-FitsAfterHead w = NamesFit (situation_of w) AfterHead (names_of w)

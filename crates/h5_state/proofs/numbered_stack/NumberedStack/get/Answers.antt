@@ -1,5 +1,0 @@
-use Rattle.h5_state.proofs.NumberedStackLaws.{seen_value}
-use Rattle.h5_state.proofs.numbered_stack.NumberedStack.get.Goals as goal
-
-pub returns : goal.returns
-returns g c = seen_value c.self.inside.items.items c.args.self.now c.args.place c.index.result.now c.self.view_is c.requires c.index.ensures

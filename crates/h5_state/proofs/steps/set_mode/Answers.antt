@@ -1,8 +1,0 @@
-use Rattle.std.proofs.Common.{rules}
-use Rattle.h5_rules.specs.World.{names_of}
-use Rattle.h5_state.specs.View.{world}
-use Rattle.h5_state.proofs.steps.set_mode.Goals as goal
-
-pub returns : goal.returns
-unfolding world names_of
-returns g c = record { world = search rules; quiet = search rules; sound = search rules }

@@ -1,6 +1,0 @@
-use Rattle.std.proofs.Common.{◌≡◌, drop}
-use Rattle.h5_states.specs.Spots.{spot_behind_all}
-use Rattle.h5_states.proofs.position.Spot.pass_all.Given as goal
-
-abbrev pub invariant-loop-b : goal.invariant-loop-b
-invariant-loop-b l = spot_behind_all (drop l.b-index l.bytes) l.self ≡ spot_behind_all l.bytes l.initial.self

@@ -1,5 +1,0 @@
-use Rattle.h5_tokenizer.proofs.WholeLaws.{undecided_nothing}
-use Rattle.h5_tokenizer.proofs.laws.nothing_is_undecided.Goals as goal
-
-pub returns : goal.returns
-returns c = λ p foreign. undecided_nothing p foreign

@@ -1,0 +1,15 @@
+use Rattle.std.proofs.Common.{◌≡◌, ap, sym, ◌∙◌, get_or, arith}
+use Rattle.std.proofs.lemmas.Str.{IsCharBoundary-after_ascii}
+use Rattle.h5_tokenizer_states.proofs.quoted.open_value.Goals as goal
+
+pub split_at-requires : goal.split_at-requires
+split_at-requires c =
+    let quote : get_or c.as_bytes.result.now 1 0 ≡ 34 = omega arith in
+    let second : get_or c.args.text.now 1 0 ≡ 34 = ap (λ l. get_or l 1 0) (sym c.as_bytes.ensures.value) ∙ quote in
+    IsCharBoundary-after_ascii c.args.text.now 1 c.utf8.text (omega (arith, c.as_bytes.ensures.len)) (omega arith)
+
+pub split_at-requires-in-61-2 : goal.split_at-requires-in-61-2
+split_at-requires-in-61-2 c =
+    let quote : get_or c.as_bytes.result.now 1 0 ≡ 39 = omega arith in
+    let second : get_or c.args.text.now 1 0 ≡ 39 = ap (λ l. get_or l 1 0) (sym c.as_bytes.ensures.value) ∙ quote in
+    IsCharBoundary-after_ascii c.args.text.now 1 c.utf8.text (omega (arith, c.as_bytes.ensures.len)) (omega arith)
