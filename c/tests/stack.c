@@ -87,6 +87,8 @@ static void trees(struct given tree)
 
     CHECK(hengaruto_check(tree.bytes, tree.length) == HENGARUTO_OK);
     hengaruto_quirks(tree.bytes, tree.length);
+    hengaruto_version();
+    hengaruto_next_named(tree.bytes, tree.length, 0, bytes_of("none"), 4);
     for (node = 0; node < nodes; node++) {
         reads_of(tree, node);
     }
